@@ -1,0 +1,10 @@
+pub mod Lists
+pub mod Root
+pub mod Cell
+pub mod Plane
+pub mod Selecting
+pub mod Walking
+pub mod Chaining
+pub mod Layout
+pub mod Refusals
+pub mod Calls

@@ -1,0 +1,113 @@
+-- 01, Ends and Direction: points, the keys that group ends, directions, and the measure of a pair.
+-- A coordinate is its 64 bits: a NaN keeps its payload, and the exact key is the bits.
+use Prim.Native.Nat.{ℕ}
+use mathlib.Core.Bool.{Bool, true, false, _&&_, not, cond}
+use mathlib.Core.List.{List, [], _∷_}
+use mathlib.Core.Option.{Option, none, some}
+use lib.Dec.{eqb}
+use lib.IntN.{ℤ, pos, negsuc}
+use lib.Ieee.{Float, fin, binary64, ofBits, add, sub, mul, div, lt, eq}
+use Rattle.rules.specs.declared.Direction.{Direction}
+use Rattle.rules.specs.declared.Direction.the-variants.{Absent, Toward}
+use Rattle.rules.specs.Lists.{first}
+use Rattle.rules.specs.Root.{root}
+use Rattle.rules.specs.Cell.{cell}
+
+pub record Point : Type 0 where
+  pub x : ℕ
+  pub y : ℕ
+
+abbrev pub point : ℕ → ℕ → Point
+point a b = record { x = a; y = b }
+
+-- x, y, x, y .. as points, and back; an odd last number is no point
+unfoldable pub points : List ℕ → List Point
+points [] = []
+points (a ∷ []) = []
+points (a ∷ b ∷ l) = point a b ∷ points l
+
+unfoldable pub flat : List Point → List ℕ
+flat [] = []
+flat (p ∷ l) = p .x ∷ p .y ∷ flat l
+
+abbrev pub float : ℕ → Float
+float bits = ofBits binary64 bits
+
+-- two points equal by `==`
+unfoldable pub equal : Point → Point → Bool
+equal p q = eq (float (p .x)) (float (q .x)) && eq (float (p .y)) (float (q .y))
+
+-- ---- keys: a group, and two numbers
+
+pub data Key : Type 0 where
+  key : ℕ → ℤ → ℤ → Key
+
+abbrev pub sameInt : ℤ → ℤ → Bool
+sameInt (pos a) (pos b) = eqb a b
+sameInt (pos a) (negsuc b) = false
+sameInt (negsuc a) (pos b) = false
+sameInt (negsuc a) (negsuc b) = eqb a b
+
+unfoldable pub sameKey : Key → Key → Bool
+sameKey (key g a b) (key h c d) = eqb g h && (sameInt a c && sameInt b d)
+
+-- round one: the 64 bits of x and y
+unfoldable pub exactKey : ℕ → Point → Key
+exactKey g p = key g (pos (p .x)) (pos (p .y))
+
+-- round two: the cells of x and y
+unfoldable pub cellKey : Float → ℕ → Point → Key
+unfolding cell
+cellKey tolerance g p = key g (cell tolerance (p .x)) (cell tolerance (p .y))
+
+-- ---- directions
+
+abbrev pub nought : Float
+nought = fin false 0 (pos 0)
+
+-- the root of dx * dx + dy * dy, each operation rounded
+abbrev pub lengthOf : Float → Float → Float
+lengthOf dx dy = root binary64 (add binary64 (mul binary64 dx dx) (mul binary64 dy dy))
+
+abbrev pub over : Bool → Float → Float → Float → Direction
+over true dx dy l = Toward (div binary64 dx l) (div binary64 dy l)
+over false dx dy l = Absent
+
+-- each part by the length, where that is above 0
+unfoldable pub toward : Float → Float → Direction
+toward dx dy = over (lt nought (lengthOf dx dy)) dx dy (lengthOf dx dy)
+
+-- the direction from p to q
+unfoldable pub straight : Point → Point → Direction
+unfolding toward
+straight p q = toward (sub binary64 (float (q .x)) (float (p .x))) (sub binary64 (float (q .y)) (float (p .y)))
+
+-- from p to the point that was found, if one was
+unfoldable pub aim : Point → Option Point → Direction
+unfolding straight
+aim p none = Absent
+aim p (some q) = straight p q
+
+-- a piece's direction at the first of its points: to the nearest later one that differs by `!=`
+unfoldable pub directionOf : List Point → Direction
+unfolding aim first equal
+directionOf [] = Absent
+directionOf (p ∷ l) = aim p (first (λ q. not (equal q p)) l)
+
+-- ---- the measure: the dot product, clamped to -1..1. A NaN stays, since no comparison with it holds
+
+abbrev pub unity : Float
+unity = fin false 1 (pos 0)
+
+abbrev pub minus-unity : Float
+minus-unity = fin true 1 (pos 0)
+
+unfoldable pub clamp : Float → Float
+clamp d = cond (lt d minus-unity) minus-unity (cond (lt unity d) unity d)
+
+unfoldable pub dot : Float → Float → Float → Float → Float
+dot ax ay bx by = add binary64 (mul binary64 ax bx) (mul binary64 ay by)
+
+unfoldable pub measure : Float → Float → Float → Float → Float
+unfolding clamp dot
+measure ax ay bx by = clamp (dot ax ay bx by)
