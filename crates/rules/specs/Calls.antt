@@ -17,6 +17,12 @@ unfoldable pub numberOf : Answer → ℕ
 numberOf (Accepted n) = n
 numberOf (Refused k) = 2 ^ 64 - k
 
+-- what a call that answers a number at the door determines: the number is that of an answer of which P holds
+pub record Numbered (P : Answer → Type 0) (r : ℕ) : Type 0 where
+  pub answer : Answer
+  pub number : r ≡ numberOf answer
+  pub determined : P answer
+
 -- the first where a call is refused with a number above 0, the second where it isn't
 unfoldable pub unless : {A : Type 0} → ℕ → A → A → A
 unless zero a b = b

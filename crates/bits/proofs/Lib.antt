@@ -1,0 +1,3 @@
+-- What the proofs of this crate's functions share, and the laws of a float kept as its bits.
+mod Patterns
+pub mod Kept

@@ -1,0 +1,17 @@
+-- `bounds::corner` meets its contract.
+use lib.Ieee.{ofBits}
+use Rattle.bounds.specs.Box.{corner}
+use Rattle.order.proofs.Pick.{chosen, other}
+use Rattle.bounds.proofs.corner.Statement.{statement}
+use Rattle.bounds.proofs.corner.Tie as tie
+
+returns : tie.Need-returns
+unfolding corner ofBits
+returns c = chosen _ _ _ (c .if1 .taken)
+
+returns-2 : tie.Need-returns-2
+unfolding corner ofBits
+returns-2 c = other _ _ _ (c .if1 .left)
+
+pub corner-spec : {M : Type 1} → statement M
+corner-spec = tie.close (tie.spec returns returns-2)

@@ -1,0 +1,237 @@
+-- Cases A to N of 01, computed on the book: `cases` is the single checked list of those that are marked P, `others` has G, I and N, and `slips` tells
+-- what the cases leave open of 01's plausible slips.
+-- Written x,y there and x, y one after the other here. Marks, which 01 gives for C alone, are worked out by its rule for turned.
+use Prim.Native.Nat.{ℕ}
+use mathlib.Core.Bool.{Bool, true, false, _&&_}
+use mathlib.Core.List.{List, [], _∷_}
+use lib.Dec.{T, eqb}
+use lib.IntN.{pos, negsuc}
+use lib.Ieee.{ofBits, lt, eq, le, add, sub, mul, div}
+use Rattle.rules.specs.Root.{root}
+use Rattle.rules.specs.Plane.{float, sameInt, unity, nought}
+use Rattle.rules.specs.Cell.{cell}
+use Rattle.rules.specs.Layout.{listed}
+use Rattle.rules.specs.Refusals.{pairRefusalOf}
+use Rattle.rules.specs.Calls.{pairsOf}
+use Rattle.rules.proofs.Given.{
+  +0,
+  -0,
+  +0·25,
+  -0·25,
+  -0·5,
+  +1,
+  -1,
+  +1·25,
+  +1·75,
+  +2,
+  +3·5,
+  +4·5,
+  not-a-number,
+  every,
+  Call,
+  exactly,
+  builds,
+  same,
+  endsBy,
+  pairs,
+  along,
+  points,
+  isAbsent,
+}
+
+-- no lines: 0 chains
+case-a : Bool
+unfolding builds
+case-a = builds (exactly [] []) [] [] [] []
+
+-- one chain; in two groups, two
+case-b : Bool
+unfolding builds
+case-b =
+    let lines : List (List ℕ) = (+0 ∷ +0 ∷ +1 ∷ +0 ∷ []) ∷ (+1 ∷ +0 ∷ +2 ∷ +0 ∷ []) ∷ [] in
+    builds (exactly (0 ∷ 0 ∷ []) lines)
+    ((0 ∷ 2 ∷ 1 ∷ 0 ∷ 3 ∷ []) ∷ [])
+    (0 ∷ 1 ∷ [])
+    (0 ∷ 0 ∷ [])
+    (+0 ∷ +0 ∷ +1 ∷ +0 ∷ +2 ∷ +0 ∷ [])
+    && builds (exactly (0 ∷ 1 ∷ []) lines)
+    ((0 ∷ 1 ∷ 0 ∷ 0 ∷ 2 ∷ []) ∷ (1 ∷ 1 ∷ 0 ∷ 2 ∷ 2 ∷ []) ∷ [])
+    (0 ∷ 1 ∷ [])
+    (0 ∷ 0 ∷ [])
+    []
+
+-- the head is line 1's end 1
+case-c : Bool
+unfolding builds
+case-c =
+    builds (exactly (0 ∷ 0 ∷ []) ((+1 ∷ +0 ∷ +0 ∷ +0 ∷ []) ∷ (+1 ∷ +0 ∷ +2 ∷ +0 ∷ []) ∷ []))
+    ((0 ∷ 2 ∷ 1 ∷ 0 ∷ 3 ∷ []) ∷ [])
+    (1 ∷ 0 ∷ [])
+    (1 ∷ 0 ∷ [])
+    (+2 ∷ +0 ∷ +1 ∷ +0 ∷ +0 ∷ +0 ∷ [])
+
+-- a closed line is alone; a ring of two is one chain of four coordinates
+case-d : Bool
+unfolding builds
+case-d =
+    builds (exactly (0 ∷ []) ((+0 ∷ +0 ∷ +1 ∷ +0 ∷ +0 ∷ +1 ∷ +0 ∷ +0 ∷ []) ∷ [])) ((0 ∷ 1 ∷ 0 ∷ 0 ∷ 4 ∷ []) ∷ []) (0 ∷ []) (0 ∷ []) []
+    && builds (exactly (0 ∷ 0 ∷ []) ((+0 ∷ +0 ∷ +1 ∷ +0 ∷ []) ∷ (+1 ∷ +0 ∷ +1 ∷ +1 ∷ +0 ∷ +0 ∷ []) ∷ []))
+    ((0 ∷ 2 ∷ 1 ∷ 0 ∷ 4 ∷ []) ∷ [])
+    (0 ∷ 1 ∷ [])
+    (0 ∷ 0 ∷ [])
+    (+0 ∷ +0 ∷ +1 ∷ +0 ∷ +1 ∷ +1 ∷ +0 ∷ +0 ∷ [])
+
+-- three lines from one point, limit -0.5
+fork : ℕ → Call
+fork switch =
+    record {
+      groups = 0 ∷ 0 ∷ 0 ∷ [];
+      lines = (-1 ∷ +0 ∷ +0 ∷ +0 ∷ []) ∷ (+0 ∷ +0 ∷ +1 ∷ +0 ∷ []) ∷ (+0 ∷ +0 ∷ +0 ∷ +1 ∷ []) ∷ [];
+      tolerance = +0;
+      switch = switch;
+      limit = -0·5;
+    }
+
+case-e : Bool
+unfolding builds fork
+case-e =
+    builds (fork 1)
+    ((0 ∷ 2 ∷ 1 ∷ 0 ∷ 3 ∷ []) ∷ (2 ∷ 1 ∷ 0 ∷ 4 ∷ 2 ∷ []) ∷ [])
+    (0 ∷ 1 ∷ 2 ∷ [])
+    (0 ∷ 0 ∷ 0 ∷ [])
+    (-1 ∷ +0 ∷ +0 ∷ +0 ∷ +1 ∷ +0 ∷ [])
+    && builds (fork 0)
+    ((0 ∷ 1 ∷ 0 ∷ 0 ∷ 2 ∷ []) ∷ (1 ∷ 1 ∷ 0 ∷ 2 ∷ 2 ∷ []) ∷ (2 ∷ 1 ∷ 0 ∷ 4 ∷ 2 ∷ []) ∷ [])
+    (0 ∷ 1 ∷ 2 ∷ [])
+    (0 ∷ 0 ∷ 0 ∷ [])
+    []
+
+-- the zeros are two keys and one coordinate
+case-f : Bool
+unfolding builds
+case-f =
+    builds (exactly (0 ∷ 0 ∷ []) ((+0 ∷ +0 ∷ -0 ∷ +0 ∷ []) ∷ (-0 ∷ +0 ∷ +0 ∷ +0 ∷ []) ∷ []))
+    ((0 ∷ 2 ∷ 1 ∷ 0 ∷ 1 ∷ []) ∷ [])
+    (0 ∷ 1 ∷ [])
+    (0 ∷ 0 ∷ [])
+    (+0 ∷ +0 ∷ [])
+
+-- two lines, tolerance 1
+near : ℕ → Call
+near x =
+    record {
+      groups = 0 ∷ 0 ∷ [];
+      lines = (+0·25 ∷ +0 ∷ +1·25 ∷ +0 ∷ []) ∷ (x ∷ +0 ∷ +3·5 ∷ +0 ∷ []) ∷ [];
+      tolerance = +1;
+      switch = 0;
+      limit = +0;
+    }
+
+case-g : Bool
+unfolding builds near
+case-g =
+    builds (near +1·75)
+    ((0 ∷ 2 ∷ 1 ∷ 0 ∷ 4 ∷ []) ∷ [])
+    (0 ∷ 1 ∷ [])
+    (0 ∷ 0 ∷ [])
+    (+0·25 ∷ +0 ∷ +1·25 ∷ +0 ∷ +1·75 ∷ +0 ∷ +3·5 ∷ +0 ∷ [])
+    && builds (near +2) ((0 ∷ 1 ∷ 0 ∷ 0 ∷ 2 ∷ []) ∷ (1 ∷ 1 ∷ 0 ∷ 2 ∷ 2 ∷ []) ∷ []) (0 ∷ 1 ∷ []) (0 ∷ 0 ∷ []) []
+
+-- lines 1 and 2 are one piece after round one, which round two enters at end 1: the piece's members keep their order
+case-h : Bool
+unfolding builds
+case-h =
+    builds
+    (record {
+      groups = 0 ∷ 0 ∷ 0 ∷ [];
+      lines = (+0 ∷ +0 ∷ +1·25 ∷ +0 ∷ []) ∷ (+4·5 ∷ +0 ∷ +3·5 ∷ +0 ∷ []) ∷ (+3·5 ∷ +0 ∷ +1·75 ∷ +0 ∷ []) ∷ [];
+      tolerance = +1;
+      switch = 0;
+      limit = +0;
+    })
+    ((0 ∷ 3 ∷ 1 ∷ 0 ∷ 5 ∷ []) ∷ [])
+    (0 ∷ 1 ∷ 2 ∷ [])
+    (0 ∷ 1 ∷ 1 ∷ [])
+    (+0 ∷ +0 ∷ +1·25 ∷ +0 ∷ +1·75 ∷ +0 ∷ +3·5 ∷ +0 ∷ +4·5 ∷ +0 ∷ [])
+
+-- a lone line keeps its repeats
+case-i : Bool
+unfolding builds
+case-i =
+    builds (exactly (0 ∷ []) ((+0 ∷ +0 ∷ +0 ∷ +0 ∷ +1 ∷ +0 ∷ []) ∷ [])) ((0 ∷ 1 ∷ 0 ∷ 0 ∷ 3 ∷ []) ∷ []) (0 ∷ []) (0 ∷ []) []
+    && builds (exactly (0 ∷ 0 ∷ []) ((+0 ∷ +0 ∷ +0 ∷ +0 ∷ +1 ∷ +0 ∷ []) ∷ (+1 ∷ +0 ∷ +2 ∷ +0 ∷ []) ∷ []))
+    ((0 ∷ 2 ∷ 1 ∷ 0 ∷ 3 ∷ []) ∷ [])
+    (0 ∷ 1 ∷ [])
+    (0 ∷ 0 ∷ [])
+    (+0 ∷ +0 ∷ +1 ∷ +0 ∷ +2 ∷ +0 ∷ [])
+
+-- ties go by i and then j
+case-j : Bool
+unfolding pairs
+case-j = pairs (0 ∷ 1 ∷ 2 ∷ 3 ∷ []) (+1 ∷ +0 ∷ -1 ∷ +0 ∷ -1 ∷ +0 ∷ +1 ∷ +0 ∷ []) -1 (0 ∷ 1 ∷ 2 ∷ 3 ∷ [])
+
+-- one piece's two ends are no pair
+case-k : Bool
+unfolding pairs
+case-k = pairs (7 ∷ 7 ∷ 8 ∷ []) (+1 ∷ +0 ∷ -1 ∷ +0 ∷ +1 ∷ +0 ∷ []) -1 (1 ∷ 2 ∷ [])
+
+-- at or below the limit
+case-l : Bool
+unfolding pairs
+case-l =
+    let pieces : List ℕ = 0 ∷ 1 ∷ 2 ∷ 3 ∷ [] in
+    let directions : List ℕ = +1 ∷ +0 ∷ -1 ∷ +0 ∷ +0 ∷ +1 ∷ +1 ∷ +0 ∷ [] in
+    pairs pieces directions -1 (0 ∷ 1 ∷ []) && pairs pieces directions +0 (0 ∷ 1 ∷ 2 ∷ 3 ∷ [])
+
+-- dx is 2^-537, 2^-538, 2^511, 2^512
+case-m : Bool
+unfolding along points isAbsent
+case-m =
+    points (along (negsuc 536)) unity nought
+    && isAbsent (along (negsuc 537))
+    && points (along (pos 511)) unity nought
+    && points (along (pos 512)) nought nought
+
+case-n : Bool
+unfolding cell
+case-n = sameInt (cell (float +1) -0·25) (negsuc 0) && sameInt (cell (float +1) -0) (pos 0)
+
+-- marked P
+pub markedCases : List Bool
+unfolding case-a case-b case-c case-d case-e case-f case-h case-j case-k case-l case-m
+markedCases = case-a ∷ case-b ∷ case-c ∷ case-d ∷ case-e ∷ case-f ∷ case-h ∷ case-j ∷ case-k ∷ case-l ∷ case-m ∷ []
+
+pub cases : T (every markedCases)
+unfolding markedCases lt eq le add sub mul div root
+cases = tt
+
+pub otherCases : List Bool
+unfolding case-g case-i case-n
+otherCases = case-g ∷ case-i ∷ case-n ∷ []
+
+pub others : T (every otherCases)
+unfolding otherCases lt eq
+others = tt
+
+-- Equal measures go by i: of (0,3) and (1,2) the first is first. A present (0,0) has measure 0 with any finite direction, and a NaN never qualifies.
+slip-order : Bool
+unfolding pairs
+slip-order = pairs (0 ∷ 1 ∷ 2 ∷ 3 ∷ []) (+1 ∷ +0 ∷ +0 ∷ +1 ∷ +0 ∷ -1 ∷ -1 ∷ +0 ∷ []) -1 (0 ∷ 3 ∷ 1 ∷ 2 ∷ [])
+
+slip-zero : Bool
+unfolding pairs
+slip-zero = pairs (0 ∷ 1 ∷ []) (+0 ∷ -0 ∷ +1 ∷ +0 ∷ []) -0 (0 ∷ 1 ∷ [])
+
+slip-nan : Bool
+unfolding endsBy pairsOf pairRefusalOf listed
+slip-nan =
+    let call = endsBy (0 ∷ 1 ∷ []) (not-a-number ∷ +0 ∷ +1 ∷ +0 ∷ []) +1 in
+    eqb (pairRefusalOf false call) 0 && eqb (pairRefusalOf true call) 9 && same (listed (pairsOf call)) []
+
+pub slipCases : List Bool
+unfolding slip-order slip-zero slip-nan
+slipCases = slip-order ∷ slip-zero ∷ slip-nan ∷ []
+
+pub slips : T (every slipCases)
+unfolding slipCases lt eq le add mul ofBits
+slips = tt

@@ -1,0 +1,11 @@
+pub mod Order
+pub mod Sort
+pub mod Greedy
+pub mod Unique
+pub mod Limits
+pub mod Lazy
+pub mod Laws
+pub mod Owners
+pub mod Taking
+pub mod Row
+pub mod Rows

@@ -1,0 +1,140 @@
+-- Two owners of a direction are enough for all later ends of it, where no piece number occurs more than twice. Let the lower end i of a free candidate
+-- (i, j) be no owner. Of its two owners one is of another piece than j; with j that one makes a free candidate of the same key, which is before (i, j).
+use Prim.Native.Nat.{ℕ, zero, suc, _+_, _≤_, _<_}
+use mathlib.Core.Path.{_≡_, refl, sym, _∙_, ap, subst}
+use mathlib.Core.Bool.{Bool, true, false, _&&_, _||_}
+use mathlib.Core.Logic.{_⊎_, inl, inr, ⊎-elim}
+use native.Mathlib.Omega.{arith}
+use lib.Dec.{eqb, leb}
+use borrow.Author.Tests.{eqb-true, eqb-false}
+use Rattle.selecting.specs.Ranked.{Pair, Node, before, qualifies, candidates, busy}
+use Rattle.selecting.specs.Sets.{In, EndOf, Enough, Ends}
+use Rattle.selecting.specs.Owners.{Stands, Led, Precedes, Chained, AtMostTwice}
+use Rattle.selecting.proofs.Order.{two, tf, irrefl, of-at-before}
+use Rattle.selecting.proofs.Greedy.{or-false-left, or-false-right}
+use Rattle.selecting.proofs.Laws.{in-candidates, candidates-in}
+
+pub and-left : (a b : Bool) → (a && b) ≡ true → a ≡ true
+and-left true b e = refl
+and-left false b e = e
+
+pub and-right : (a b : Bool) → (a && b) ≡ true → b ≡ true
+and-right true b e = e
+and-right false b e = absurd (tf e refl)
+
+module _
+    (n : Node)
+    (There : ℕ → Type 0)
+    (Alike : ℕ → ℕ → Type 0)
+    (piece : ℕ → ℕ)
+    (there : (x z : ℕ) → n .may x z ≡ true → There x)
+    (same-key : (y x z : ℕ) → Alike y x → n .key y z ≡ n .key x z)
+    (same-may : (y x z : ℕ) → There y → n .may x z ≡ true → (piece y ≡ piece z → ⊥) → n .may y z ≡ true)
+    (twice : AtMostTwice piece (n .d)) where
+  -- of two owners one is not of the piece of z
+  other-piece : (a b z : ℕ) → a < b → b < z → z < n .d → (piece a ≡ piece z → ⊥) ⊎ (piece b ≡ piece z → ⊥)
+  other-piece a b z h k l = go (two (eqb (piece a) (piece z)))
+    where
+      go : (eqb (piece a) (piece z) ≡ true) ⊎ (eqb (piece a) (piece z) ≡ false) → (piece a ≡ piece z → ⊥) ⊎ (piece b ≡ piece z → ⊥)
+      go (inl e) = inr (λ f. twice a b z h k l (eqb-true (piece a) (piece z) e ∙ sym f) f)
+      go (inr e) = inl (eqb-false (piece a) (piece z) e)
+
+  pub led-enough : (limit : ℕ) (used active : ℕ → Bool) → Led There Alike used active → Enough used (candidates n limit) active
+  unfolding qualifies busy
+  led-enough limit used active led q m f = which (two (active (q .i)))
+    where
+      e : Ends (n .key) (n .d) q
+      e = in-candidates n limit q m .0
+
+      ok : qualifies n limit q ≡ true
+      ok = in-candidates n limit q m .1
+
+      may-q : n .may (q .i) (q .j) ≡ true
+      may-q = and-left (n .may (q .i) (q .j)) (leb (q .key) limit) ok
+
+      leb-q : leb (q .key) limit ≡ true
+      leb-q = and-right (n .may (q .i) (q .j)) (leb (q .key) limit) ok
+
+      instead : (y : ℕ) → Stands There Alike used active (q .i) y → (piece y ≡ piece (q .j) → ⊥)
+          → (p : Pair) × (o : ℕ) × In p (candidates n limit) × (busy used p ≡ false) × (before q p ≡ false) × (active o ≡ true) × EndOf o p
+      instead y h d =
+          let p : Pair = record { key = n .key y (q .j); i = y; j = q .j } in
+          let k : n .key y (q .j) ≡ q .key = same-key y (q .i) (q .j) (h .alike) ∙ sym (e .keyed) in (
+            p,
+            y,
+            candidates-in n limit p (record { lower = omega (arith, h .below, e .lower); below = e .below; keyed = refl })
+                (rw (same-may y (q .i) (q .j) (h .there) may-q d, k) leb-q),
+            rw (h .free) (or-false-right (used (q .i)) (used (q .j)) f),
+            of-at-before p q (inr (k, inl (h .below))),
+            h .owner,
+            inl refl,
+          )
+
+      which : (active (q .i) ≡ true) ⊎ (active (q .i) ≡ false)
+          → (p : Pair) × (o : ℕ) × In p (candidates n limit) × (busy used p ≡ false) × (before q p ≡ false) × (active o ≡ true) × EndOf o p
+      which (inl a) = (q, q .i, m, f, irrefl q, a, inl refl)
+      which (inr a) =
+          let t = led (q .i) (there (q .i) (q .j) may-q) (or-false-left (used (q .i)) (used (q .j)) f) a in
+          ⊎-elim
+          (λ (d : piece (t .0) ≡ piece (q .j) → ⊥). instead (t .0) (t .3) d)
+          (λ (d : piece (t .1) ≡ piece (q .j) → ⊥). instead (t .1) (t .4) d)
+          (other-piece (t .0) (t .1) (q .j) (t .2) (omega (arith, t .4 .below, e .lower)) (e .below))
+
+-- so much follows from each end's two predecessors, by going back to the first two that are owners
+module _
+    (There : ℕ → Type 0)
+    (Alike : ℕ → ℕ → Type 0)
+    (alike-trans : (a b c : ℕ) → Alike a b → Alike b c → Alike a c)
+    (used active : ℕ → Bool)
+    (prev : ℕ → ℕ)
+    (c : Chained There Alike used active prev) where
+  abbrev Two : ℕ → Type 0
+  Two e = (a b : ℕ) × (a < b) × Stands There Alike used active e a × Stands There Alike used active e b
+
+  -- the owners below a are owners below e
+  further : {a e : ℕ} → Precedes There Alike used active e a → Two a → Two e
+  further {a} {e} p (x, y, h, s, t) = (x, y, h, on x s, on y t)
+    where
+      on : (z : ℕ) → Stands There Alike used active a z → Stands There Alike used active e z
+      on z w =
+          record {
+            below = omega (arith, w .below, p .below);
+            there = w .there;
+            free = w .free;
+            owner = w .owner;
+            alike = alike-trans z a e (w .alike) (p .alike);
+          }
+
+  stands : {a e : ℕ} → Precedes There Alike used active e a → active a ≡ true → Stands There Alike used active e a
+  stands p o = record { below = p .below; there = p .there; free = p .free; owner = o; alike = p .alike }
+
+  -- the one before the last
+  precedes : {a b e : ℕ} → Precedes There Alike used active b a → Precedes There Alike used active e b → Precedes There Alike used active e a
+  precedes {a} {b} {e} p q =
+      record {
+        below = omega (arith, p .below, q .below);
+        there = p .there;
+        free = p .free;
+        alike = alike-trans a b e (p .alike) (q .alike);
+      }
+
+  back : (k e : ℕ) → e < k → There e → used e ≡ false → active e ≡ false → Two e
+  back zero e h p u a = absurd (omega arith)
+  back (suc k) e h p u a =
+      go (two (active (prev e))) (two (active (prev (prev e)))) (back k (prev e) (omega (arith, f .below))) (back k (prev (prev e)) (omega (arith, f .below, s .below)))
+    where
+      f : Precedes There Alike used active e (prev e)
+      f = c .first e p u a
+
+      s : Precedes There Alike used active (prev e) (prev (prev e))
+      s = c .second e p u a
+
+      go : (active (prev e) ≡ true) ⊎ (active (prev e) ≡ false) → (active (prev (prev e)) ≡ true) ⊎ (active (prev (prev e)) ≡ false)
+          → (There (prev e) → used (prev e) ≡ false → active (prev e) ≡ false → Two (prev e))
+          → (There (prev (prev e)) → used (prev (prev e)) ≡ false → active (prev (prev e)) ≡ false → Two (prev (prev e))) → Two e
+      go (inr x) y ih ih′ = further f (ih (f .there) (f .free) x)
+      go (inl x) (inr y) ih ih′ = further (precedes s f) (ih′ (s .there) (s .free) y)
+      go (inl x) (inl y) ih ih′ = (prev (prev e), prev e, s .below, stands (precedes s f) y, stands f x)
+
+  pub chained-led : Led There Alike used active
+  chained-led e = back (e + 1) e (omega arith)

@@ -1,0 +1,4 @@
+pub mod Ranked
+pub mod Sets
+pub mod Owners
+pub mod Taking
