@@ -1,0 +1,191 @@
+//! What a call lends, what it answers, and who may answer it.
+
+use std::fmt;
+
+/// A building call. Coordinates, tolerance and limit are the 64 bits of their floats.
+#[derive(Clone, Debug, Default, PartialEq, Eq)]
+pub struct BuildCall {
+    /// x, y, x, y .. of all lines, one line after another.
+    pub coordinates: Vec<u64>,
+    /// Coordinates per line, counted in pairs.
+    pub counts: Vec<u32>,
+    /// One group per line; lines of different groups never meet.
+    pub groups: Vec<u32>,
+    /// One kind per line: 0 plain, 1 pass through unjoined.
+    pub kinds: Vec<u8>,
+    /// The snap tolerance.
+    pub tolerance: u64,
+    /// 1 where junctions of three or more ends are paired, else 0.
+    pub switch: u8,
+    /// The greatest measure that qualifies. Not looked at where the switch is 0.
+    pub limit: u64,
+}
+
+impl BuildCall {
+    /// Adds a line by the bits of its coordinates.
+    pub fn push(&mut self, line: &[[u64; 2]], group: u32, kind: u8) {
+        self.coordinates.extend(line.iter().flatten());
+        self.counts.push(line.len() as u32);
+        self.groups.push(group);
+        self.kinds.push(kind);
+    }
+
+    /// Adds a plain line of group 0 by its coordinates.
+    pub fn push_plain(&mut self, line: &[(f64, f64)]) {
+        let bits: Vec<_> = line.iter().map(|&(x, y)| [x.to_bits(), y.to_bits()]).collect();
+        self.push(&bits, 0, 0);
+    }
+
+    /// The number of lines.
+    pub fn lines(&self) -> usize {
+        self.counts.len()
+    }
+
+    /// The first coordinate of each line, counted in pairs.
+    pub fn firsts(&self) -> Vec<usize> {
+        let mut sum = 0;
+        let before = |&count: &u32| {
+            let first = sum;
+            sum += count as usize;
+            first
+        };
+        self.counts.iter().map(before).collect()
+    }
+
+    /// The points of a line that begins at the given pair.
+    pub fn points(&self, line: usize, first: usize) -> Vec<[u64; 2]> {
+        let last = first + self.counts[line] as usize;
+        self.coordinates[2 * first..2 * last].chunks(2).map(|p| [p[0], p[1]]).collect()
+    }
+
+    /// True where a line passes through unjoined: by its kind, or for want of two coordinates.
+    pub fn passes(&self, line: usize) -> bool {
+        self.kinds[line] == 1 || self.counts[line] < 2
+    }
+}
+
+/// The answer of an accepted building call.
+#[derive(Clone, Debug, Default, PartialEq, Eq)]
+pub struct Built {
+    /// Per chain: first member, member count, source, first coordinate, coordinate count.
+    pub table: Vec<[u32; 5]>,
+    /// Line positions, chain by chain.
+    pub members: Vec<u32>,
+    /// The turned mark of each member, in member order.
+    pub marks: Vec<u8>,
+    /// The coordinates of the chains of more than one line, one after another.
+    pub merged: Vec<u64>,
+}
+
+/// A pairing call over the ends at one node. Directions and limit are bits.
+#[derive(Clone, Debug, Default, PartialEq, Eq)]
+pub struct PairingCall {
+    /// Per end 1 where it has a direction, else 0.
+    pub present: Vec<u8>,
+    /// x, y per end; not looked at where the end is absent.
+    pub directions: Vec<u64>,
+    /// The piece of each end; a piece has at most two ends.
+    pub pieces: Vec<u32>,
+    /// The greatest measure that qualifies.
+    pub limit: u64,
+}
+
+impl PairingCall {
+    /// Adds an end with a direction by its bits, or, where there is none, with arbitrary numbers.
+    pub fn push(&mut self, present: bool, direction: [u64; 2], piece: u32) {
+        self.present.push(u8::from(present));
+        self.directions.extend(direction);
+        self.pieces.push(piece);
+    }
+
+    /// The number of ends.
+    pub fn ends(&self) -> usize {
+        self.pieces.len()
+    }
+
+    /// The direction of an end, if it has one.
+    pub fn direction(&self, end: usize) -> Option<(f64, f64)> {
+        let at = |k: usize| f64::from_bits(self.directions[2 * end + k]);
+        (self.present[end] == 1).then(|| (at(0), at(1)))
+    }
+
+    /// The directions of all ends.
+    pub fn all_directions(&self) -> Vec<Option<(f64, f64)>> {
+        (0..self.ends()).map(|end| self.direction(end)).collect()
+    }
+
+    /// True where every present direction is finite, as the indexed route demands.
+    pub fn finite(&self) -> bool {
+        let finite = |(x, y): &(f64, f64)| x.is_finite() && y.is_finite();
+        self.all_directions().iter().flatten().all(finite)
+    }
+}
+
+/// Two ends joined with one another, the lower one first.
+pub type Pair = [u32; 2];
+
+/// The three ways to the selected pairs.
+#[derive(Clone, Copy, Debug, PartialEq, Eq)]
+pub enum Route {
+    /// Over all pairs of ends.
+    Plain,
+    /// By the index over the directions; all present directions must be finite.
+    Indexed,
+    /// Plain or indexed, by the number of ends and their directions.
+    Chosen,
+}
+
+impl Route {
+    /// The routes that accept the call.
+    pub fn for_call(call: &PairingCall) -> &'static [Route] {
+        match call.finite() {
+            true => &[Route::Plain, Route::Indexed, Route::Chosen],
+            false => &[Route::Plain, Route::Chosen],
+        }
+    }
+}
+
+/// The number of the refusal with which a call was turned away.
+#[derive(Clone, Copy, Debug, PartialEq, Eq)]
+pub struct Refusal(pub u32);
+
+/// Whatever answers the calls: the model, the Rust original, the verified library.
+pub trait Port {
+    /// Builds the chains of a call.
+    fn build(&mut self, call: &BuildCall) -> Result<Built, Refusal>;
+
+    /// Selects the pairs of a call by a route, in the order of selection.
+    fn pairs(&mut self, route: Route, call: &PairingCall) -> Result<Vec<Pair>, Refusal>;
+}
+
+/// A float as its bits and its decimals.
+fn word(bits: u64) -> String {
+    format!("{bits:016x} ({:?})", f64::from_bits(bits))
+}
+
+impl fmt::Display for BuildCall {
+    fn fmt(&self, f: &mut fmt::Formatter<'_>) -> fmt::Result {
+        let (tolerance, limit) = (word(self.tolerance), word(self.limit));
+        writeln!(f, "tolerance {tolerance}, switch {}, limit {limit}", self.switch)?;
+        for (line, first) in self.firsts().into_iter().enumerate() {
+            let (group, kind) = (self.groups[line], self.kinds[line]);
+            writeln!(f, "line {line}, group {group}, kind {kind}")?;
+            for [x, y] in self.points(line, first) {
+                writeln!(f, "  {} {}", word(x), word(y))?;
+            }
+        }
+        Ok(())
+    }
+}
+
+impl fmt::Display for PairingCall {
+    fn fmt(&self, f: &mut fmt::Formatter<'_>) -> fmt::Result {
+        writeln!(f, "limit {}", word(self.limit))?;
+        for (end, direction) in self.directions.chunks(2).enumerate() {
+            let (x, y) = (word(direction[0]), word(direction[1]));
+            let (present, piece) = (self.present[end], self.pieces[end]);
+            writeln!(f, "end {end}, present {present}, piece {piece}: {x} {y}")?;
+        }
+        Ok(())
+    }
+}

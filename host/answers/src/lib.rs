@@ -1,0 +1,21 @@
+//! Calls of the chain builder, their recorded answers, and a plain model of the rules.
+//!
+//! - [`call`]: what a call lends and what it answers, all floats as their 64 bits, and the
+//!   trait [`Port`] that everything which answers calls implements.
+//! - [`format`]: the recorded files, reading and writing.
+//! - [`model`]: the rules, written down in plain Rust.
+//! - [`check`]: what holds of every recorded answer by its form alone.
+//! - [`replay`]: every recorded call, put to a [`Port`].
+//! - [`random`] and [`styles`]: inputs, the same for the same seed on every machine.
+//!
+//! Nothing here needs the Rust original.
+
+pub mod call;
+pub mod check;
+pub mod format;
+pub mod model;
+pub mod random;
+pub mod replay;
+pub mod styles;
+
+pub use call::{BuildCall, Built, Pair, PairingCall, Port, Refusal, Route};

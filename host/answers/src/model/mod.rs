@@ -1,0 +1,101 @@
+//! The rules in plain Rust, with no thought of speed.
+//!
+//! One file per heading of the rules: [`plane`] (keys, directions, the measure), [`selecting`],
+//! [`walking`] (joining and walks), [`layout`] (the answer's tables). This file has the two rounds.
+//! The model refuses nothing: it is put only to calls that the port accepts.
+
+pub mod layout;
+pub mod plane;
+pub mod selecting;
+pub mod walking;
+
+use crate::call::{BuildCall, Built, Pair, PairingCall, Port, Refusal, Route};
+use plane::{cell_key, exact_key, same, Key, Point};
+use walking::{joins, walks};
+
+/// A line, or several joined ones, with one run of coordinates.
+#[derive(Clone, Debug)]
+pub struct Piece {
+    /// The lines in the order in which they were appended.
+    pub members: Vec<usize>,
+    /// Per member 1 where the last round entered the piece that held it at end 1.
+    pub marks: Vec<u8>,
+    /// The coordinates, as bits.
+    pub points: Vec<Point>,
+    /// The group of all its lines.
+    pub group: u32,
+}
+
+/// The model as something that answers calls.
+pub struct Model;
+
+impl Port for Model {
+    fn build(&mut self, call: &BuildCall) -> Result<Built, Refusal> {
+        let (plain, passing) = lines(call);
+        let mut chains = rounds(call, plain);
+        chains.extend(passing);
+        Ok(layout::built(call, &chains))
+    }
+
+    fn pairs(&mut self, _: Route, call: &PairingCall) -> Result<Vec<Pair>, Refusal> {
+        let limit = f64::from_bits(call.limit);
+        Ok(selecting::selected(&call.all_directions(), &call.pieces, limit))
+    }
+}
+
+/// The lines of a call as pieces of one member: those to be joined, and those that pass through.
+fn lines(call: &BuildCall) -> (Vec<Piece>, Vec<Piece>) {
+    let piece = |(line, first): (usize, usize)| Piece {
+        members: vec![line],
+        marks: vec![0],
+        points: call.points(line, first),
+        group: call.groups[line],
+    };
+    let all = call.firsts().into_iter().enumerate().map(piece);
+    all.partition(|piece| !call.passes(piece.members[0]))
+}
+
+/// Round one by exact keys and, where the tolerance is above 0, round two by cells.
+fn rounds(call: &BuildCall, pieces: Vec<Piece>) -> Vec<Piece> {
+    let tolerance = f64::from_bits(call.tolerance);
+    let pieces = round(call, pieces, &exact_key);
+    if tolerance > 0.0 {
+        round(call, pieces, &|group, point| cell_key(group, point, tolerance))
+    } else {
+        pieces
+    }
+}
+
+/// One round: the ends meet at nodes of equal keys, and each walk becomes a piece.
+fn round(call: &BuildCall, pieces: Vec<Piece>, key: &dyn Fn(u32, Point) -> Key) -> Vec<Piece> {
+    let limit = (call.switch == 1).then(|| f64::from_bits(call.limit));
+    let joins = joins(&pieces, key, limit);
+    walks(&joins).iter().map(|walk| merge(&pieces, walk)).collect()
+}
+
+/// The piece of a walk, which is given by the ends at which it enters its pieces.
+fn merge(pieces: &[Piece], walk: &[usize]) -> Piece {
+    let head = &pieces[walk[0] / 2];
+    let mut merged = Piece { members: vec![], marks: vec![], points: vec![], group: head.group };
+    for &entry in walk {
+        let piece = &pieces[entry / 2];
+        merged.members.extend(&piece.members);
+        merged.marks.extend(piece.members.iter().map(|_| (entry % 2) as u8));
+        append(&mut merged.points, &piece.points, entry % 2 == 1);
+    }
+    if walk.len() == 1 {
+        merged.points = head.points.clone();
+    }
+    merged
+}
+
+/// Appends a run, turned round if asked, without any coordinate that equals the last written.
+fn append(run: &mut Vec<Point>, points: &[Point], turned: bool) {
+    for k in 0..points.len() {
+        let point = points[if turned { points.len() - 1 - k } else { k }];
+        let repeated = matches!(run.last(), Some(&last) if same(last, point));
+        if !repeated {
+            run.push(point);
+        }
+    }
+}

@@ -1,0 +1,134 @@
+//! The cases of the rules, by letter, put to the model.
+
+use answers::model::plane::{cell, direction};
+use answers::model::Model;
+use answers::{BuildCall, Built, Pair, PairingCall, Port, Route};
+
+type Line = [(f64, f64)];
+
+/// The answer to plain lines of one group.
+fn build(lines: &[&Line], tolerance: f64, limit: Option<f64>) -> Built {
+    let mut call = BuildCall {
+        tolerance: tolerance.to_bits(),
+        switch: u8::from(limit.is_some()),
+        limit: limit.unwrap_or(f64::NAN).to_bits(),
+        ..BuildCall::default()
+    };
+    lines.iter().for_each(|line| call.push_plain(line));
+    Model.build(&call).expect("the model refuses nothing")
+}
+
+/// Bits of coordinates.
+fn bits(line: &Line) -> Vec<u64> {
+    line.iter().flat_map(|&(x, y)| [x.to_bits(), y.to_bits()]).collect()
+}
+
+/// The pairs of present ends.
+fn pairs(ends: &[(f64, f64)], pieces: &[u32], limit: f64) -> Vec<Pair> {
+    let mut call = PairingCall { limit: limit.to_bits(), ..PairingCall::default() };
+    for (&(x, y), &piece) in ends.iter().zip(pieces) {
+        call.push(true, [x.to_bits(), y.to_bits()], piece);
+    }
+    Model.pairs(Route::Plain, &call).expect("the model refuses nothing")
+}
+
+#[test]
+fn a_no_lines() {
+    assert_eq!(build(&[], 0.0, None), Built::default());
+}
+
+#[test]
+fn b_two_lines_meet_within_a_group() {
+    let lines: [&Line; 2] = [&[(0.0, 0.0), (1.0, 0.0)], &[(1.0, 0.0), (2.0, 0.0)]];
+    let built = build(&lines, 0.0, None);
+    assert_eq!(built.table, [[0, 2, 1, 0, 3]]);
+    assert_eq!((built.members, built.marks), (vec![0, 1], vec![0, 0]));
+    assert_eq!(built.merged, bits(&[(0.0, 0.0), (1.0, 0.0), (2.0, 0.0)]));
+    let mut call = BuildCall::default();
+    lines.iter().for_each(|line| call.push_plain(line));
+    call.groups[1] = 1;
+    let built = Model.build(&call).expect("the model refuses nothing");
+    assert_eq!(built.table, [[0, 1, 0, 0, 2], [1, 1, 0, 2, 2]]);
+}
+
+#[test]
+fn c_the_head_is_found_going_back() {
+    let built = build(&[&[(1.0, 0.0), (0.0, 0.0)], &[(1.0, 0.0), (2.0, 0.0)]], 0.0, None);
+    assert_eq!((built.members, built.marks), (vec![1, 0], vec![1, 0]));
+    assert_eq!(built.merged, bits(&[(2.0, 0.0), (1.0, 0.0), (0.0, 0.0)]));
+}
+
+#[test]
+fn d_rings_of_one_and_of_two() {
+    let built = build(&[&[(0.0, 0.0), (1.0, 0.0), (0.0, 1.0), (0.0, 0.0)]], 0.0, None);
+    assert_eq!(built.table, [[0, 1, 0, 0, 4]]);
+    let lines: [&Line; 2] = [&[(0.0, 0.0), (1.0, 0.0)], &[(1.0, 0.0), (1.0, 1.0), (0.0, 0.0)]];
+    assert_eq!(build(&lines, 0.0, None).table, [[0, 2, 1, 0, 4]]);
+}
+
+#[test]
+fn e_a_junction_with_and_without_the_switch() {
+    let lines: [&Line; 3] =
+        [&[(-1.0, 0.0), (0.0, 0.0)], &[(0.0, 0.0), (1.0, 0.0)], &[(0.0, 0.0), (0.0, 1.0)]];
+    let built = build(&lines, 0.0, Some(-0.5));
+    assert_eq!(built.table, [[0, 2, 1, 0, 3], [2, 1, 0, 4, 2]]);
+    assert_eq!(built.members, [0, 1, 2]);
+    assert_eq!(build(&lines, 0.0, None).table.len(), 3);
+}
+
+#[test]
+fn f_two_zeros_are_two_keys_and_one_coordinate() {
+    let built = build(&[&[(0.0, 0.0), (-0.0, 0.0)], &[(-0.0, 0.0), (0.0, 0.0)]], 0.0, None);
+    assert_eq!(built.table, [[0, 2, 1, 0, 1]]);
+}
+
+#[test]
+fn g_cells_join_within_and_not_across() {
+    let first: &Line = &[(0.25, 0.0), (1.25, 0.0)];
+    let within = build(&[first, &[(1.75, 0.0), (3.5, 0.0)]], 1.0, None);
+    assert_eq!(within.table, [[0, 2, 1, 0, 4]]);
+    let across = build(&[first, &[(2.0, 0.0), (3.5, 0.0)]], 1.0, None);
+    assert_eq!(across.table.len(), 2);
+}
+
+#[test]
+fn h_a_piece_walked_backwards_keeps_its_members_in_order() {
+    let lines: [&Line; 3] =
+        [&[(0.0, 0.0), (1.25, 0.0)], &[(4.5, 0.0), (3.5, 0.0)], &[(3.5, 0.0), (1.75, 0.0)]];
+    let built = build(&lines, 1.0, None);
+    assert_eq!((built.members, built.marks), (vec![0, 1, 2], vec![0, 1, 1]));
+    let run = [(0.0, 0.0), (1.25, 0.0), (1.75, 0.0), (3.5, 0.0), (4.5, 0.0)];
+    assert_eq!(built.merged, bits(&run));
+}
+
+#[test]
+fn i_repeats_stay_in_a_lone_line() {
+    let line: &Line = &[(0.0, 0.0), (0.0, 0.0), (1.0, 0.0)];
+    assert_eq!(build(&[line], 0.0, None).table, [[0, 1, 0, 0, 3]]);
+    assert_eq!(build(&[line, &[(1.0, 0.0), (2.0, 0.0)]], 0.0, None).table, [[0, 2, 1, 0, 3]]);
+}
+
+#[test]
+fn j_k_l_pairs() {
+    let (east, west, north) = ((1.0, 0.0), (-1.0, 0.0), (0.0, 1.0));
+    let four = [0, 1, 2, 3];
+    assert_eq!(pairs(&[east, west, west, east], &four, -1.0), [[0, 1], [2, 3]]);
+    assert_eq!(pairs(&[east, west, east], &[7, 7, 8], -1.0), [[1, 2]]);
+    assert_eq!(pairs(&[east, west, north, east], &four, -1.0), [[0, 1]]);
+    assert_eq!(pairs(&[east, west, north, east], &four, 0.0), [[0, 1], [2, 3]]);
+}
+
+#[test]
+fn m_directions_at_the_edges_of_the_format() {
+    let toward = |power: i32| {
+        let x = f64::from_bits(((1023 + power) as u64) << 52);
+        direction(&[[0, 0], [x.to_bits(), 0]], 0)
+    };
+    assert_eq!((toward(-537), toward(-538)), (Some((1.0, 0.0)), None));
+    assert_eq!((toward(511), toward(512)), (Some((1.0, 0.0)), Some((0.0, 0.0))));
+}
+
+#[test]
+fn n_cells_below_and_at_zero() {
+    assert_eq!((cell(-0.25, 1.0), cell(-0.0, 1.0)), (-1, 0));
+}

@@ -1,0 +1,41 @@
+//! The original's chains in the form of the port's answer.
+
+use answers::model::plane::Point;
+use answers::{BuildCall, Built};
+
+/// A chain as the original gives it: its lines, and its coordinates as bits.
+#[derive(Clone, Debug, PartialEq, Eq)]
+pub struct Chain {
+    pub members: Vec<usize>,
+    pub points: Vec<Point>,
+}
+
+/// The table, members and merged coordinates of the chains. The original knows no marks.
+///
+/// A chain of one line names the line's own coordinates; the others stand in the merged
+/// coordinates one after another.
+///
+/// # Panics
+///
+/// Panics where the coordinates of a lone line are not the line's own, bit for bit: the form of
+/// the answer could not say so.
+pub fn without_marks(call: &BuildCall, chains: &[Chain]) -> Built {
+    let firsts = call.firsts();
+    let mut built = Built::default();
+    for chain in chains {
+        let (source, first) = match chain.members[..] {
+            [line] => {
+                assert_eq!(chain.points, call.points(line, firsts[line]), "line {line} altered");
+                (0, firsts[line])
+            }
+            _ => (1, built.merged.len() / 2),
+        };
+        let numbers = [built.members.len(), chain.members.len(), source, first, chain.points.len()];
+        built.table.push(numbers.map(|number| number as u32));
+        built.members.extend(chain.members.iter().map(|&line| line as u32));
+        if source == 1 {
+            built.merged.extend(chain.points.iter().flatten());
+        }
+    }
+    built
+}
