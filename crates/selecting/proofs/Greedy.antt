@@ -1,16 +1,14 @@
 -- Taking from left to right: what is taken, what blocks the rest, and that nothing else does.
-use Prim.Native.Nat.{ℕ, _≤_, _<_}
-use mathlib.Core.Path.{_≡_, refl, sym, _∙_, ap, subst}
-use mathlib.Core.Bool.{Bool, true, false, cond, _&&_, _||_}
+use Prim.Native.Nat.{ℕ}
+use mathlib.Core.Path.{_≡_, refl, sym, _∙_, ap}
+use mathlib.Core.Bool.{Bool, true, false, _||_}
 use mathlib.Core.Logic.{_⊎_, inl, inr, ⊎-elim}
-use mathlib.Core.List.{List, [], _∷_, _++_}
-use native.Mathlib.Omega.{arith}
+use mathlib.Core.List.{List, [], _∷_}
 use lib.Dec.{eqb}
 use borrow.Author.Tests.{eqb-true, eq-eqb, ne-eqb, eqb-false}
-use Rattle.selecting.specs.Ranked.{Pair, before, keep, mark, busy, greedy}
+use Rattle.selecting.specs.Ranked.{Pair, before, mark, busy, greedy}
 use Rattle.selecting.specs.Sets.{In, Sorted, InOrder, shares, Blocked, Least}
-use Rattle.selecting.proofs.Order.{two, tf, least-trans, antisym, irrefl, asym, before-trans, apart}
-use Rattle.selecting.proofs.Sort.{keep-true, keep-false, keep-none, in-keep}
+use Rattle.selecting.proofs.Order.{two, tf, antisym, apart}
 
 pub greedy-busy : (used : ℕ → Bool) (p : Pair) (ps : List Pair) → busy used p ≡ true → greedy used (p ∷ ps) ≡ greedy used ps
 unfolding greedy
@@ -128,7 +126,7 @@ greedy-apart used (x ∷ xs) p q hp hq s = go (busy used x) (greedy-apart used x
     go false ih₁ ih₂ (inr m) (inr n) = ih₂ m n s
 
 -- what is taken stands in order
-pub greedy-order : (used : ℕ → Bool) (l : List Pair) → Sorted l → InOrder (greedy used l)
+pub greedy-order : (used : ℕ → Bool) (l : List Pair) → Sorted before l → InOrder before (greedy used l)
 unfolding greedy
 greedy-order used [] s = tt
 greedy-order used (x ∷ xs) s = go (busy used x) (greedy-order used xs (s .1)) (greedy-order (mark x used) xs (s .1))
@@ -138,41 +136,41 @@ greedy-order used (x ∷ xs) s = go (busy used x) (greedy-order used xs (s .1)) 
         let h : In q xs × (busy (mark x used) q ≡ false) = in-greedy (mark x used) q xs m in
         apart x q (s .0 q (h .0)) (λ e. tf (shares-self x) (ap (shares x) e ∙ free-less x q used (h .1) .0))
 
-    go : (b : Bool) → InOrder (greedy used xs) → InOrder (greedy (mark x used) xs)
-        → InOrder (elim b as (λ _. List Pair) [ true ↦ greedy used xs | false ↦ x ∷ greedy (mark x used) xs ])
+    go : (b : Bool) → InOrder before (greedy used xs) → InOrder before (greedy (mark x used) xs)
+        → InOrder before (elim b as (λ _. List Pair) [ true ↦ greedy used xs | false ↦ x ∷ greedy (mark x used) xs ])
     go true ih₁ ih₂ = ih₁
     go false ih₁ ih₂ = (first, ih₂)
 
 -- why a pair of the list is not taken: one taken before it shares an end
-pub greedy-blocked : (used : ℕ → Bool) (l : List Pair) → Sorted l → (p : Pair) → In p l → busy used p ≡ false → In p (greedy used l) ⊎ Blocked (greedy used l) p
+pub greedy-blocked : (used : ℕ → Bool) (l : List Pair) → Sorted before l → (p : Pair) → In p l → busy used p ≡ false → In p (greedy used l) ⊎ Blocked before shares (greedy used l) p
 unfolding greedy
 greedy-blocked used [] s p m f = absurd m
 greedy-blocked used (x ∷ xs) s p m f = go (busy used x) refl m (λ k. greedy-blocked used xs (s .1) p k f) (greedy-blocked (mark x used) xs (s .1) p)
   where
     both : In p xs
-        → (In p xs → busy (mark x used) p ≡ false → In p (greedy (mark x used) xs) ⊎ Blocked (greedy (mark x used) xs) p)
+        → (In p xs → busy (mark x used) p ≡ false → In p (greedy (mark x used) xs) ⊎ Blocked before shares (greedy (mark x used) xs) p)
         → (busy (mark x used) p ≡ true) ⊎ (busy (mark x used) p ≡ false) → (shares x p ≡ true) ⊎ (shares x p ≡ false) → (before x p ≡ true) ⊎ (before x p ≡ false)
-        → In p (x ∷ greedy (mark x used) xs) ⊎ Blocked (x ∷ greedy (mark x used) xs) p
+        → In p (x ∷ greedy (mark x used) xs) ⊎ Blocked before shares (x ∷ greedy (mark x used) xs) p
     both k ih c (inl d) (inl e) = inr (x, inl refl, e, d)
     both k ih c (inl d) (inr e) = inl (inl (antisym p x e (s .0 p k)))
     both k ih (inl c) (inr d) e = absurd (⊎-elim (λ (h : shares x p ≡ true). tf h d) (λ (h : busy used p ≡ true). tf h f) (busy-cases x p used c))
     both k ih (inr c) (inr d) e =
         ⊎-elim (λ (h : In p (greedy (mark x used) xs)). inl (inr h))
-        (λ (h : Blocked (greedy (mark x used) xs) p). inr (h .0, inr (h .1), h .2, h .3))
+        (λ (h : Blocked before shares (greedy (mark x used) xs) p). inr (h .0, inr (h .1), h .2, h .3))
         (ih k c)
 
     go : (b : Bool) → busy used x ≡ b → In p (x ∷ xs)
-        → (In p xs → In p (greedy used xs) ⊎ Blocked (greedy used xs) p)
-        → (In p xs → busy (mark x used) p ≡ false → In p (greedy (mark x used) xs) ⊎ Blocked (greedy (mark x used) xs) p)
+        → (In p xs → In p (greedy used xs) ⊎ Blocked before shares (greedy used xs) p)
+        → (In p xs → busy (mark x used) p ≡ false → In p (greedy (mark x used) xs) ⊎ Blocked before shares (greedy (mark x used) xs) p)
         → In p (elim b as (λ _. List Pair) [ true ↦ greedy used xs | false ↦ x ∷ greedy (mark x used) xs ])
-        ⊎ Blocked (elim b as (λ _. List Pair) [ true ↦ greedy used xs | false ↦ x ∷ greedy (mark x used) xs ]) p
+        ⊎ Blocked before shares (elim b as (λ _. List Pair) [ true ↦ greedy used xs | false ↦ x ∷ greedy (mark x used) xs ]) p
     go true e (inl k) ih₁ ih₂ = absurd (tf (ap (busy used) k ∙ e) f)
     go true e (inr k) ih₁ ih₂ = ih₁ k
     go false e (inl k) ih₁ ih₂ = inl (inl k)
     go false e (inr k) ih₁ ih₂ = both k ih₂ (two (busy (mark x used) p)) (two (shares x p)) (two (before x p))
 
 -- the law of the step: a free pair of the list that no free pair of the list is before is taken next
-pub step : (used : ℕ → Bool) (l : List Pair) → Sorted l → (p : Pair) → Least used l p → greedy used l ≡ p ∷ greedy (mark p used) l
+pub step : (used : ℕ → Bool) (l : List Pair) → Sorted before l → (p : Pair) → Least used l p → greedy used l ≡ p ∷ greedy (mark p used) l
 step used [] s p m = absurd (m .member)
 step used (x ∷ xs) s p m = go (two (busy used x)) (m .member) (λ k. step used xs (s .1) p (record { member = k; free = m .free; first = λ q n. m .first q (inr n) }))
   where

@@ -1,33 +1,96 @@
--- The laws of selection.
-use Prim.Native.Nat.{ℕ, zero, suc, _≤_, _<_}
+-- The laws of ranked selection: its candidates are the qualifying pairs; the least free candidate is the next pair selected; and what is selected is settled in
+-- the candidates, which no other list in order is, and which settles every set of them that is.
+use Prim.Native.Nat.{ℕ, zero, suc, _<_}
 use mathlib.Core.Path.{_≡_, refl, sym, _∙_, ap, subst}
-use mathlib.Core.Bool.{Bool, true, false, not, _&&_, _||_, and-false}
+use mathlib.Core.Bool.{Bool, true, false}
 use mathlib.Core.Logic.{_⊎_, inl, inr, ⊎-elim}
 use mathlib.Core.List.{List, [], _∷_, _++_}
 use native.Mathlib.Omega.{arith}
-use lib.Dec.{leb}
-use borrow.Author.Tests.{leb-true, leb-false, le-leb, lt-leb}
-use Rattle.selecting.specs.Ranked.{Pair, Node, before, keep, column, pairs, qualifies, candidates, sort, mark, busy, greedy, none, selectFrom, select}
-use Rattle.selecting.specs.Sets.{In, Sorted, InOrder, shares, Blocked, Settled, Least, Entry, Covers, Enough, upto, over, Ends}
-use Rattle.selecting.proofs.Order.{two, tf, three}
-use Rattle.selecting.proofs.Sort.{in-sort, sort-in, sorted-sort, keep-sort, keep-keep, in-keep, keep-in}
+use Rattle.selecting.specs.Ranked.{Pair, Node, before, column, pairs, qualifies, candidates, sort, mark, busy, greedy, none, selectFrom, select}
+use Rattle.selecting.specs.Sets.{In, Sorted, InOrder, shares, Blocked, Settled, Least, Entry, Covers, Enough, Ends}
+use Rattle.selecting.proofs.Order.{tf, three, asym, least-trans, irrefl}
+use Rattle.selecting.proofs.Lists.{in-append, append-in, in-keep, keep-in}
+use Rattle.selecting.proofs.Sort.{in-sort, sort-in, sorted-sort}
 use Rattle.selecting.proofs.Greedy.{step, stop, in-greedy, greedy-apart, greedy-order, greedy-blocked}
 use Rattle.selecting.proofs.Unique.{unique-from}
-use Rattle.selecting.proofs.Limits.{greedy-upto, split-upto}
 use Rattle.selecting.proofs.Lazy.{lazy-least, lazy-done}
 
--- which pairs there are
-in-append : (q : Pair) (a b : List Pair) → In q (a ++ b) → In q a ⊎ In q b
-in-append q [] b h = inr h
-in-append q (x ∷ xs) b (inl e) = inl (inl e)
-in-append q (x ∷ xs) b (inr m) = ⊎-elim (λ (k : In q xs). inl (inr k)) (λ (k : In q b). inr k) (in-append q xs b m)
+-- ---- what is taken of a list of pairs, sorted
 
-append-in : (q : Pair) (a b : List Pair) → In q a ⊎ In q b → In q (a ++ b)
-append-in q [] b (inl h) = absurd h
-append-in q [] b (inr h) = h
-append-in q (x ∷ xs) b (inl (inl e)) = inl e
-append-in q (x ∷ xs) b (inl (inr m)) = inr (append-in q xs b (inl m))
-append-in q (x ∷ xs) b (inr m) = inr (append-in q xs b (inr m))
+in-order : (l : List Pair) → Sorted before (sort before l)
+in-order l = sorted-sort before (λ _. Unit {0}) (λ p q _ _. asym p q) (λ p q r _ _ _. least-trans p q r) l (λ _ _. tt)
+
+all-free : (p : Pair) → busy none p ≡ false
+all-free p = unfold busy none in refl
+
+pub taken-settled : (l : List Pair) → Settled before shares l (greedy none (sort before l))
+taken-settled l =
+    record {
+      within = λ p m. in-sort before p l (in-greedy none p (sort before l) m .0);
+      apart = greedy-apart none (sort before l);
+      blocked = λ p m. greedy-blocked none (sort before l) (in-order l) p (sort-in before p l m) (all-free p);
+    }
+
+pub taken-ordered : (l : List Pair) → InOrder before (greedy none (sort before l))
+taken-ordered l = greedy-order none (sort before l) (in-order l)
+
+-- one list in order is settled
+pub settled-ordered : (l s : List Pair) → Settled before shares l s → InOrder before s → s ≡ greedy none (sort before l)
+settled-ordered l s h o =
+    unique-from none (sort before l) (in-order l) s
+    (record {
+      ordered = o;
+      within = λ p m. sort-in before p l (h .within p m);
+      free = λ p m. all-free p;
+      apart = h .apart;
+      blocked = λ p m. inr (h .blocked p (in-sort before p l m));
+    })
+
+-- A set, in whatever order, that is settled in l has the pairs that are taken of l: none of it blocks another, so that all of it is taken of itself.
+module _ (l s : List Pair) (h : Settled before shares l s) where
+  own : List Pair
+  own = greedy none (sort before s)
+
+  own-in : (p : Pair) → In p own → In p s
+  unfolding own
+  own-in p m = taken-settled s .within p m
+
+  in-own : (p : Pair) → In p s → In p own
+  unfolding own
+  in-own p m =
+      ⊎-elim (λ (k : In p (greedy none (sort before s))). k)
+      (λ (k : Blocked before shares (greedy none (sort before s)) p).
+      absurd (tf (k .2) (ap (λ (q : Pair). before q p) (h .apart (k .0) p (taken-settled s .within (k .0) (k .1)) m (k .3)) ∙ irrefl p)))
+      (taken-settled s .blocked p m)
+
+  own-is : own ≡ greedy none (sort before l)
+  own-is =
+      settled-ordered l own
+      (record {
+        within = λ p m. h .within p (own-in p m);
+        apart = λ p q m n. h .apart p q (own-in p m) (own-in q n);
+        blocked = λ p m. ⊎-elim (λ (k : In p s). inl (in-own p k)) (λ (k : Blocked before shares s p). inr (k .0, in-own (k .0) (k .1), k .2, k .3)) (h .blocked p m);
+      })
+      (unfold own in taken-ordered s)
+
+  pub settled-taken : (p : Pair) → In p s → In p (greedy none (sort before l))
+  settled-taken p m = subst (In p) own-is (in-own p m)
+
+  pub taken-settles : (p : Pair) → In p (greedy none (sort before l)) → In p s
+  taken-settles p m = own-in p (subst (In p) (sym own-is) m)
+
+-- what is taken depends on which pairs there are, and on nothing else
+pub same-taken : (l l′ : List Pair) → ((p : Pair) → In p l → In p l′) → ((p : Pair) → In p l′ → In p l) → greedy none (sort before l) ≡ greedy none (sort before l′)
+same-taken l l′ f g =
+    settled-ordered l′ (greedy none (sort before l))
+    (record {
+      within = λ p m. f p (taken-settled l .within p m);
+      apart = taken-settled l .apart;
+      blocked = λ p m. taken-settled l .blocked p (g p m);
+    })
+    (taken-ordered l)
+
+-- ---- which pairs there are
 
 in-column : (key : ℕ → ℕ → ℕ) (j n : ℕ) (q : Pair) → In q (column key j n) → (q .i < n) × (q .j ≡ j) × (q .key ≡ key (q .i) (q .j))
 unfolding column
@@ -76,21 +139,21 @@ module _ (n : Node) (limit : ℕ) where
   unfolding candidates
   candidates-in q e k = keep-in (qualifies n limit) q (pairs (n .key) (n .d)) (pairs-in (n .key) (n .d) q e) k
 
-  -- (d) the least free candidate, and then the selection with its ends taken; none is left where each candidate is busy
+  -- the least free candidate, and then the selection with its ends taken; none is left where each candidate is busy
   pub select-step : (used : ℕ → Bool) (p : Pair) → Least used (candidates n limit) p → selectFrom n limit used ≡ p ∷ selectFrom n limit (mark p used)
   unfolding selectFrom
-  select-step used p h = step used (sort (candidates n limit)) (sorted-sort (candidates n limit)) p
+  select-step used p h = step used (sort before (candidates n limit)) (in-order (candidates n limit)) p
       (record {
-        member = sort-in p (candidates n limit) (h .member);
+        member = sort-in before p (candidates n limit) (h .member);
         free = h .free;
-        first = λ q m. h .first q (in-sort q (candidates n limit) m);
+        first = λ q m. h .first q (in-sort before q (candidates n limit) m);
       })
 
   pub select-stop : (used : ℕ → Bool) → ((q : Pair) → In q (candidates n limit) → busy used q ≡ true) → selectFrom n limit used ≡ []
   unfolding selectFrom
-  select-stop used h = stop used (sort (candidates n limit)) (λ q m. h q (in-sort q (candidates n limit) m))
+  select-stop used h = stop used (sort before (candidates n limit)) (λ q m. h q (in-sort before q (candidates n limit) m))
 
-  -- (e) the lazy law
+  -- the lazy law
   pub select-lazy : (used active : ℕ → Bool) (h : Entry → Type 0) → Covers used (candidates n limit) active h → Enough used (candidates n limit) active
       → (m : Entry) → ((e : Entry) → h e → before (e .best) (m .best) ≡ false) → In (m .best) (candidates n limit) → busy used (m .best) ≡ false
       → selectFrom n limit used ≡ m .best ∷ selectFrom n limit (mark (m .best) used)
@@ -100,58 +163,11 @@ module _ (n : Node) (limit : ℕ) where
       → ((e : Entry) → h e → ⊥) → selectFrom n limit used ≡ []
   select-lazy-stop used active h c e f = select-stop used (lazy-done used (candidates n limit) active h c e f)
 
-  -- (b) no two selected pairs share an end, and each candidate that is not selected is blocked by a selected pair before it
-  pub select-settled : Settled (candidates n limit) (select n limit)
+  -- what is selected is settled in the candidates, and stands in order
+  pub select-settled : Settled before shares (candidates n limit) (select n limit)
   unfolding select selectFrom
-  select-settled =
-      let l = sort (candidates n limit) in
-      let s = sorted-sort (candidates n limit) in
-      record {
-        ordered = greedy-order none l s;
-        within = λ p m. in-sort p (candidates n limit) (in-greedy none p l m .0);
-        apart = greedy-apart none l;
-        blocked = λ p m. greedy-blocked none l s p (sort-in p (candidates n limit) m) (all-free p);
-      }
-    where
-      all-free : (p : Pair) → busy none p ≡ false
-      all-free p = unfold busy none in refl
+  select-settled = taken-settled (candidates n limit)
 
-  -- (c) no other list is so
-  pub select-unique : (s : List Pair) → Settled (candidates n limit) s → s ≡ select n limit
+  pub select-ordered : InOrder before (select n limit)
   unfolding select selectFrom
-  select-unique s h = unique-from none (sort (candidates n limit)) (sorted-sort (candidates n limit)) s
-      (record {
-        ordered = h .ordered;
-        within = λ p m. sort-in p (candidates n limit) (h .within p m);
-        free = λ p m. all-free p;
-        apart = h .apart;
-        blocked = λ p m. inr (h .blocked p (in-sort p (candidates n limit) m));
-      })
-    where
-      all-free : (p : Pair) → busy none p ≡ false
-      all-free p = unfold busy none in refl
-
--- (a) two limits
-leb-both : (a l₁ l₂ : ℕ) (m : Bool) → l₁ ≤ l₂ → (m && leb a l₁) ≡ (m && leb a l₂ && leb a l₁)
-leb-both a l₁ l₂ false h = refl
-leb-both a l₁ l₂ true h = go (two (leb a l₁))
-  where
-    go : (leb a l₁ ≡ true) ⊎ (leb a l₁ ≡ false) → leb a l₁ ≡ (leb a l₂ && leb a l₁)
-    go (inl e) = rw (le-leb a l₂ (omega (arith, leb-true a l₁ e)))
-    go (inr e) = rw e (sym (and-false (leb a l₂)))
-
-qualifies-both : (n : Node) (l₁ l₂ : ℕ) → l₁ ≤ l₂ → (p : Pair) → qualifies n l₁ p ≡ (qualifies n l₂ p && upto l₁ p)
-unfolding qualifies upto
-qualifies-both n l₁ l₂ h p = leb-both (p .key) l₁ l₂ (n .may (p .i) (p .j)) h
-
-pub select-upto : (n : Node) (l₁ l₂ : ℕ) → l₁ ≤ l₂ → select n l₁ ≡ keep (upto l₁) (select n l₂)
-unfolding select selectFrom candidates
-select-upto n l₁ l₂ h =
-    ap (λ (l : List Pair). greedy none (sort l)) (keep-keep (qualifies n l₁) (qualifies n l₂) (upto l₁) (qualifies-both n l₁ l₂ h) (pairs (n .key) (n .d)))
-    ∙ ap (greedy none) (sym (keep-sort (upto l₁) (candidates n l₂)))
-    ∙ greedy-upto l₁ none (sort (candidates n l₂)) (sorted-sort (candidates n l₂))
-
-pub select-begins : (n : Node) (l₁ l₂ : ℕ) → l₁ ≤ l₂ → select n l₂ ≡ select n l₁ ++ keep (over l₁) (select n l₂)
-select-begins n l₁ l₂ h =
-    split-upto l₁ (select n l₂) (select-settled n l₂ .ordered)
-    ∙ ap (λ (l : List Pair). l ++ keep (over l₁) (select n l₂)) (sym (select-upto n l₁ l₂ h))
+  select-ordered = taken-ordered (candidates n limit)

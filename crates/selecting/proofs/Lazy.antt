@@ -1,13 +1,13 @@
 -- The lazy law: where each entry is at or before what its owner still has, the least entry, if its pair is free, is the next pair.
-use Prim.Native.Nat.{ℕ, _≤_, _<_}
+use Prim.Native.Nat.{ℕ}
 use mathlib.Core.Path.{_≡_, refl, sym, _∙_, ap, subst}
-use mathlib.Core.Bool.{Bool, true, false, not, _||_}
+use mathlib.Core.Bool.{Bool, true, false, _||_}
 use mathlib.Core.Logic.{_⊎_, inl, inr, ⊎-elim}
-use mathlib.Core.List.{List, [], _∷_, _++_}
+use mathlib.Core.List.{List}
 use lib.Dec.{eqb}
 use borrow.Author.Tests.{eqb-true, eqb-false}
-use Rattle.selecting.specs.Ranked.{Pair, before, keep, mark, busy, greedy}
-use Rattle.selecting.specs.Sets.{In, Sorted, Entry, EndOf, Covers, Enough, Least}
+use Rattle.selecting.specs.Ranked.{Pair, before, mark, busy}
+use Rattle.selecting.specs.Sets.{In, Entry, EndOf, Covers, Enough, Least}
 use Rattle.selecting.proofs.Order.{two, tf, least-trans, irrefl}
 use Rattle.selecting.proofs.Greedy.{free-less}
 

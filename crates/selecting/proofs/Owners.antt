@@ -10,17 +10,9 @@ use borrow.Author.Tests.{eqb-true, eqb-false}
 use Rattle.selecting.specs.Ranked.{Pair, Node, before, qualifies, candidates, busy}
 use Rattle.selecting.specs.Sets.{In, EndOf, Enough, Ends}
 use Rattle.selecting.specs.Owners.{Stands, Led, Precedes, Chained, AtMostTwice}
-use Rattle.selecting.proofs.Order.{two, tf, irrefl, of-at-before}
+use Rattle.selecting.proofs.Order.{two, and-left, and-right, irrefl, of-at-before}
 use Rattle.selecting.proofs.Greedy.{or-false-left, or-false-right}
 use Rattle.selecting.proofs.Laws.{in-candidates, candidates-in}
-
-pub and-left : (a b : Bool) → (a && b) ≡ true → a ≡ true
-and-left true b e = refl
-and-left false b e = e
-
-pub and-right : (a b : Bool) → (a && b) ≡ true → b ≡ true
-and-right true b e = e
-and-right false b e = absurd (tf e refl)
 
 module _
     (n : Node)

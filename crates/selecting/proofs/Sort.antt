@@ -1,143 +1,128 @@
--- Sorting keeps the pairs, puts them in order, and goes with keeping some of them.
-use Prim.Native.Nat.{ℕ, _≤_, _<_}
-use mathlib.Core.Path.{_≡_, refl, sym, _∙_, ap, subst}
-use mathlib.Core.Bool.{Bool, true, false, cond, _&&_, _||_}
+-- Sorting keeps the elements, puts them in order, and goes with keeping some of them. The order need be one only among the elements of the list, which are
+-- all `good`: what is before is not after, and what is not before goes on through a third.
+use mathlib.Core.Path.{_≡_, refl, sym, _∙_, ap}
+use mathlib.Core.Bool.{Bool, true, false}
 use mathlib.Core.Logic.{_⊎_, inl, inr, ⊎-elim}
-use mathlib.Core.List.{List, [], _∷_, _++_}
-use native.Mathlib.Omega.{arith}
-use Rattle.selecting.specs.Ranked.{Pair, before, insert, sort, keep}
+use mathlib.Core.List.{List, [], _∷_}
+use Rattle.rules.specs.Lists.{keep}
+use Rattle.selecting.specs.Ranked.{insert, sort}
 use Rattle.selecting.specs.Sets.{In, Sorted}
-use Rattle.selecting.proofs.Order.{two, tf, least-trans, asym, before-trans}
+use Rattle.selecting.proofs.Order.{two, tf}
+use Rattle.selecting.proofs.Lists.{in-keep, keep-yes, keep-no}
 
-pub in-insert : (p q : Pair) (l : List Pair) → In q (insert p l) → (q ≡ p) ⊎ In q l
-unfolding insert
-in-insert p q [] h = h
-in-insert p q (x ∷ xs) h = go (before p x) (in-insert p q xs) h
-  where
-    go : (b : Bool) → (In q (insert p xs) → (q ≡ p) ⊎ In q xs) → In q (cond b (p ∷ x ∷ xs) (x ∷ insert p xs)) → (q ≡ p) ⊎ In q (x ∷ xs)
-    go true ih h = h
-    go false ih (inl e) = inr (inl e)
-    go false ih (inr m) = ⊎-elim (λ (e : q ≡ p). inl e) (λ (k : In q xs). inr (inr k)) (ih m)
+module _ {A : Type 0} (before : A → A → Bool) where
+  insert-yes : (p x : A) (xs : List A) → before p x ≡ true → insert before p (x ∷ xs) ≡ p ∷ x ∷ xs
+  unfolding insert
+  insert-yes p x xs e = rw (e, insert)
 
-pub insert-in : (p q : Pair) (l : List Pair) → (q ≡ p) ⊎ In q l → In q (insert p l)
-unfolding insert
-insert-in p q [] h = h
-insert-in p q (x ∷ xs) h = go (before p x) (insert-in p q xs) h
-  where
-    go : (b : Bool) → ((q ≡ p) ⊎ In q xs → In q (insert p xs)) → (q ≡ p) ⊎ In q (x ∷ xs) → In q (cond b (p ∷ x ∷ xs) (x ∷ insert p xs))
-    go true ih h = h
-    go false ih (inl e) = inr (ih (inl e))
-    go false ih (inr (inl e)) = inl e
-    go false ih (inr (inr m)) = inr (ih (inr m))
+  insert-no : (p x : A) (xs : List A) → before p x ≡ false → insert before p (x ∷ xs) ≡ x ∷ insert before p xs
+  unfolding insert
+  insert-no p x xs e = rw (e, insert)
 
-pub in-sort : (q : Pair) (l : List Pair) → In q (sort l) → In q l
-unfolding sort
-in-sort q [] h = h
-in-sort q (x ∷ xs) h = ⊎-elim (λ (e : q ≡ x). inl e) (λ (m : In q (sort xs)). inr (in-sort q xs m)) (in-insert x q (sort xs) h)
+  pub in-insert : (p q : A) (l : List A) → In q (insert before p l) → (q ≡ p) ⊎ In q l
+  unfolding insert
+  in-insert p q [] h = h
+  in-insert p q (x ∷ xs) h = go (before p x) (in-insert p q xs) h
+    where
+      go : (b : Bool) → (In q (insert before p xs) → (q ≡ p) ⊎ In q xs)
+          → In q (elim b as (λ _. List A) [ true ↦ p ∷ x ∷ xs | false ↦ x ∷ insert before p xs ]) → (q ≡ p) ⊎ In q (x ∷ xs)
+      go true ih h = h
+      go false ih (inl e) = inr (inl e)
+      go false ih (inr m) = ⊎-elim (λ (e : q ≡ p). inl e) (λ (k : In q xs). inr (inr k)) (ih m)
 
-pub sort-in : (q : Pair) (l : List Pair) → In q l → In q (sort l)
-unfolding sort
-sort-in q [] h = h
-sort-in q (x ∷ xs) (inl e) = insert-in x q (sort xs) (inl e)
-sort-in q (x ∷ xs) (inr m) = insert-in x q (sort xs) (inr (sort-in q xs m))
+  insert-in : (p q : A) (l : List A) → (q ≡ p) ⊎ In q l → In q (insert before p l)
+  unfolding insert
+  insert-in p q [] h = h
+  insert-in p q (x ∷ xs) h = go (before p x) (insert-in p q xs) h
+    where
+      go : (b : Bool) → ((q ≡ p) ⊎ In q xs → In q (insert before p xs)) → (q ≡ p) ⊎ In q (x ∷ xs)
+          → In q (elim b as (λ _. List A) [ true ↦ p ∷ x ∷ xs | false ↦ x ∷ insert before p xs ])
+      go true ih h = h
+      go false ih (inl e) = inr (ih (inl e))
+      go false ih (inr (inl e)) = inl e
+      go false ih (inr (inr m)) = inr (ih (inr m))
 
-sorted-insert : (p : Pair) (l : List Pair) → Sorted l → Sorted (insert p l)
-unfolding insert
-sorted-insert p [] s = (λ q m. absurd m, tt)
-sorted-insert p (x ∷ xs) s = go (before p x) refl (sorted-insert p xs (s .1))
-  where
-    go : (b : Bool) → before p x ≡ b → Sorted (insert p xs) → Sorted (cond b (p ∷ x ∷ xs) (x ∷ insert p xs))
-    go true e ih = (first, s)
+  pub in-sort : (q : A) (l : List A) → In q (sort before l) → In q l
+  unfolding sort
+  in-sort q [] h = h
+  in-sort q (x ∷ xs) h = ⊎-elim (λ (e : q ≡ x). inl e) (λ (m : In q (sort before xs)). inr (in-sort q xs m)) (in-insert x q (sort before xs) h)
+
+  pub sort-in : (q : A) (l : List A) → In q l → In q (sort before l)
+  unfolding sort
+  sort-in q [] h = h
+  sort-in q (x ∷ xs) (inl e) = insert-in x q (sort before xs) (inl e)
+  sort-in q (x ∷ xs) (inr m) = insert-in x q (sort before xs) (inr (sort-in q xs m))
+
+  module _
+      (good : A → Type 0)
+      (asym : (p q : A) → good p → good q → before p q ≡ true → before q p ≡ false)
+      (least-trans : (p q r : A) → good p → good q → good r → before q p ≡ false → before r q ≡ false → before r p ≡ false) where
+    sorted-insert : (p : A) (l : List A) → good p → ((q : A) → In q l → good q) → Sorted before l → Sorted before (insert before p l)
+    unfolding insert
+    sorted-insert p [] g h s = (λ q m. absurd m, tt)
+    sorted-insert p (x ∷ xs) g h s = go (before p x) refl (sorted-insert p xs g (λ q m. h q (inr m)) (s .1))
       where
-        first : (q : Pair) → In q (x ∷ xs) → before q p ≡ false
-        first q (inl m) = rw m (asym p x e)
-        first q (inr m) = least-trans p x q (asym p x e) (s .0 q m)
-    go false e ih = (λ q m. ⊎-elim (λ (k : q ≡ p). rw k e) (λ (k : In q xs). s .0 q k) (in-insert p q xs m), ih)
+        go : (b : Bool) → before p x ≡ b → Sorted before (insert before p xs)
+            → Sorted before (elim b as (λ _. List A) [ true ↦ p ∷ x ∷ xs | false ↦ x ∷ insert before p xs ])
+        go true e ih = (first, s)
+          where
+            first : (q : A) → In q (x ∷ xs) → before q p ≡ false
+            first q (inl m) = rw m (asym p x g (h x (inl refl)) e)
+            first q (inr m) = least-trans p x q g (h x (inl refl)) (h q (inr m)) (asym p x g (h x (inl refl)) e) (s .0 q m)
+        go false e ih = (λ q m. ⊎-elim (λ (k : q ≡ p). rw k e) (λ (k : In q xs). s .0 q k) (in-insert p q xs m), ih)
 
-pub sorted-sort : (l : List Pair) → Sorted (sort l)
-unfolding sort
-sorted-sort [] = tt
-sorted-sort (x ∷ xs) = sorted-insert x (sort xs) (sorted-sort xs)
+    pub sorted-sort : (l : List A) → ((q : A) → In q l → good q) → Sorted before (sort before l)
+    unfolding sort
+    sorted-sort [] h = tt
+    sorted-sort (x ∷ xs) h =
+        sorted-insert x (sort before xs) (h x (inl refl)) (λ q m. h q (inr (in-sort q xs m))) (sorted-sort xs (λ q m. h q (inr m)))
 
--- keeping
+    module _ (f : A → Bool) where
+      -- what is before all of a list goes in front
+      insert-first : (p : A) (l : List A) → ((q : A) → In q l → before p q ≡ true) → insert before p l ≡ p ∷ l
+      insert-first p [] h = unfold insert in refl
+      insert-first p (x ∷ xs) h = insert-yes p x xs (h x (inl refl))
 
-pub in-keep : (f : Pair → Bool) (q : Pair) (l : List Pair) → In q (keep f l) → In q l × (f q ≡ true)
-unfolding keep
-in-keep f q [] h = absurd h
-in-keep f q (x ∷ xs) h = go (f x) refl (in-keep f q xs) h
-  where
-    go : (b : Bool) → f x ≡ b → (In q (keep f xs) → In q xs × (f q ≡ true)) → In q (cond b (x ∷ keep f xs) (keep f xs)) → In q (x ∷ xs) × (f q ≡ true)
-    go true e ih (inl k) = (inl k, ap f k ∙ e)
-    go true e ih (inr k) = (inr (ih k .0), ih k .1)
-    go false e ih k = (inr (ih k .0), ih k .1)
+      keep-insert-yes : (p : A) (l : List A) → good p → ((q : A) → In q l → good q) → Sorted before l → f p ≡ true
+          → keep f (insert before p l) ≡ insert before p (keep f l)
+      unfolding insert keep
+      keep-insert-yes p [] g h s e = keep-yes f p [] e
+      keep-insert-yes p (x ∷ xs) g h s e = go (two (before p x)) (two (f x)) (keep-insert-yes p xs g (λ q m. h q (inr m)) (s .1) e)
+        where
+          -- p is before x, and so before all of the list
+          ahead : before p x ≡ true → (q : A) → In q xs → before p q ≡ true
+          ahead b q m =
+              ⊎-elim (λ (k : before p q ≡ true). k)
+              (λ (k : before p q ≡ false). absurd (tf b (least-trans x q p (h x (inl refl)) (h q (inr m)) g (s .0 q m) k)))
+              (two (before p q))
 
-pub keep-in : (f : Pair → Bool) (q : Pair) (l : List Pair) → In q l → f q ≡ true → In q (keep f l)
-unfolding keep
-keep-in f q [] h e = h
-keep-in f q (x ∷ xs) h e = go (f x) refl (λ k. keep-in f q xs k e) h
-  where
-    go : (b : Bool) → f x ≡ b → (In q xs → In q (keep f xs)) → In q (x ∷ xs) → In q (cond b (x ∷ keep f xs) (keep f xs))
-    go true d ih (inl k) = inl k
-    go true d ih (inr k) = inr (ih k)
-    go false d ih (inl k) = absurd (tf (sym (ap f k) ∙ e) d)
-    go false d ih (inr k) = ih k
+          go : (before p x ≡ true) ⊎ (before p x ≡ false) → (f x ≡ true) ⊎ (f x ≡ false) → keep f (insert before p xs) ≡ insert before p (keep f xs)
+              → keep f (insert before p (x ∷ xs)) ≡ insert before p (keep f (x ∷ xs))
+          go (inl b) (inl c) ih = rw (insert-yes p x xs b, keep-yes f p (x ∷ xs) e, keep-yes f x xs c, insert-yes p x (keep f xs) b)
+          go (inl b) (inr c) ih =
+              rw (insert-yes p x xs b, keep-yes f p (x ∷ xs) e, keep-no f x xs c) (sym (insert-first p (keep f xs) (λ q m. ahead b q (in-keep f q xs m .0))))
+          go (inr b) (inl c) ih = rw (insert-no p x xs b, keep-yes f x (insert before p xs) c, keep-yes f x xs c, insert-no p x (keep f xs) b, ih)
+          go (inr b) (inr c) ih = rw (insert-no p x xs b, keep-no f x (insert before p xs) c, keep-no f x xs c) ih
 
-pub keep-true : (f : Pair → Bool) (x : Pair) (xs : List Pair) → f x ≡ true → keep f (x ∷ xs) ≡ x ∷ keep f xs
-unfolding keep
-keep-true f x xs e = rw e
+      keep-insert-no : (p : A) (l : List A) → f p ≡ false → keep f (insert before p l) ≡ keep f l
+      keep-insert-no p [] e = unfold insert in keep-no f p [] e
+      keep-insert-no p (x ∷ xs) e = go (two (before p x)) (two (f x)) (keep-insert-no p xs e)
+        where
+          go : (before p x ≡ true) ⊎ (before p x ≡ false) → (f x ≡ true) ⊎ (f x ≡ false) → keep f (insert before p xs) ≡ keep f xs
+              → keep f (insert before p (x ∷ xs)) ≡ keep f (x ∷ xs)
+          go (inl b) c ih = rw (insert-yes p x xs b) (keep-no f p (x ∷ xs) e)
+          go (inr b) (inl c) ih = rw (insert-no p x xs b, keep-yes f x (insert before p xs) c, keep-yes f x xs c, ih)
+          go (inr b) (inr c) ih = rw (insert-no p x xs b, keep-no f x (insert before p xs) c, keep-no f x xs c) ih
 
-pub keep-false : (f : Pair → Bool) (x : Pair) (xs : List Pair) → f x ≡ false → keep f (x ∷ xs) ≡ keep f xs
-unfolding keep
-keep-false f x xs e = rw e
-
--- what is before all of a list goes in front
-insert-first : (p : Pair) (l : List Pair) → ((q : Pair) → In q l → before p q ≡ true) → insert p l ≡ p ∷ l
-unfolding insert
-insert-first p [] h = refl
-insert-first p (x ∷ xs) h = rw (h x (inl refl))
-
-keep-insert-true : (f : Pair → Bool) (p : Pair) (l : List Pair) → Sorted l → f p ≡ true → keep f (insert p l) ≡ insert p (keep f l)
-unfolding insert keep
-keep-insert-true f p [] s e = rw e
-keep-insert-true f p (x ∷ xs) s e = go (before p x) (f x) refl refl (keep-insert-true f p xs (s .1) e)
-  where
-    go : (b c : Bool) → before p x ≡ b → f x ≡ c → keep f (insert p xs) ≡ insert p (keep f xs)
-        → keep f (cond b (p ∷ x ∷ xs) (x ∷ insert p xs)) ≡ insert p (cond c (x ∷ keep f xs) (keep f xs))
-    go true true hb hc ih = rw (e, hc, hb)
-    go true false hb hc ih = rw (e, hc) (sym (insert-first p (keep f xs) (λ q m. before-trans p x q hb (s .0 q (in-keep f q xs m .0)))))
-    go false true hb hc ih = rw (hc, hb, ih)
-    go false false hb hc ih = rw hc ih
-
-keep-insert-false : (f : Pair → Bool) (p : Pair) (l : List Pair) → f p ≡ false → keep f (insert p l) ≡ keep f l
-unfolding insert keep
-keep-insert-false f p [] e = rw e
-keep-insert-false f p (x ∷ xs) e = go (before p x) (keep-insert-false f p xs e)
-  where
-    go : (b : Bool) → keep f (insert p xs) ≡ keep f xs → keep f (cond b (p ∷ x ∷ xs) (x ∷ insert p xs)) ≡ keep f (x ∷ xs)
-    go true ih = rw e
-    go false ih = rw ih
-
-pub keep-sort : (f : Pair → Bool) (l : List Pair) → keep f (sort l) ≡ sort (keep f l)
-unfolding sort keep
-keep-sort f [] = refl
-keep-sort f (x ∷ xs) = go (f x) refl (keep-sort f xs)
-  where
-    go : (b : Bool) → f x ≡ b → keep f (sort xs) ≡ sort (keep f xs) → keep f (insert x (sort xs)) ≡ sort (cond b (x ∷ keep f xs) (keep f xs))
-    go true e ih = keep-insert-true f x (sort xs) (sorted-sort xs) e ∙ ap (insert x) ih
-    go false e ih = keep-insert-false f x (sort xs) e ∙ ih
-
--- keeping twice
-pub keep-keep : (f g h : Pair → Bool) → ((p : Pair) → f p ≡ (g p && h p)) → (l : List Pair) → keep f l ≡ keep h (keep g l)
-unfolding keep
-keep-keep f g h e [] = refl
-keep-keep f g h e (x ∷ xs) = go (g x) (h x) refl refl (keep-keep f g h e xs)
-  where
-    go : (b c : Bool) → g x ≡ b → h x ≡ c → keep f xs ≡ keep h (keep g xs) → cond (f x) (x ∷ keep f xs) (keep f xs) ≡ keep h (cond b (x ∷ keep g xs) (keep g xs))
-    go true true hb hc ih = rw (e x, hb, hc, ih)
-    go true false hb hc ih = rw (e x, hb, hc, ih)
-    go false c hb hc ih = rw (e x, hb, ih)
-
--- keeping all, and none
-pub keep-none : (f : Pair → Bool) (l : List Pair) → ((p : Pair) → In p l → f p ≡ false) → keep f l ≡ []
-keep-none f [] h = unfold keep in refl
-keep-none f (x ∷ xs) h = keep-false f x xs (h x (inl refl)) ∙ keep-none f xs (λ p m. h p (inr m))
+      pub keep-sort : (l : List A) → ((q : A) → In q l → good q) → keep f (sort before l) ≡ sort before (keep f l)
+      unfolding sort
+      keep-sort [] h = unfold keep in refl
+      keep-sort (x ∷ xs) h = go (two (f x)) (keep-sort xs (λ q m. h q (inr m)))
+        where
+          go : (f x ≡ true) ⊎ (f x ≡ false) → keep f (sort before xs) ≡ sort before (keep f xs)
+              → keep f (insert before x (sort before xs)) ≡ sort before (keep f (x ∷ xs))
+          go (inl e) ih =
+              keep-insert-yes x (sort before xs) (h x (inl refl)) (λ q m. h q (inr (in-sort q xs m))) (sorted-sort xs (λ q m. h q (inr m))) e
+              ∙ ap (insert before x) ih
+              ∙ sym (ap (sort before) (keep-yes f x xs e))
+          go (inr e) ih = keep-insert-no x (sort before xs) e ∙ ih ∙ sym (ap (sort before) (keep-no f x xs e))

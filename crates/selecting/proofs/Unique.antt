@@ -1,6 +1,6 @@
 -- One list alone is in order, has no two pairs that share an end, and blocks each pair that it lacks: what is taken from left to right.
 use Prim.Native.Nat.{ℕ}
-use mathlib.Core.Path.{_≡_, refl, sym, _∙_, ap, subst}
+use mathlib.Core.Path.{_≡_, refl, sym, _∙_, ap}
 use mathlib.Core.Bool.{Bool, true, false}
 use mathlib.Core.Logic.{_⊎_, inl, inr, ⊎-elim}
 use mathlib.Core.List.{List, [], _∷_}
@@ -11,11 +11,11 @@ use Rattle.selecting.proofs.Greedy.{greedy-nil, greedy-busy, greedy-fre
 
 -- s is settled in l, where the ends `used` are taken already
 pub record SettledFrom (used : ℕ → Bool) (l s : List Pair) : Type 0 where
-  pub ordered : InOrder s
+  pub ordered : InOrder before s
   pub within : (p : Pair) → In p s → In p l
   pub free : (p : Pair) → In p s → busy used p ≡ false
   pub apart : (p q : Pair) → In p s → In q s → shares p q ≡ true → p ≡ q
-  pub blocked : (p : Pair) → In p l → (busy used p ≡ true) ⊎ (In p s ⊎ Blocked s p)
+  pub blocked : (p : Pair) → In p l → (busy used p ≡ true) ⊎ (In p s ⊎ Blocked before shares s p)
 
 -- the first pair of l is busy: it is not in s
 skipped : (used : ℕ → Bool) (x : Pair) (xs s : List Pair) → busy used x ≡ true → SettledFrom used (x ∷ xs) s → SettledFrom used xs s
@@ -27,19 +27,19 @@ skipped used x xs s b h = record {
   blocked = λ p m. h .blocked p (inr m);
 }
 
-not-before-first : (x : Pair) (xs : List Pair) → Sorted (x ∷ xs) → (b : Pair) → In b (x ∷ xs) → before b x ≡ true → ⊥
+not-before-first : (x : Pair) (xs : List Pair) → Sorted before (x ∷ xs) → (b : Pair) → In b (x ∷ xs) → before b x ≡ true → ⊥
 not-before-first x xs s b (inl e) h = tf h (ap (λ (t : Pair). before t x) e ∙ irrefl x)
 not-before-first x xs s b (inr m) h = tf h (s .0 b m)
 
 -- the first pair of l is free: it is the first of s
-taken : (used : ℕ → Bool) (x : Pair) (xs : List Pair) (y : Pair) (ys : List Pair) → Sorted (x ∷ xs) → busy used x ≡ false → SettledFrom used (x ∷ xs) (y ∷ ys) → x ≡ y
+taken : (used : ℕ → Bool) (x : Pair) (xs : List Pair) (y : Pair) (ys : List Pair) → Sorted before (x ∷ xs) → busy used x ≡ false → SettledFrom used (x ∷ xs) (y ∷ ys) → x ≡ y
 taken used x xs y ys s b h = which (h .blocked x (inl refl))
   where
     here : In x (y ∷ ys) → x ≡ y
     here (inl e) = e
     here (inr m) = absurd (not-before-first x xs s y (h .within y (inl refl)) (h .ordered .0 x m))
 
-    which : (busy used x ≡ true) ⊎ (In x (y ∷ ys) ⊎ Blocked (y ∷ ys) x) → x ≡ y
+    which : (busy used x ≡ true) ⊎ (In x (y ∷ ys) ⊎ Blocked before shares (y ∷ ys) x) → x ≡ y
     which (inl e) = absurd (tf e b)
     which (inr (inl m)) = here m
     which (inr (inr k)) = absurd (not-before-first x xs s (k .0) (h .within (k .0) (k .1)) (k .2))
@@ -47,7 +47,7 @@ taken used x xs y ys s b h = which (h .blocked x (inl refl))
 none-left : (used : ℕ → Bool) (x : Pair) (xs : List Pair) → busy used x ≡ false → SettledFrom used (x ∷ xs) [] → ⊥
 none-left used x xs b h = which (h .blocked x (inl refl))
   where
-    which : (busy used x ≡ true) ⊎ (In x [] ⊎ Blocked [] x) → ⊥
+    which : (busy used x ≡ true) ⊎ (In x [] ⊎ Blocked before shares [] x) → ⊥
     which (inl e) = tf e b
     which (inr (inl m)) = m
     which (inr (inr k)) = k .1
@@ -74,14 +74,14 @@ rest used x xs y ys e h = record {
         (λ (b : busy (mark x used) p ≡ false). b)
         (two (busy (mark x used) p))
 
-    blocked : (p : Pair) → (busy used p ≡ true) ⊎ (In p (y ∷ ys) ⊎ Blocked (y ∷ ys) p) → (busy (mark x used) p ≡ true) ⊎ (In p ys ⊎ Blocked ys p)
+    blocked : (p : Pair) → (busy used p ≡ true) ⊎ (In p (y ∷ ys) ⊎ Blocked before shares (y ∷ ys) p) → (busy (mark x used) p ≡ true) ⊎ (In p ys ⊎ Blocked before shares ys p)
     blocked p (inl b) = inl (busy-more x p used b)
     blocked p (inr (inl (inl k))) = inl (busy-shared x p used (ap (shares x) (k ∙ sym e) ∙ shares-self x))
     blocked p (inr (inl (inr k))) = inr (inl k)
     blocked p (inr (inr (b, inl k, c, d))) = inl (busy-shared x p used (ap (λ (t : Pair). shares t p) (e ∙ sym k) ∙ d))
     blocked p (inr (inr (b, inr k, c, d))) = inr (inr (b, k, c, d))
 
-pub unique-from : (used : ℕ → Bool) (l : List Pair) → Sorted l → (s : List Pair) → SettledFrom used l s → s ≡ greedy used l
+pub unique-from : (used : ℕ → Bool) (l : List Pair) → Sorted before l → (s : List Pair) → SettledFrom used l s → s ≡ greedy used l
 unique-from used [] o [] h = sym (greedy-nil used)
 unique-from used [] o (y ∷ ys) h = absurd (h .within y (inl refl))
 unique-from used (x ∷ xs) o [] h = ⊎-elim

@@ -1,9 +1,10 @@
 -- The book's selection with each measure replaced by its key, a whole number that ranks it: this is what the routes compare.
 -- The qualifying pairs in order of key, then i, then j; a pair is taken if neither end is taken.
 use Prim.Native.Nat.{ℕ, zero, suc}
-use mathlib.Core.Bool.{Bool, true, false, cond, _&&_, _||_}
+use mathlib.Core.Bool.{Bool, true, false, _&&_, _||_}
 use mathlib.Core.List.{List, [], _∷_, _++_}
 use lib.Dec.{ltb, leb, eqb}
+use Rattle.rules.specs.Lists.{keep}
 
 -- a pair of ends, i below j, with its key
 pub record Pair : Type 0 where
@@ -11,7 +12,7 @@ pub record Pair : Type 0 where
   pub i : ℕ
   pub j : ℕ
 
--- d ends; which two may be paired at all (different pieces, both directions present, the measure no NaN); the key of two
+-- d ends; which two may be paired at all (different pieces, both directions present); the key of two, for a NaN one above every limit's
 pub record Node : Type 0 where
   pub d : ℕ
   pub may : ℕ → ℕ → Bool
@@ -27,10 +28,6 @@ unfoldable pub pairs : (ℕ → ℕ → ℕ) → ℕ → List Pair
 pairs key zero = []
 pairs key (suc n) = column key n n ++ pairs key n
 
-unfoldable pub keep : (Pair → Bool) → List Pair → List Pair
-keep f [] = []
-keep f (p ∷ ps) = cond (f p) (p ∷ keep f ps) (keep f ps)
-
 -- p may be paired, and its key is at or below the limit
 unfoldable pub qualifies : Node → ℕ → Pair → Bool
 qualifies n limit p = n .may (p .i) (p .j) && leb (p .key) limit
@@ -44,13 +41,16 @@ before p q =
     ltb (p .key) (q .key)
     || eqb (p .key) (q .key) && (ltb (p .i) (q .i) || eqb (p .i) (q .i) && ltb (p .j) (q .j))
 
-unfoldable pub insert : Pair → List Pair → List Pair
-insert p [] = p ∷ []
-insert p (q ∷ qs) = cond (before p q) (p ∷ q ∷ qs) (q ∷ insert p qs)
+-- in an order, each after those that are not after it
+module _ {A : Type 0} (first : A → A → Bool) where
+  unfoldable pub insert : A → List A → List A
+  insert p [] = p ∷ []
+  insert p (q ∷ qs) = elim (first p q) [ true ↦ p ∷ q ∷ qs | false ↦ q ∷ insert p qs ]
 
-unfoldable pub sort : List Pair → List Pair
-sort [] = []
-sort (p ∷ ps) = insert p (sort ps)
+  unfoldable pub sort : List A → List A
+  unfolding insert
+  sort [] = []
+  sort (p ∷ ps) = insert p (sort ps)
 
 -- the ends taken once p is taken
 unfoldable pub mark : Pair → (ℕ → Bool) → ℕ → Bool
@@ -69,7 +69,7 @@ none e = false
 
 -- what is selected where some ends are taken already
 unfoldable pub selectFrom : Node → ℕ → (ℕ → Bool) → List Pair
-selectFrom n limit used = greedy used (sort (candidates n limit))
+selectFrom n limit used = greedy used (sort before (candidates n limit))
 
 unfoldable pub select : Node → ℕ → List Pair
 select n limit = selectFrom n limit none

@@ -1,10 +1,10 @@
 -- What the laws of selection speak of: a pair in a list, a list in order, pairs that share an end.
 use Prim.Native.Nat.{ℕ, _<_}
 use mathlib.Core.Path.{_≡_}
-use mathlib.Core.Bool.{Bool, true, false, not, _||_}
+use mathlib.Core.Bool.{Bool, true, false, _||_}
 use mathlib.Core.Logic.{_⊎_}
 use mathlib.Core.List.{List, [], _∷_}
-use lib.Dec.{eqb, leb}
+use lib.Dec.{eqb}
 use Rattle.selecting.specs.Ranked.{Pair, before, busy}
 
 -- q is a pair of ends below d, the lower first, with its key
@@ -18,32 +18,33 @@ abbrev pub In : {A : Type 0} → A → List A → Type 0
 In p [] = ⊥
 In p (q ∷ qs) = (p ≡ q) ⊎ In p qs
 
--- no later pair is before an earlier one
-abbrev pub Sorted : List Pair → Type 0
-Sorted [] = Unit {0}
-Sorted (p ∷ ps) = ((q : Pair) → In q ps → before q p ≡ false) × Sorted ps
+module _ {A : Type 0} (before : A → A → Bool) where
+  -- no later one is before an earlier one
+  abbrev pub Sorted : List A → Type 0
+  Sorted [] = Unit {0}
+  Sorted (p ∷ ps) = ((q : A) → In q ps → before q p ≡ false) × Sorted ps
 
--- each pair is before each later one
-abbrev pub InOrder : List Pair → Type 0
-InOrder [] = Unit {0}
-InOrder (p ∷ ps) = ((q : Pair) → In q ps → before p q ≡ true) × InOrder ps
+  -- each is before each later one
+  abbrev pub InOrder : List A → Type 0
+  InOrder [] = Unit {0}
+  InOrder (p ∷ ps) = ((q : A) → In q ps → before p q ≡ true) × InOrder ps
+
+  module _ (shares : A → A → Bool) where
+    -- one of s that is before p shares an end with it
+    abbrev pub Blocked : List A → A → Type 0
+    Blocked s p = (b : A) × In b s × (before b p ≡ true) × (shares b p ≡ true)
+
+    -- s is settled in l: no two of it share an end, and each of l that is not in it is blocked by one in it
+    pub record Settled (l s : List A) : Type 0 where
+      pub within : (p : A) → In p s → In p l
+      pub apart : (p q : A) → In p s → In q s → shares p q ≡ true → p ≡ q
+      pub blocked : (p : A) → In p l → In p s ⊎ Blocked s p
 
 -- p and q share an end
 unfoldable pub shares : Pair → Pair → Bool
 shares p q = eqb (q .i) (p .i) || eqb (q .i) (p .j) || eqb (q .j) (p .i) || eqb (q .j) (p .j)
 
--- a pair of s that is before p shares an end with it
-abbrev pub Blocked : List Pair → Pair → Type 0
-Blocked s p = (b : Pair) × In b s × (before b p ≡ true) × (shares b p ≡ true)
-
--- a set of pairs of `ps`, as a list in order: no two share an end, and each pair of `ps` that is not in it is blocked by one in it
-pub record Settled (ps s : List Pair) : Type 0 where
-  pub ordered : InOrder s
-  pub within : (p : Pair) → In p s → In p ps
-  pub apart : (p q : Pair) → In p s → In q s → shares p q ≡ true → p ≡ q
-  pub blocked : (p : Pair) → In p ps → In p s ⊎ Blocked s p
-
--- `least used l p`: p is a free pair of l, and no free pair of l is before it
+-- p is a free pair of l, and no free pair of l is before it
 pub record Least (used : ℕ → Bool) (l : List Pair) (p : Pair) : Type 0 where
   pub member : In p l
   pub free : busy used p ≡ false
@@ -68,13 +69,6 @@ abbrev pub Enough : (ℕ → Bool) → List Pair → (ℕ → Bool) → Type 0
 Enough used l active =
     (q : Pair) → In q l → busy used q ≡ false
     → (p : Pair) × (o : ℕ) × In p l × (busy used p ≡ false) × (before q p ≡ false) × (active o ≡ true) × EndOf o p
-
--- p's key isn't above the limit
-unfoldable pub upto : ℕ → Pair → Bool
-upto limit p = leb (p .key) limit
-
-unfoldable pub over : ℕ → Pair → Bool
-over limit p = not (leb (p .key) limit)
 
 -- each free pair (i, j) is at or after one that row i holds; `h i p` says that row i holds p
 abbrev pub HeldRows : (ℕ → Bool) → List Pair → (ℕ → Pair → Type 0) → Type 0

@@ -1,0 +1,102 @@
+-- The test of a record, arm by arm, and what a chain that stands gives: its record is in the table, and its coordinates in the slice of its source.
+use Prim.Native.Nat.{ℕ, zero, suc, _+_, _-_, _*_, _/_, _≤_, _<_}
+use mathlib.Core.Path.{_≡_, refl}
+use mathlib.Core.Bool.{Bool, true, false, _||_}
+use mathlib.Core.List.{List, []}
+use native.Mathlib.Omega.{arith}
+use borrow.Author.Tests.{lt-ltb, le-ltb, ltb-false, ltb-true}
+use lib.Dec.{ltb}
+use lib.ListN.{length, take, drop}
+use Rattle.rules.specs.Refusals.{noChain, sourceOf, sourceAt, firstAt, countAt, chainRefusalOf, firstOf}
+use Rattle.rules.specs.declared.Answer.the-variants.{Accepted, Refused}
+use Rattle.rules.specs.Calls.{asked, viewed, answerOf, unless}
+
+module _ (input merged table : List ℕ) (k : ℕ) where
+  pub no-record : length table / 5 ≤ k → noChain input merged table k ≡ true
+  unfolding noChain
+  no-record h = simp (lt-ltb (length table) (k * 5 + 5) (omega arith))
+
+  pub no-source : k < length table / 5 → 1 < sourceAt table k → noChain input merged table k ≡ true
+  unfolding noChain
+  no-source h s = simp (le-ltb (length table) (k * 5 + 5) (omega arith), lt-ltb 1 (sourceAt table k) s)
+
+  pub room-input : k < length table / 5 → sourceAt table k ≡ 0
+      → noChain input merged table k ≡ ltb (length input) ((firstAt table k + countAt table k) * 2)
+  unfolding noChain sourceOf
+  room-input h s = simp (le-ltb (length table) (k * 5 + 5) (omega arith), s)
+
+  pub room-merged : k < length table / 5 → sourceAt table k ≤ 1 → (sourceAt table k ≡ 0 → ⊥)
+      → noChain input merged table k ≡ ltb (length merged) ((firstAt table k + countAt table k) * 2)
+  unfolding noChain sourceOf
+  room-merged h s z =
+      let e : sourceAt table k ≡ 1 = omega arith in
+      simp (le-ltb (length table) (k * 5 + 5) (omega arith), e)
+
+-- ---- a chain that stands
+
+-- the part from f to f + c has c elements
+part-is : (l : List ℕ) (f c : ℕ) → take (f + c - f) (drop f l) ≡ take c (drop f l)
+part-is l f c = let p : f + c - f ≡ c = omega arith in rw p
+
+or-false : (a b : Bool) → a || b ≡ false → (a ≡ false) × (b ≡ false)
+or-false true b e = let z : _≡_ {A = ℕ} 0 1 = cc in absurd (omega arith)
+or-false false b e = (refl, e)
+
+pub record Stands (input merged table : List ℕ) (k : ℕ) : Type 0 where
+  pub row : k * 5 + 5 ≤ length table
+  pub source : sourceAt table k ≤ 1
+  pub part : (firstAt table k + countAt table k) * 2 ≤ length (sourceOf (sourceAt table k) input merged)
+
+module _ (input merged table : List ℕ) (k : ℕ) where
+  pub stands : noChain input merged table k ≡ false → Stands input merged table k
+  unfolding noChain
+  stands e =
+      let p = or-false _ _ e in
+      let q = or-false _ _ (p .1) in
+      record {
+        row = ltb-false _ _ (p .0);
+        source = ltb-false _ _ (q .0);
+        part = ltb-false _ _ (q .1);
+      }
+
+  pub refused : noChain input merged table k ≡ true → chainRefusalOf input merged table k ≡ 10
+  unfolding chainRefusalOf firstOf
+  refused e = rw (e, firstOf)
+
+  pub accepted : noChain input merged table k ≡ false → chainRefusalOf input merged table k ≡ 0
+  unfolding chainRefusalOf firstOf
+  accepted e = rw (e, firstOf)
+
+  pub view-none : noChain input merged table k ≡ true → [] ≡ viewed input merged table k
+  unfolding viewed unless
+  view-none e = rw (refused e)
+
+  pub view-input : noChain input merged table k ≡ false → sourceAt table k ≡ 0
+      → take (firstAt table k * 2 + countAt table k * 2 - firstAt table k * 2) (drop (firstAt table k * 2) input) ≡ viewed input merged table k
+  unfolding viewed unless sourceOf
+  view-input e s = rw (accepted e, s, part-is)
+
+  pub view-merged : noChain input merged table k ≡ false → sourceAt table k ≡ 1
+      → take (firstAt table k * 2 + countAt table k * 2 - firstAt table k * 2) (drop (firstAt table k * 2) merged) ≡ viewed input merged table k
+  unfolding viewed unless sourceOf
+  view-merged e s = rw (accepted e, s, part-is)
+
+  pub asked-none : noChain input merged table k ≡ true → Refused 10 ≡ asked input merged table k
+  unfolding asked answerOf unless
+  asked-none e = rw (refused e)
+
+  pub asked-there : noChain input merged table k ≡ false → Accepted 0 ≡ asked input merged table k
+  unfolding asked answerOf unless
+  asked-there e = rw (accepted e)
+
+  pub inside-input : Stands input merged table k → sourceAt table k ≡ 0 → (firstAt table k + countAt table k) * 2 ≤ length input
+  unfolding sourceOf
+  inside-input s e = let p = s .part in rw e at p
+
+  pub inside-merged : Stands input merged table k → sourceAt table k ≡ 1 → (firstAt table k + countAt table k) * 2 ≤ length merged
+  unfolding sourceOf
+  inside-merged s e = let p = s .part in rw e at p
+
+-- a source that isn't 0 is 1
+pub one : {input merged table : List ℕ} {k : ℕ} → Stands input merged table k → (sourceAt table k ≡ 0 → ⊥) → sourceAt table k ≡ 1
+one s z = let h = s .source in omega arith

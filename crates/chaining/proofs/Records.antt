@@ -1,0 +1,107 @@
+-- Records: record k of the table names chain k's members among the members, and its points among the merged ones or its own line's.
+-- It is true because a record counts what the chains before it wrote, and what they wrote stands before.
+use Prim.Native.Nat.{ℕ, zero, suc, _+_, _-_, _*_}
+use mathlib.Core.Path.{_≡_, refl, sym, ap, ap₂, _∙_}
+use mathlib.Core.Bool.{Bool, true, false}
+use mathlib.Core.List.{List, [], _∷_, _++_, flatMap, append-assoc}
+use native.Mathlib.Omega.{arith}
+use native.Mathlib.Nat.{add-zero, zero-add}
+use lib.ListN.{length, getD, take, drop, length-append}
+use lib.Seq.{take-at, drop-at, drop-drop}
+use Rattle.rules.specs.Lists.{total}
+use Rattle.rules.specs.Plane.{Point, flat}
+use Rattle.rules.specs.Chaining.{Piece}
+use Rattle.rules.specs.Refusals.{recordSize}
+use Rattle.rules.specs.Layout.{lines, copied, copy, five, table}
+use Rattle.chaining.proofs.Lines.{flatMap-append}
+use Rattle.chaining.proofs.Sound.{noLine}
+
+-- what stands between two others
+part : {A : Type 0} (a x b : List A) (m n : ℕ) → length a ≡ m → length x ≡ n → take n (drop m (a ++ (x ++ b))) ≡ x
+part a x b m n h k = ap (take n) (drop-at a (x ++ b) m h) ∙ take-at x b n k
+
+pub flat-append : (a b : List Point) → flat (a ++ b) ≡ flat a ++ flat b
+unfolding flat
+flat-append [] b = refl
+flat-append (p ∷ a) b = ap {B = List ℕ} (λ l. p .x ∷ p .y ∷ l) (flat-append a b)
+
+pub flat-length : (a : List Point) → length (flat a) ≡ 2 * length a
+unfolding flat
+flat-length [] = refl
+flat-length (p ∷ a) = omega (arith, flat-length a)
+
+five-length : (counts : List ℕ) (m c : ℕ) (p : Piece) → length (five counts m c p) ≡ recordSize
+unfolding five
+five-length counts m c p = go (copied p) refl
+  where
+    go : (t : Bool) → copied p ≡ t → length (five counts m c p) ≡ recordSize
+    go true e = rw (e, five)
+    go false e = rw (e, five)
+
+module _ (counts : List ℕ) (p : Piece) (post : List Piece) where
+  split : (m c : ℕ) (pre : List Piece)
+      → table counts m c (pre ++ (p ∷ post))
+      ≡ table counts m c pre
+      ++ (five counts (m + length (flatMap (λ p. p .lines) pre)) (c + length (flatMap copy pre)) p
+      ++ table counts (m + length (flatMap (λ p. p .lines) pre) + length (p .lines)) (c + length (flatMap copy pre) + length (copy p)) post)
+  unfolding table flatMap
+  split m c [] =
+      ap₂ (λ (i j : ℕ). five counts i j p ++ table counts (i + length (p .lines)) (j + length (copy p)) post) (sym (add-zero m)) (sym (add-zero c))
+  split m c (q ∷ pre) =
+      ap {B = List ℕ} (λ l. five counts m c q ++ l) (split (m + length (q .lines)) (c + length (copy q)) pre)
+      ∙ ap₂ (λ (i j : ℕ). five counts m c q ++ (table counts (m + length (q .lines)) (c + length (copy q)) pre
+      ++ (five counts i j p ++ table counts (i + length (p .lines)) (j + length (copy p)) post)))
+      (omega (arith, length-append (q .lines) (flatMap (λ (p : Piece). p .lines) pre)))
+      (omega (arith, length-append (copy q) (flatMap copy pre)))
+      ∙ sym (append-assoc (five counts m c q) (table counts (m + length (q .lines)) (c + length (copy q)) pre) _)
+
+pub table-length : (counts : List ℕ) (m c : ℕ) (ps : List Piece) → length (table counts m c ps) ≡ recordSize * length ps
+unfolding table
+table-length counts m c [] = refl
+table-length counts m c (p ∷ ps) =
+    omega (
+      arith,
+      length-append (five counts m c p) (table counts (m + length (p .lines)) (c + length (copy p)) ps),
+      five-length counts m c p,
+      table-length counts (m + length (p .lines)) (c + length (copy p)) ps,
+    )
+
+module _ (counts : List ℕ) (pre : List Piece) (p : Piece) (post : List Piece) where
+  -- record k is that of chain k
+  pub record-at : take recordSize (drop (recordSize * length pre) (table counts 0 0 (pre ++ (p ∷ post))))
+      ≡ five counts (length (flatMap (λ p. p .lines) pre)) (length (flatMap copy pre)) p
+  record-at =
+      ap (λ (l : List ℕ). take recordSize (drop (recordSize * length pre) l)) (split counts p post 0 0 pre)
+      ∙ part (table counts 0 0 pre) (five counts (0 + length (flatMap (λ p. p .lines) pre)) (0 + length (flatMap copy pre)) p) _ (recordSize * length pre) recordSize
+      (table-length counts 0 0 pre) (five-length counts _ _ p)
+      ∙ ap₂ (λ (i j : ℕ). five counts i j p) (zero-add (length (flatMap (λ (p : Piece). p .lines) pre))) (zero-add (length (flatMap copy pre)))
+
+  -- its members
+  pub members-at : take (length (p .lines)) (drop (length (flatMap (λ p. p .lines) pre)) (flatMap (λ p. p .lines) (pre ++ (p ∷ post)))) ≡ p .lines
+  unfolding flatMap
+  members-at =
+      ap (λ (l : List ℕ). take (length (p .lines)) (drop (length (flatMap (λ p. p .lines) pre)) l)) (flatMap-append (λ (p : Piece). p .lines) pre (p ∷ post))
+      ∙ part (flatMap (λ p. p .lines) pre) (p .lines) (flatMap (λ p. p .lines) post) _ _ refl refl
+
+  -- its points, where they are copied
+  pub copy-at : copied p ≡ true
+      → take (2 * length (p .points)) (drop (2 * length (flatMap copy pre)) (flat (flatMap copy (pre ++ (p ∷ post))))) ≡ flat (p .points)
+  unfolding flatMap copy
+  copy-at h =
+      ap (λ (l : List Point). take (2 * length (p .points)) (drop (2 * length (flatMap copy pre)) (flat l))) (flatMap-append copy pre (p ∷ post))
+      ∙ ap (λ (l : List ℕ). take (2 * length (p .points)) (drop (2 * length (flatMap copy pre)) l))
+      (flat-append (flatMap copy pre) (copy p ++ flatMap copy post) ∙ ap (λ (l : List ℕ). flat (flatMap copy pre) ++ l) (flat-append (copy p) (flatMap copy post)))
+      ∙ part (flat (flatMap copy pre)) (flat (copy p)) (flat (flatMap copy post)) _ _ (flat-length (flatMap copy pre))
+      (flat-length (copy p) ∙ ap (λ (l : List Point). 2 * length l) own)
+      ∙ ap flat own
+    where
+      own : copy p ≡ p .points
+      own = rw (h, copy)
+
+-- a line's own points, where they are not
+pub line-at : (ps : List Point) (cs gs ks : List ℕ) (k : ℕ)
+    → getD (lines ps cs gs ks) k noLine .points ≡ take (getD cs k 0) (drop (total (take k cs)) ps)
+unfolding lines total
+line-at ps [] gs ks k = refl
+line-at ps (c ∷ cs) gs ks zero = refl
+line-at ps (c ∷ cs) gs ks (suc k) = line-at (drop c ps) cs (drop 1 gs) (drop 1 ks) k ∙ ap (take (getD cs k 0)) (drop-drop (total (take k cs)) c ps)

@@ -1,0 +1,126 @@
+// Leaves that write lent slices: runs of points laid one behind another, copies, fills and zeros.
+// Points are numbers x, y, x, y .. in their 64 bits.
+ghost use mathlib.Core.Path.{_≡_};
+ghost use mathlib.Core.Bool.{true, false};
+ghost use mathlib.Core.List.{[], _∷_};
+ghost use Prim.Native.Nat.{ℕ, _+_, _≤_};
+ghost use lib.ListN.{length, take, replicate};
+ghost use lib.Seq.{slice};
+ghost use Rattle.rules.specs.Plane.{point, points, equal};
+ghost use Rattle.rules.specs.Calls.{cleared};
+ghost use Rattle.slices.specs.Holds.{Holds, HoldsFrom};
+ghost use Rattle.slices.specs.Run.{laid, walked};
+
+// Whether two points are equal by `==`.
+fn same_point(ax: u64, ay: u64, bx: u64, by: u64) -> bool
+    ensures { λ r. ⌜ r ≡ equal (point ax ay) (point bx by) ⌝ }
+{
+    if bits::same(ax, bx) {
+        return bits::same(ay, by);
+    }
+    false
+}
+
+// The point x, y behind the first `have` numbers, unless it is equal to the last one there. Returns how many numbers there are.
+fn push_point(rest: &mut [u64], have: usize, x: u64, y: u64) -> usize
+    requires { ⌜ have + 2 ≤ length (now rest) ⌝ }
+    ensures { λ r. ⌜ Holds (now (rest .exit)) (now (rest .entry)) r (laid (take have (now (rest .entry))) (point x y ∷ [])) ⌝ }
+{
+    if 2 <= have {
+        if same_point(rest[have - 2], rest[have - 1], x, y) {
+            return have;
+        }
+    }
+    rest[have] = x;
+    rest[have + 1] = y;
+    have + 2
+}
+
+// Each point of `src` behind the first `have` numbers, in turn.
+fn append_forward(rest: &mut [u64], have: usize, src: &[u64]) -> usize
+    requires { ⌜ have + length (now src) ≤ length (now rest) ⌝ }
+    ensures { λ r. ⌜ Holds (now (rest .exit)) (now (rest .entry)) r (laid (take have (now (rest .entry))) (walked false (now (src .entry)))) ⌝ }
+{
+    let mut w = have;
+    let mut i = 0;
+    while i + 1 < src.len() {
+        w = push_point(rest, w, src[i], src[i + 1]);
+        i += 2;
+    }
+    w
+}
+
+// Each point of `src` behind the first `have` numbers, the last point first.
+fn append_backward(rest: &mut [u64], have: usize, src: &[u64]) -> usize
+    requires { ⌜ have + length (now src) ≤ length (now rest) ⌝ }
+    ensures { λ r. ⌜ Holds (now (rest .exit)) (now (rest .entry)) r (laid (take have (now (rest .entry))) (walked true (now (src .entry)))) ⌝ }
+{
+    let mut w = have;
+    let mut k = src.len() / 2;
+    while 0 < k {
+        k -= 1;
+        w = push_point(rest, w, src[k + k], src[k + k + 1]);
+    }
+    w
+}
+
+// A run of points behind the first `have` numbers of the rest of a merged slice, in its own direction or turned. A point equal to the
+// last written is dropped. Returns how many numbers there are.
+pub fn append_run(rest: &mut [u64], have: usize, src: &[u64], turned: bool) -> usize
+    requires { ⌜ have + length (now src) ≤ length (now rest) ⌝ }
+    ensures { λ r. ⌜ Holds (now (rest .exit)) (now (rest .entry)) r (laid (take have (now (rest .entry))) (walked turned (now (src .entry)))) ⌝ }
+{
+    if turned {
+        append_backward(rest, have, src)
+    } else {
+        append_forward(rest, have, src)
+    }
+}
+
+// `src` into `dst` from `at` on.
+pub fn copy_into(dst: &mut [u64], at: usize, src: &[u64])
+    requires { ⌜ at + length (now src) ≤ length (now dst) ⌝ }
+    ensures { λ _. ⌜ HoldsFrom (now (dst .exit)) (now (dst .entry)) at (length (now (src .entry))) (now (src .entry)) ⌝ }
+{
+    let mut i = 0;
+    while i < src.len() {
+        dst[at + i] = src[i];
+        i += 1;
+    }
+}
+
+// The n numbers from `from` on, again from `at` on, which lies beyond them.
+pub fn copy_up(w: &mut [u64], from: usize, at: usize, n: usize)
+    requires { ⌜ (from + n ≤ at) × (at + n ≤ length (now w)) ⌝ }
+    ensures { λ _. ⌜ HoldsFrom (now (w .exit)) (now (w .entry)) at n (slice from (from + n) (now (w .entry))) ⌝ }
+{
+    let mut i = 0;
+    while i < n {
+        w[at + i] = w[from + i];
+        i += 1;
+    }
+}
+
+// v, n times from `at` on.
+pub fn fill_from(w: &mut [u64], at: usize, n: usize, v: u64)
+    requires { ⌜ at + n ≤ length (now w) ⌝ }
+    ensures { λ _. ⌜ HoldsFrom (now (w .exit)) (now (w .entry)) at n (replicate n v) ⌝ }
+{
+    let mut i = 0;
+    while i < n {
+        w[at + i] = v;
+        i += 1;
+    }
+}
+
+// Zero in the first n numbers; beyond them as before.
+pub fn clear(w: &mut [u64], n: usize)
+    requires { ⌜ n ≤ length (now w) ⌝ }
+    ensures { λ _. ⌜ now (w .exit) ≡ cleared n (now (w .entry)) ⌝ }
+{
+    let mut i = 0;
+    while i < n {
+        w[i] = 0;
+        i += 1;
+    }
+}

@@ -1,0 +1,17 @@
+-- `whole_root::guess` meets its contract: half of w is a whole number that a float holds, and the rest is `leading`.
+use Rattle.whole_root.proofs.Exact.{half-in}
+use borrow.Author.Needs.{needs}
+use Rattle.whole_root.proofs.guess.Statement.{statement}
+use Rattle.whole_root.proofs.guess.Tie as tie
+
+int-to-float-x : tie.Need-int-to-float-x
+int-to-float-x c = half-in (c .before .args .w) (c .before .pre)
+
+leading-requires : tie.Need-leading-requires
+leading-requires c κs = search needs
+
+returns : tie.Need-returns
+returns c = search needs
+
+pub guess-spec : {M : Type 1} → statement M
+guess-spec = tie.close (tie.spec int-to-float-x leading-requires returns)
