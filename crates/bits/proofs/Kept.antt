@@ -1,7 +1,7 @@
 -- A float that is kept as its bits comes back as it was, and the bits are a number of 64 binary digits: lib.Ieee's laws of `toBits`, read for `bitsOf`.
 use mathlib.Core.Path.{_≡_, sym, ap, _∙_, subst}
 use mathlib.Core.Bool.{true, false, not}
-use Prim.Native.Nat.{ℕ, _<_}
+use Prim.Native.Nat.{ℕ, _<_, _^_}
 use lib.Dec.{T}
 use lib.Ieee.{Float, nan, inf, fin, binary64, ofBits, toBits, fits, ne, isNan}
 use lib.Ieee.Bits.{ofBits-toBits, toBits-ofBits, toBits-lt}
@@ -12,12 +12,12 @@ pub of-bits-of : (x : Float) → T (fits binary64 x) → ofBits binary64 (bitsOf
 unfolding bitsOf
 of-bits-of x h = ofBits-toBits binary64 x h
 
-pub bits-of-lt : (x : Float) → T (fits binary64 x) → bitsOf x < 18446744073709551616
+pub bits-of-lt : (x : Float) → T (fits binary64 x) → bitsOf x < 2 ^ 64
 unfolding bitsOf
 bits-of-lt x h = toBits-lt binary64 x h
 
 -- the bits of what was read from n are n, where n is no NaN's
-pub bits-of-of : (n : ℕ) → n < 18446744073709551616 → T (not (isNan (ofBits binary64 n))) → bitsOf (ofBits binary64 n) ≡ n
+pub bits-of-of : (n : ℕ) → n < 2 ^ 64 → T (not (isNan (ofBits binary64 n))) → bitsOf (ofBits binary64 n) ≡ n
 unfolding bitsOf
 bits-of-of n l h = toBits-ofBits binary64 n l h
 
@@ -28,6 +28,6 @@ no-nan nan h = absurd (subst T (sym nan-differs ∙ h) tt)
 no-nan (inf s) h = tt
 no-nan (fin s m e) h = tt
 
-pub bits-of-nan : (x : Float) → ne x x ≡ true → 9221120237041090560 ≡ bitsOf x
+pub bits-of-nan : (x : Float) → ne x x ≡ true → 0x7ff8_0000_0000_0000 ≡ bitsOf x
 unfolding bitsOf toBits
 bits-of-nan x h = sym (ap bitsOf (differs-from-itself x (subst T (sym h) tt)))

@@ -1,7 +1,7 @@
 -- Which patterns are a finite number's: with the sign's bit taken off, those below the infinity's.
 use mathlib.Core.Path.{_≡_, refl, sym, ap, _∙_, subst}
 use mathlib.Core.Bool.{Bool, true, false, not, cond}
-use Prim.Native.Nat.{ℕ, zero, suc, _+_, _/_, _%_, _≤_, _<_}
+use Prim.Native.Nat.{ℕ, zero, suc, _+_, _/_, _%_, _≤_, _<_, _^_}
 use native.Mathlib.Nat.{mod-lt, eq-or-lt-of-le, le-of-suc-le-suc}
 use native.Mathlib.Omega.{arith}
 use borrow.Author.Tests.{lt-ltb, le-ltb, eq-eqb, ne-eqb}
@@ -23,30 +23,33 @@ picked false b s v h = h
 fields-finite : (s : Bool) (x t : ℕ) → finite (ofFields binary64 s x t) ≡ not (eqb x 2047)
 unfolding ofFields
 fields-finite s zero t = odd-finite 53 s t 0 1074
-fields-finite s (suc x) t = picked (eqb (suc x) 2047) (eqb t 0) s (odd 53 s (4503599627370496 + t) x 1074) (odd-finite 53 s (4503599627370496 + t) x 1074)
+fields-finite s (suc x) t =
+    picked (eqb (suc x) 2047) (eqb t 0) s (odd 53 s (2 ^ 52 + t) x 1074) (odd-finite 53 s (2 ^ 52 + t) x 1074)
 
 -- the exponent's field is all ones exactly from the infinity's pattern on
-split : (r : ℕ) → r < 9223372036854775808 → not (eqb (r / 4503599627370496) 2047) ≡ ltb r 9218868437227405312
-split r h = go (r / 4503599627370496) (small r h) (sides r)
+split : (r : ℕ) → r < 2 ^ 63 → not (eqb (r / 2 ^ 52) 2047) ≡ ltb r 0x7ff0_0000_0000_0000
+split r h = go (r / 2 ^ 52) (small r h) (sides r)
   where
-    small : (r : ℕ) → r < 9223372036854775808 → r / 4503599627370496 < 2048
+    small : (r : ℕ) → r < 2 ^ 63 → r / 2 ^ 52 < 2048
     small r h = omega arith
 
-    sides : (r : ℕ) → (r / 4503599627370496 < 2047 → r < 9218868437227405312) × (2047 ≤ r / 4503599627370496 → 9218868437227405312 ≤ r)
+    sides : (r : ℕ) → (r / 2 ^ 52 < 2047 → r < 0x7ff0_0000_0000_0000) × (2047 ≤ r / 2 ^ 52 → 0x7ff0_0000_0000_0000 ≤ r)
     sides r = (λ p. omega arith, λ p. omega arith)
 
     cases : (x : ℕ) → x < 2048 → (x < 2047) ⊎ (x ≡ 2047)
     cases x h = elim (eq-or-lt-of-le (le-of-suc-le-suc h)) [ inl e ↦ inr e | inr l ↦ inl l ]
 
-    go : (x : ℕ) → x < 2048 → (x < 2047 → r < 9218868437227405312) × (2047 ≤ x → 9218868437227405312 ≤ r) → not (eqb x 2047) ≡ ltb r 9218868437227405312
+    go : (x : ℕ) → x < 2048 → (x < 2047 → r < 0x7ff0_0000_0000_0000) × (2047 ≤ x → 0x7ff0_0000_0000_0000 ≤ r)
+        → not (eqb x 2047) ≡ ltb r 0x7ff0_0000_0000_0000
     go x b p = elim (cases x b) [
-      | inl l ↦ ap not (ne-eqb x 2047 (λ e. omega arith)) ∙ sym (lt-ltb r 9218868437227405312 (p .0 l))
-      | inr e ↦ ap not (eq-eqb x 2047 e) ∙ sym (le-ltb r 9218868437227405312 (p .1 (omega arith)))
+      | inl l ↦ ap not (ne-eqb x 2047 (λ e. omega arith)) ∙ sym (lt-ltb r 0x7ff0_0000_0000_0000 (p .0 l))
+      | inr e ↦ ap not (eq-eqb x 2047 e) ∙ sym (le-ltb r 0x7ff0_0000_0000_0000 (p .1 (omega arith)))
     ]
 
-pub finite-below : (n : ℕ) → ltb (n % 9223372036854775808) 9218868437227405312 ≡ finite (ofBits binary64 n)
+pub finite-below : (n : ℕ) → ltb (n % 2 ^ 63) 0x7ff0_0000_0000_0000 ≡ finite (ofBits binary64 n)
 unfolding ofBits
-finite-below n = sym (fields-finite (leb 9223372036854775808 n) (n % 9223372036854775808 / 4503599627370496) (n % 4503599627370496) ∙ split (n % 9223372036854775808) (mod-lt n (lit< tt)))
+finite-below n =
+    sym (fields-finite (leb (2 ^ 63) n) (n % 2 ^ 63 / 2 ^ 52) (n % 2 ^ 52) ∙ split (n % 2 ^ 63) (mod-lt n (lit< tt)))
 
 -- ---- NaNs
 pub is-nan : (x : Float) → isNan x ≡ true → x ≡ nan

@@ -3,7 +3,7 @@
 use mathlib.Core.Path.{_≡_, refl}
 use mathlib.Core.Logic.{inl, inr}
 use mathlib.Core.Bool.{Bool, true, false, not}
-use Prim.Native.Nat.{ℕ, zero, suc, _+_, _*_, _-_, _≤_, _<_, min}
+use Prim.Native.Nat.{ℕ, zero, suc, _+_, _*_, _-_, _^_, _≤_, _<_, min}
 use native.Mathlib.Nat.{lt-irrefl}
 use native.Mathlib.Omega.{arith}
 use lib.Dec.{T, leb, leb→le, nleb→lt}
@@ -12,18 +12,18 @@ use Rattle.bounds.proofs.Bound.{Before}
 
 -- ---- places
 
-pub before→place : (k i l j : ℕ) → i < 18446744073709551616 → Before k i l j → place k i < place l j
+pub before→place : (k i l j : ℕ) → i < 2 ^ 64 → Before k i l j → place k i < place l j
 before→place k i l j h (inl b) = omega arith
 before→place k i l j h (inr b) = omega arith
 
-pub place→before : (k i l j : ℕ) → j < 18446744073709551616 → place k i < place l j → Before k i l j
+pub place→before : (k i l j : ℕ) → j < 2 ^ 64 → place k i < place l j → Before k i l j
 place→before k i l j h b = go (leb l k) (leb→le l k) (nleb→lt l k)
   where
     go : (t : Bool) → (T t → l ≤ k) → (T (not t) → k < l) → Before k i l j
     go true f g = let e = f tt in inr (omega arith, omega arith)
     go false f g = inl (g tt)
 
-pub place-same : (k i l j : ℕ) → i < 18446744073709551616 → j < 18446744073709551616 → place k i ≡ place l j → (k ≡ l) × (i ≡ j)
+pub place-same : (k i l j : ℕ) → i < 2 ^ 64 → j < 2 ^ 64 → place k i ≡ place l j → (k ≡ l) × (i ≡ j)
 place-same k i l j p q e = (omega arith, omega arith)
 
 -- ---- the tree

@@ -1,6 +1,6 @@
 -- Boxes of directions: the words of the contracts of `Bounds`, and what it is for a box to hold a direction.
 use mathlib.Core.Bool.{Bool, true, false, cond}
-use Prim.Native.Nat.{ℕ, min}
+use Prim.Native.Nat.{ℕ, _-_, _^_, min}
 use lib.IntN.{pos}
 use lib.Dec.{T}
 use lib.Ieee.{Float, fin, lt, le}
@@ -16,10 +16,10 @@ greatest a b = cond (lt a b) b a
 
 -- the greatest finite value, with a sign
 abbrev pub most : Bool → Float
-most s = fin s 9007199254740991 (pos 971)
+most s = fin s (2 ^ 53 - 1) (pos 971)
 
 abbrev pub empty-of : Bounds
-empty-of = record { «low_x» = most false; «low_y» = most false; «high_x» = most true; «high_y» = most true; first = 18446744073709551615 }
+empty-of = record { «low_x» = most false; «low_y» = most false; «high_x» = most true; «high_y» = most true; first = 2 ^ 64 - 1 }
 
 -- the box of one direction, with its index
 abbrev pub point-of : Float → Float → ℕ → Bounds

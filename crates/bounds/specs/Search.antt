@@ -1,9 +1,9 @@
 -- The words of a search over a tree of bounds, on whole numbers alone. The children of the node n are 2 * n and 2 * n + 1.
-use Prim.Native.Nat.{ℕ, zero, suc, _+_, _*_, _≤_, min}
+use Prim.Native.Nat.{ℕ, zero, suc, _+_, _*_, _^_, _≤_, min}
 
 -- a key and an index, which is below 2 ^ 64, as one number: its order is that of the key and then the index
 abbrev pub place : ℕ → ℕ → ℕ
-place k i = k * 18446744073709551616 + i
+place k i = k * 2 ^ 64 + i
 
 -- the least of the leaves h steps below n; w is a leaf's place
 unfoldable pub least : (ℕ → ℕ) → ℕ → ℕ → ℕ

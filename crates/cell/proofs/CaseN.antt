@@ -1,5 +1,5 @@
 -- Case N of 01: cells at tolerance 1, where -0.25 is in -1 and -0.0 in 0; and at the edges of the range, at infinities and at a NaN. All are computed.
-use Prim.Native.Nat.{ℕ}
+use Prim.Native.Nat.{ℕ, _^_, _-_}
 use mathlib.Core.Path.{_≡_, refl}
 use lib.IntN.{ℤ, pos, negsuc}
 use lib.Ieee.{binary64, ofBits}
@@ -15,16 +15,16 @@ unfolding cell ofBits
 case-n = (refl, refl)
 
 -- 2 ^ 63, -(2 ^ 63), the infinities, a NaN, the smallest double and its negative
-pub edges : (at-one 0x43e0_0000_0000_0000 ≡ pos 9223372036854775807)
-    × (at-one 0xc3e0_0000_0000_0000 ≡ negsuc 9223372036854775807)
-    × (at-one 0x7ff0_0000_0000_0000 ≡ pos 9223372036854775807)
-    × (at-one 0xfff0_0000_0000_0000 ≡ negsuc 9223372036854775807)
+pub edges : (at-one 0x43e0_0000_0000_0000 ≡ pos (2 ^ 63 - 1))
+    × (at-one 0xc3e0_0000_0000_0000 ≡ negsuc (2 ^ 63 - 1))
+    × (at-one 0x7ff0_0000_0000_0000 ≡ pos (2 ^ 63 - 1))
+    × (at-one 0xfff0_0000_0000_0000 ≡ negsuc (2 ^ 63 - 1))
     × (at-one 0x7ff8_0000_0000_0000 ≡ pos 0)
     × (at-one 1 ≡ pos 0)
     × (at-one 0x8000_0000_0000_0001 ≡ negsuc 0)
 unfolding cell ofBits
 edges = (refl, refl, refl, refl, refl, refl, refl)
 
-pub keys : (lifted (at-one 0xbfd0_0000_0000_0000) ≡ 9223372036854775807) × (lifted (at-one 0x8000_0000_0000_0000) ≡ 9223372036854775808)
+pub keys : (lifted (at-one 0xbfd0_0000_0000_0000) ≡ (2 ^ 63 - 1)) × (lifted (at-one 0x8000_0000_0000_0000) ≡ 2 ^ 63)
 unfolding cell ofBits
 keys = (refl, refl)

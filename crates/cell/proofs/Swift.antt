@@ -1,4 +1,5 @@
--- Adding 3 * 2 ^ 51 and taking it off again leaves a whole number next to x, for an x between -(2 ^ 51) and 2 ^ 51.
+-- Adding 3 * 2 ^ 51 and taking it off again leaves a whole number next to x, for an x between -(2 ^ 51) and 2 ^ 51: the sum has 53 digits before
+-- the point, so rounding leaves none behind it, and the difference is exact.
 use mathlib.Core.Path.{_≡_, sym, ap, _∙_, subst}
 use mathlib.Core.Bool.{Bool, true, false, cond, true≢false}
 use Prim.Native.Nat.{ℕ, suc, _+_, _-_, _*_, _/_, _%_, _^_, _≤_, _<_, compare}
@@ -33,54 +34,58 @@ unscaled nan s q p o h = h
 unscaled (inf t) s q p o h = h
 unscaled (fin t m e) s q p o h = (h .0, mul-one (m * up e) ∙ eq-of-mul-eq-mul-right p o (m * up e) (q * down e) (h .1 ∙ mul-right-comm q p (down e)))
 
-pub whole : (a e : ℕ) → 0 < e → 4503599627370496 * e ≤ a → a < 9007199254740992 * e → HasValue (round binary64 false a e) false (closest a e) 1
+pub whole : (a e : ℕ) → 0 < e → 2 ^ 52 * e ≤ a → a < 2 ^ 53 * e → HasValue (round binary64 false a e) false (closest a e) 1
 whole a e o lo hi =
     let n = a * 2 ^ 1074 in
     let q = closest a e in
     let k : size (n / e) - 53 ≡ 1074 =
-    exactly (size (n / e)) (size-above 1126 (n / e) (le-div-iff-mul-le o .1 (scaled-le 4503599627370496 (2 ^ 1074) e a lo))) (size-le (n / e) 1127 (div-lt-iff-lt-mul o .1 (scaled-lt 9007199254740992 (2 ^ 1074) e a (pow-pos 1074) hi))) in
+    exactly (size (n / e)) (size-above 1126 (n / e) (le-div-iff-mul-le o .1 (scaled-le (2 ^ 52) (2 ^ 1074) e a lo))) (size-le (n / e) 1127 (div-lt-iff-lt-mul o .1 (scaled-lt (2 ^ 53) (2 ^ 1074) e a (pow-pos 1074) hi))) in
     let same : closest n (e * 2 ^ 1074) ≡ q = closest-same n (e * 2 ^ 1074) a e (mul-pos o (pow-pos 1074)) o (mul-right-comm a (2 ^ 1074) e ∙ mul-assoc a e (2 ^ 1074)) in
     let is : round binary64 false a e ≡ units binary64 false q 1074 =
     round-is binary64 false a e ∙ ap (λ (z : ℕ). core binary64 false n e z) k ∙ ap (λ (z : ℕ). units binary64 false z 1074) same in
-    let small : q ≤ 9007199254740992 = top q (a / e) (nearest-le (a / e) (compare (a % e * 2) e)) (div-lt-iff-lt-mul o .1 hi) in
+    let small : q ≤ (2 ^ 53) = top q (a / e) (nearest-le (a / e) (compare (a % e * 2) e)) (div-lt-iff-lt-mul o .1 hi) in
     unscaled (round binary64 false a e) false q (2 ^ 1074) (pow-pos 1074)
     (subst (λ (v : Float). HasValue v false (q * 2 ^ 1074) (2 ^ 1074)) (sym is) (units-val binary64 false q 1074 (lt-of-le-of-lt (mul-le-mul-right (2 ^ 1074) small) (lit< tt))))
   where
-    top : (q w : ℕ) → q ≤ suc w → w < 9007199254740992 → q ≤ 9007199254740992
+    top : (q w : ℕ) → q ≤ suc w → w < 2 ^ 53 → q ≤ 2 ^ 53
     top q w h k = omega arith
 
 -- ---- 3 * 2 ^ 51 taken off a whole number
 abbrev pub M : Float
 M = fin false 3 (pos 51)
 
-take-up : (a q d : ℕ) → 0 < d → a ≡ q * d → 6755399441055744 ≤ q → (X : Float) → cond (ltb a (6755399441055744 * d)) X (round binary64 false (a - 6755399441055744 * d) (d * 1)) ≡ round binary64 false (q - 6755399441055744) 1
+take-up : (a q d : ℕ) → 0 < d → a ≡ q * d → (3 * 2 ^ 51) ≤ q → (X : Float)
+    → cond (ltb a ((3 * 2 ^ 51) * d)) X (round binary64 false (a - (3 * 2 ^ 51) * d) (d * 1)) ≡ round binary64 false (q - (3 * 2 ^ 51)) 1
 take-up a q d o e h X =
-    let p = q - 6755399441055744 in
-    let j : p + 6755399441055744 ≡ q = omega arith in
-    let s : q * d ≡ p * d + 6755399441055744 * d = ap (λ (z : ℕ). z * d) (sym j) ∙ add-mul p 6755399441055744 d in
-    let r : a - 6755399441055744 * d ≡ p * d = omega arith in
-    ap (λ (b : Bool). cond b X (round binary64 false (a - 6755399441055744 * d) (d * 1))) (le-ltb a (6755399441055744 * d) (omega arith))
-    ∙ round-same binary64 false (a - 6755399441055744 * d) (d * 1) p 1 (subst (λ (z : ℕ). 0 < z) (sym (mul-one d)) o) (lit< tt) (mul-one (a - 6755399441055744 * d) ∙ r ∙ ap (λ (z : ℕ). p * z) (sym (mul-one d)))
+    let p = q - (3 * 2 ^ 51) in
+    let j : p + (3 * 2 ^ 51) ≡ q = omega arith in
+    let s : q * d ≡ p * d + (3 * 2 ^ 51) * d = ap (λ (z : ℕ). z * d) (sym j) ∙ add-mul p (3 * 2 ^ 51) d in
+    let r : a - (3 * 2 ^ 51) * d ≡ p * d = omega arith in
+    ap (λ (b : Bool). cond b X (round binary64 false (a - (3 * 2 ^ 51) * d) (d * 1))) (le-ltb a ((3 * 2 ^ 51) * d) (omega arith))
+    ∙ round-same binary64 false (a - (3 * 2 ^ 51) * d) (d * 1) p 1 (subst (λ (z : ℕ). 0 < z) (sym (mul-one d)) o) (lit< tt) (mul-one (a - (3 * 2 ^ 51) * d) ∙ r ∙ ap (λ (z : ℕ). p * z) (sym (mul-one d)))
 
-take-down : (a q d : ℕ) → 0 < d → a ≡ q * d → q < 6755399441055744 → (X : Float) → cond (ltb a (6755399441055744 * d)) (round binary64 true (6755399441055744 * d - a) (d * 1)) X ≡ round binary64 true (6755399441055744 - q) 1
+take-down : (a q d : ℕ) → 0 < d → a ≡ q * d → q < (3 * 2 ^ 51) → (X : Float)
+    → cond (ltb a ((3 * 2 ^ 51) * d)) (round binary64 true ((3 * 2 ^ 51) * d - a) (d * 1)) X ≡ round binary64 true ((3 * 2 ^ 51) - q) 1
 take-down a q d o e h X =
-    let p = 6755399441055744 - q in
-    let j : p + q ≡ 6755399441055744 = omega arith in
-    let s : 6755399441055744 * d ≡ p * d + q * d = ap (λ (z : ℕ). z * d) (sym j) ∙ add-mul p q d in
-    let r : 6755399441055744 * d - a ≡ p * d = omega arith in
-    ap (λ (b : Bool). cond b (round binary64 true (6755399441055744 * d - a) (d * 1)) X) (lt-ltb a (6755399441055744 * d) (subst (λ (z : ℕ). z < 6755399441055744 * d) (sym e) (mul-lt-mul-of-pos-right h o)))
-    ∙ round-same binary64 true (6755399441055744 * d - a) (d * 1) p 1 (subst (λ (z : ℕ). 0 < z) (sym (mul-one d)) o) (lit< tt) (mul-one (6755399441055744 * d - a) ∙ r ∙ ap (λ (z : ℕ). p * z) (sym (mul-one d)))
+    let p = (3 * 2 ^ 51) - q in
+    let j : p + q ≡ (3 * 2 ^ 51) = omega arith in
+    let s : (3 * 2 ^ 51) * d ≡ p * d + q * d = ap (λ (z : ℕ). z * d) (sym j) ∙ add-mul p q d in
+    let r : (3 * 2 ^ 51) * d - a ≡ p * d = omega arith in
+    ap (λ (b : Bool). cond b (round binary64 true ((3 * 2 ^ 51) * d - a) (d * 1)) X) (lt-ltb a ((3 * 2 ^ 51) * d) (subst (λ (z : ℕ). z < (3 * 2 ^ 51) * d) (sym e) (mul-lt-mul-of-pos-right h o)))
+    ∙ round-same binary64 true ((3 * 2 ^ 51) * d - a) (d * 1) p 1 (subst (λ (z : ℕ). 0 < z) (sym (mul-one d)) o) (lit< tt) (mul-one ((3 * 2 ^ 51) * d - a) ∙ r ∙ ap (λ (z : ℕ). p * z) (sym (mul-one d)))
 
-pub off-up : (r : Float) (q : ℕ) → HasValue r false q 1 → 6755399441055744 ≤ q → sub binary64 r M ≡ ofInt binary64 (pos (q - 6755399441055744))
+pub off-up : (r : Float) (q : ℕ) → HasValue r false q 1 → (3 * 2 ^ 51) ≤ q → sub binary64 r M ≡ ofInt binary64 (pos (q - (3 * 2 ^ 51)))
 unfolding sub add neg sum ofInt
 off-up nan q v h = absurd v
 off-up (inf s) q v h = absurd v
 off-up (fin true n d) q v h = absurd (true≢false (v .0))
-off-up (fin false n d) q v h = take-up (n * up d * 1) q (down d) (down-pos d) (v .1) h (round binary64 true (6755399441055744 * down d - n * up d * 1) (down d * 1))
+off-up (fin false n d) q v h =
+    take-up (n * up d * 1) q (down d) (down-pos d) (v .1) h (round binary64 true ((3 * 2 ^ 51) * down d - n * up d * 1) (down d * 1))
 
-pub off-down : (r : Float) (q : ℕ) → HasValue r false q 1 → q < 6755399441055744 → sub binary64 r M ≡ round binary64 true (6755399441055744 - q) 1
+pub off-down : (r : Float) (q : ℕ) → HasValue r false q 1 → q < (3 * 2 ^ 51) → sub binary64 r M ≡ round binary64 true ((3 * 2 ^ 51) - q) 1
 unfolding sub add neg sum
 off-down nan q v h = absurd v
 off-down (inf s) q v h = absurd v
 off-down (fin true n d) q v h = absurd (true≢false (v .0))
-off-down (fin false n d) q v h = take-down (n * up d * 1) q (down d) (down-pos d) (v .1) h (round binary64 false (n * up d * 1 - 6755399441055744 * down d) (down d * 1))
+off-down (fin false n d) q v h =
+    take-down (n * up d * 1) q (down d) (down-pos d) (v .1) h (round binary64 false (n * up d * 1 - (3 * 2 ^ 51) * down d) (down d * 1))

@@ -1,7 +1,7 @@
--- An `i64` as the code holds it, and 2 ^ 63 more.
+-- An `i64` as the code holds it, and 2 ^ 63 more: below zero -1 - z is a number that fits, and the sum or difference does.
 use mathlib.Core.Path.{_≡_, sym, ap, _∙_, subst}
 use mathlib.Core.Bool.{true, false, true≢false}
-use Prim.Native.Nat.{ℕ, suc, _+_, _-_, _≤_, _<_}
+use Prim.Native.Nat.{ℕ, suc, _+_, _-_, _≤_, _<_, _^_}
 use native.Mathlib.Omega.{arith}
 use lib.Dec.{T, leb·suc-zero}
 use lib.IntN.{ℤ, pos, negsuc, _-ℤ_, natAbs, +ℤ-comm, -ℤ-one}
@@ -21,8 +21,8 @@ turned z = held (negsuc 0 -ℤ held z)
 pub record Turned (z : ℤ) : Type 0 where
   pub taken : SFits w64 (negsuc 0 -ℤ held z)
   pub cast : T (nonNeg (turned z)) × Fits w64 (natAbs (turned z))
-  pub small : natAbs (turned z) ≤ 9223372036854775807
-  pub is : 9223372036854775807 - natAbs (turned z) ≡ lifted z
+  pub small : natAbs (turned z) ≤ (2 ^ 63 - 1)
+  pub is : (2 ^ 63 - 1) - natAbs (turned z) ≡ lifted z
 
 pub turn : (z : ℤ) → SFits w64 z → ltZ (held z) (pos 0) ≡ true → Turned z
 turn (pos a) F t = absurd (true≢false (sym (subst (λ (y : ℤ). ltZ y (pos 0) ≡ true) (held-is (pos a) (F .sfits)) t) ∙ leb·suc-zero a))
@@ -33,20 +33,20 @@ turn (negsuc a) F t =
     record {
       taken = subst (λ (y : ℤ). SFits w64 y) (sym e) G;
       cast = subst (λ (y : ℤ). T (nonNeg y) × Fits w64 (natAbs y)) (sym f) (tt, record { fits = wide a (F .sfits) });
-      small = subst (λ (y : ℤ). natAbs y ≤ 9223372036854775807) (sym f) (low a (F .sfits));
-      is = ap (λ (y : ℤ). 9223372036854775807 - natAbs y) f;
+      small = subst (λ (y : ℤ). natAbs y ≤ (2 ^ 63 - 1)) (sym f) (low a (F .sfits));
+      is = ap (λ (y : ℤ). (2 ^ 63 - 1) - natAbs y) f;
     }
   where
-    wide : (a : ℕ) → a < 9223372036854775808 → a < 18446744073709551616
+    wide : (a : ℕ) → a < 2 ^ 63 → a < 2 ^ 64
     wide a h = omega arith
 
-    low : (a : ℕ) → a < 9223372036854775808 → a ≤ 9223372036854775807
+    low : (a : ℕ) → a < 2 ^ 63 → a ≤ (2 ^ 63 - 1)
     low a h = omega arith
 
 pub record Plain (z : ℤ) : Type 0 where
   pub cast : T (nonNeg (held z)) × Fits w64 (natAbs (held z))
-  pub sum : Fits w64 (natAbs (held z) + 9223372036854775808)
-  pub is : natAbs (held z) + 9223372036854775808 ≡ lifted z
+  pub sum : Fits w64 (natAbs (held z) + 2 ^ 63)
+  pub is : natAbs (held z) + 2 ^ 63 ≡ lifted z
 
 pub plain : (z : ℤ) → SFits w64 z → ltZ (held z) (pos 0) ≡ false → Plain z
 plain (negsuc a) F t = absurd (true≢false (subst (λ (y : ℤ). ltZ y (pos 0) ≡ false) (held-is (negsuc a) (F .sfits)) t))
@@ -54,12 +54,12 @@ plain (pos a) F t =
     let f : held (pos a) ≡ pos a = held-is (pos a) (F .sfits) in
     record {
       cast = subst (λ (y : ℤ). T (nonNeg y) × Fits w64 (natAbs y)) (sym f) (tt, record { fits = wide a (F .sfits) });
-      sum = subst (λ (y : ℤ). Fits w64 (natAbs y + 9223372036854775808)) (sym f) (record { fits = high a (F .sfits) });
-      is = ap (λ (y : ℤ). natAbs y + 9223372036854775808) f;
+      sum = subst (λ (y : ℤ). Fits w64 (natAbs y + 2 ^ 63)) (sym f) (record { fits = high a (F .sfits) });
+      is = ap (λ (y : ℤ). natAbs y + 2 ^ 63) f;
     }
   where
-    wide : (a : ℕ) → a < 9223372036854775808 → a < 18446744073709551616
+    wide : (a : ℕ) → a < 2 ^ 63 → a < 2 ^ 64
     wide a h = omega arith
 
-    high : (a : ℕ) → a < 9223372036854775808 → a + 9223372036854775808 < 18446744073709551616
+    high : (a : ℕ) → a < 2 ^ 63 → a + 2 ^ 63 < 2 ^ 64
     high a h = omega arith

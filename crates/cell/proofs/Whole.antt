@@ -16,7 +16,7 @@ clash : true ≡ false → ⊥
 clash e = subst T e tt
 
 -- a significand is short
-pub short : (s : Bool) (m : ℕ) (e : ℤ) → T (fits binary64 (fin s m e)) → m < 9007199254740992
+pub short : (s : Bool) (m : ℕ) (e : ℤ) → T (fits binary64 (fin s m e)) → m < 2 ^ 53
 unfolding fits
 short s zero e h = lit< tt
 short s (suc m) e h =
@@ -27,7 +27,7 @@ short s (suc m) e h =
     ltb→lt (suc m) (2 ^ 53) (and-r A B (and-l (A && B) C (and-l (A && B && C) D h)))
 
 -- ---- a whole number of the range that is a short one with zeros behind it
-exact-by : (s : Bool) (q m j : ℕ) → m < 9007199254740992 → q ≤ 9223372036854775808 → q ≡ m * 2 ^ j → HasValue (round binary64 s q 1) s q 1
+exact-by : (s : Bool) (q m j : ℕ) → m < 2 ^ 53 → q ≤ 2 ^ 63 → q ≡ m * 2 ^ j → HasValue (round binary64 s q 1) s q 1
 exact-by s q m j h r e =
     let same : q * 2 ^ 1074 ≡ m * 2 ^ (j + 1074) =
     ap (λ (x : ℕ). x * 2 ^ 1074) e ∙ mul-assoc m (2 ^ j) (2 ^ 1074) ∙ ap (λ (x : ℕ). m * x) (sym (pow-add 2 j 1074)) in
@@ -35,10 +35,11 @@ exact-by s q m j h r e =
     (subst (λ (x : ℕ). x < 2 ^ 2098) same (lt-of-le-of-lt (mul-le-mul-right (2 ^ 1074) r) (lit< tt)))
     (same ∙ sym (mul-one (m * 2 ^ (j + 1074))))
 
-pub exact : (s : Bool) (m : ℕ) (e : ℤ) → m < 9007199254740992 → m * up e / down e ≤ 9223372036854775808 → HasValue (round binary64 s (m * up e / down e) 1) s (m * up e / down e) 1
+pub exact : (s : Bool) (m : ℕ) (e : ℤ) → m < 2 ^ 53 → m * up e / down e ≤ 2 ^ 63
+    → HasValue (round binary64 s (m * up e / down e) 1) s (m * up e / down e) 1
 exact s m (pos a) h r = exact-by s (m * 2 ^ a / 1) m a h r (div-one (m * 2 ^ a))
 exact s m (negsuc a) h r =
-    exact-by s (m * 1 / 2 ^ suc a) (m * 1 / 2 ^ suc a) 0 (lt-of-le-of-lt (div-le-self (m * 1) (2 ^ suc a)) (subst (λ (x : ℕ). x < 9007199254740992) (sym (mul-one m)) h)) r (sym (mul-one (m * 1 / 2 ^ suc a)))
+    exact-by s (m * 1 / 2 ^ suc a) (m * 1 / 2 ^ suc a) 0 (lt-of-le-of-lt (div-le-self (m * 1) (2 ^ suc a)) (subst (λ (x : ℕ). x < 2 ^ 53) (sym (mul-one m)) h)) r (sym (mul-one (m * 1 / 2 ^ suc a)))
 
 -- ---- comparing with it
 times : (a b x y d : ℕ) → 0 < d → x ≡ a * d → y ≡ b * d → ltb x y ≡ ltb a b
@@ -56,14 +57,16 @@ pub lt-above : (m : ℕ) (e : ℤ) (v : Float) (q : ℕ) → HasValue v false q 
 unfolding lt
 lt-above m e nan q h = absurd h
 lt-above m e (inf t) q h = absurd h
-lt-above m e (fin false n d) q h = times (m * up e) (q * down e) (m * up e * down d) (n * up d * down e) (down d) (down-pos d) refl (crossed (n * up d) q (down d) (down e) (h .1))
+lt-above m e (fin false n d) q h =
+    times (m * up e) (q * down e) (m * up e * down d) (n * up d * down e) (down d) (down-pos d) refl (crossed (n * up d) q (down d) (down e) (h .1))
 lt-above m e (fin true n d) q h = absurd (clash (h .0))
 
 pub lt-under : (m : ℕ) (e : ℤ) (v : Float) (q : ℕ) → HasValue v true q 1 → lt (fin true m e) v ≡ ltb (q * down e) (m * up e)
 unfolding lt
 lt-under m e nan q h = absurd h
 lt-under m e (inf t) q h = absurd h
-lt-under m e (fin true n d) q h = times (q * down e) (m * up e) (n * up d * down e) (m * up e * down d) (down d) (down-pos d) (crossed (n * up d) q (down d) (down e) (h .1)) refl
+lt-under m e (fin true n d) q h =
+    times (q * down e) (m * up e) (n * up d * down e) (m * up e * down d) (down d) (down-pos d) (crossed (n * up d) q (down d) (down e) (h .1)) refl
 lt-under m e (fin false n d) q h = absurd (clash (sym (h .0)))
 
 -- where q is 0, it comes back as +0
@@ -81,7 +84,8 @@ lt-zero m e (fin false n d) h =
     plain x = omega arith
 
 -- below zero: the way back of a whole part q
-pub lt-neg : (m : ℕ) (e : ℤ) (q : ℕ) → ((s : Bool) → HasValue (round binary64 s q 1) s q 1) → lt (fin true m e) (ofInt binary64 (negℤ (pos q))) ≡ ltb (q * down e) (m * up e)
+pub lt-neg : (m : ℕ) (e : ℤ) (q : ℕ) → ((s : Bool) → HasValue (round binary64 s q 1) s q 1)
+    → lt (fin true m e) (ofInt binary64 (negℤ (pos q))) ≡ ltb (q * down e) (m * up e)
 unfolding ofInt
 lt-neg m e zero h = lt-zero m e (round binary64 false 0 1) (h false)
 lt-neg m e (suc q) h = lt-under m e (round binary64 true (suc q) 1) (suc q) (h true)

@@ -4,12 +4,18 @@ ghost use mathlib.Core.Path.{_≡_};
 ghost use Rattle.rules.specs.Cell.{floor64, cell};
 ghost use Rattle.cell.specs.Lifted.{lifted};
 
+const FAR: f64 = 9223372036854775808.0; // 2^63
+
+const CLOSE: f64 = 2251799813685248.0; // 2^51
+
+const WHOLE: f64 = 6755399441055744.0; // 3 * 2^51, a sum with which has no digits behind the point
+
 // The floor of any float. x's whole part, toward zero, is its floor unless it lies above x; then the floor is one less.
 fn floor_far(x: f64) -> i64
     ensures { λ r. ⌜ r ≡ floor64 x ⌝ }
 {
-    if x >= -9223372036854775808.0 {
-        if x < 9223372036854775808.0 {
+    if x >= -FAR {
+        if x < FAR {
             let t = std::num::truncating_f64_to_i64(x);
             if x < std::num::nearest_i64_to_f64(t) {
                 return t - 1;
@@ -24,14 +30,13 @@ fn floor_far(x: f64) -> i64
     0
 }
 
-// The floor of x. Below 2^51 there is no branch on the sign or the fraction: a sum with 3 * 2^51 has no digits behind the point, so y
-// is a whole number next to x.
+// The floor of x. Below 2^51 there is no branch on the sign or the fraction: y is a whole number next to x.
 pub fn floor(x: f64) -> i64
     ensures { λ r. ⌜ r ≡ floor64 x ⌝ }
 {
-    if x < 2251799813685248.0 {
-        if x > -2251799813685248.0 {
-            let y = x + 6755399441055744.0 - 6755399441055744.0;
+    if x < CLOSE {
+        if x > -CLOSE {
+            let y = x + WHOLE - WHOLE;
             return y as i64 - (x < y) as i64;
         }
     }

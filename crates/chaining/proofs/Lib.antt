@@ -1,4 +1,5 @@
 pub mod Counts
+pub mod Totals
 pub mod Ends
 pub mod Forward
 pub mod Back

@@ -25,12 +25,12 @@ unfolding flat
 flat-append [] b = refl
 flat-append (p ∷ a) b = ap {B = List ℕ} (λ l. p .x ∷ p .y ∷ l) (flat-append a b)
 
-pub flat-length : (a : List Point) → length (flat a) ≡ 2 * length a
+pub flat-length : (a : List Point) → length (flat a) ≡ length a * 2
 unfolding flat
 flat-length [] = refl
 flat-length (p ∷ a) = omega (arith, flat-length a)
 
-five-length : (counts : List ℕ) (m c : ℕ) (p : Piece) → length (five counts m c p) ≡ recordSize
+pub five-length : (counts : List ℕ) (m c : ℕ) (p : Piece) → length (five counts m c p) ≡ recordSize
 unfolding five
 five-length counts m c p = go (copied p) refl
   where
@@ -39,23 +39,23 @@ five-length counts m c p = go (copied p) refl
     go false e = rw (e, five)
 
 module _ (counts : List ℕ) (p : Piece) (post : List Piece) where
-  split : (m c : ℕ) (pre : List Piece)
+  pub table-split : (m c : ℕ) (pre : List Piece)
       → table counts m c (pre ++ (p ∷ post))
       ≡ table counts m c pre
       ++ (five counts (m + length (flatMap (λ p. p .lines) pre)) (c + length (flatMap copy pre)) p
       ++ table counts (m + length (flatMap (λ p. p .lines) pre) + length (p .lines)) (c + length (flatMap copy pre) + length (copy p)) post)
   unfolding table flatMap
-  split m c [] =
+  table-split m c [] =
       ap₂ (λ (i j : ℕ). five counts i j p ++ table counts (i + length (p .lines)) (j + length (copy p)) post) (sym (add-zero m)) (sym (add-zero c))
-  split m c (q ∷ pre) =
-      ap {B = List ℕ} (λ l. five counts m c q ++ l) (split (m + length (q .lines)) (c + length (copy q)) pre)
+  table-split m c (q ∷ pre) =
+      ap {B = List ℕ} (λ l. five counts m c q ++ l) (table-split (m + length (q .lines)) (c + length (copy q)) pre)
       ∙ ap₂ (λ (i j : ℕ). five counts m c q ++ (table counts (m + length (q .lines)) (c + length (copy q)) pre
       ++ (five counts i j p ++ table counts (i + length (p .lines)) (j + length (copy p)) post)))
       (omega (arith, length-append (q .lines) (flatMap (λ (p : Piece). p .lines) pre)))
       (omega (arith, length-append (copy q) (flatMap copy pre)))
       ∙ sym (append-assoc (five counts m c q) (table counts (m + length (q .lines)) (c + length (copy q)) pre) _)
 
-pub table-length : (counts : List ℕ) (m c : ℕ) (ps : List Piece) → length (table counts m c ps) ≡ recordSize * length ps
+pub table-length : (counts : List ℕ) (m c : ℕ) (ps : List Piece) → length (table counts m c ps) ≡ length ps * recordSize
 unfolding table
 table-length counts m c [] = refl
 table-length counts m c (p ∷ ps) =
@@ -68,11 +68,11 @@ table-length counts m c (p ∷ ps) =
 
 module _ (counts : List ℕ) (pre : List Piece) (p : Piece) (post : List Piece) where
   -- record k is that of chain k
-  pub record-at : take recordSize (drop (recordSize * length pre) (table counts 0 0 (pre ++ (p ∷ post))))
+  pub record-at : take recordSize (drop (length pre * recordSize) (table counts 0 0 (pre ++ (p ∷ post))))
       ≡ five counts (length (flatMap (λ p. p .lines) pre)) (length (flatMap copy pre)) p
   record-at =
-      ap (λ (l : List ℕ). take recordSize (drop (recordSize * length pre) l)) (split counts p post 0 0 pre)
-      ∙ part (table counts 0 0 pre) (five counts (0 + length (flatMap (λ p. p .lines) pre)) (0 + length (flatMap copy pre)) p) _ (recordSize * length pre) recordSize
+      ap (λ (l : List ℕ). take recordSize (drop (length pre * recordSize) l)) (table-split counts p post 0 0 pre)
+      ∙ part (table counts 0 0 pre) (five counts (0 + length (flatMap (λ p. p .lines) pre)) (0 + length (flatMap copy pre)) p) _ (length pre * recordSize) recordSize
       (table-length counts 0 0 pre) (five-length counts _ _ p)
       ∙ ap₂ (λ (i j : ℕ). five counts i j p) (zero-add (length (flatMap (λ (p : Piece). p .lines) pre))) (zero-add (length (flatMap copy pre)))
 
@@ -85,14 +85,14 @@ module _ (counts : List ℕ) (pre : List Piece) (p : Piece) (post : List Piece) 
 
   -- its points, where they are copied
   pub copy-at : copied p ≡ true
-      → take (2 * length (p .points)) (drop (2 * length (flatMap copy pre)) (flat (flatMap copy (pre ++ (p ∷ post))))) ≡ flat (p .points)
+      → take (length (p .points) * 2) (drop (length (flatMap copy pre) * 2) (flat (flatMap copy (pre ++ (p ∷ post))))) ≡ flat (p .points)
   unfolding flatMap copy
   copy-at h =
-      ap (λ (l : List Point). take (2 * length (p .points)) (drop (2 * length (flatMap copy pre)) (flat l))) (flatMap-append copy pre (p ∷ post))
-      ∙ ap (λ (l : List ℕ). take (2 * length (p .points)) (drop (2 * length (flatMap copy pre)) l))
+      ap (λ (l : List Point). take (length (p .points) * 2) (drop (length (flatMap copy pre) * 2) (flat l))) (flatMap-append copy pre (p ∷ post))
+      ∙ ap (λ (l : List ℕ). take (length (p .points) * 2) (drop (length (flatMap copy pre) * 2) l))
       (flat-append (flatMap copy pre) (copy p ++ flatMap copy post) ∙ ap (λ (l : List ℕ). flat (flatMap copy pre) ++ l) (flat-append (copy p) (flatMap copy post)))
       ∙ part (flat (flatMap copy pre)) (flat (copy p)) (flat (flatMap copy post)) _ _ (flat-length (flatMap copy pre))
-      (flat-length (copy p) ∙ ap (λ (l : List Point). 2 * length l) own)
+      (flat-length (copy p) ∙ ap (λ (l : List Point). length l * 2) own)
       ∙ ap flat own
     where
       own : copy p ≡ p .points

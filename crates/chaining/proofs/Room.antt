@@ -16,11 +16,12 @@ use Rattle.rules.specs.Chaining.{Piece, Rule, pieceAt, run, lay, merged, merge,
 use Rattle.rules.specs.Layout.{lines, copied, copy, Laid, laidOut, build}
 use Rattle.rules.specs.Refusals.{recordSize}
 use Rattle.chaining.proofs.Counts.{upto-length, Each, nil, cons}
-use Rattle.chaining.proofs.Lines.{total-same, chains-count, linesOf, total-append, along, spread, pieces-take, pieces-leave}
+use Rattle.chaining.proofs.Totals.{total-append, same-length}
+use Rattle.chaining.proofs.Lines.{chains-count, linesOf, along, spread, pieces-take, pieces-leave}
 use Rattle.chaining.proofs.Records.{flat-length, table-length}
 use Rattle.chaining.proofs.Sound.{Sound, chains-sound}
 
-lay-short : (o : Option Point) (l : List Point) → length (lay o l) ≤ length l
+pub lay-short : (o : Option Point) (l : List Point) → length (lay o l) ≤ length l
 unfolding lay
 lay-short o [] = zero-le
 lay-short none (p ∷ l) = omega (arith, lay-short (some p) l)
@@ -30,11 +31,11 @@ lay-short (some q) (p ∷ l) = go (equal q p) refl (lay-short (some q) l) (lay-s
     go true e a b = rw (e, lay) (omega arith)
     go false e a b = rw (e, lay) (omega arith)
 
-abbrev size : Piece → ℕ
+abbrev pub size : Piece → ℕ
 size p = length (p .points)
 
 module _ (rule : Rule) (ps : List Piece) where
-  run-size : (e : ℕ) → length (run rule ps e) ≡ size (pieceAt rule ps e)
+  pub run-size : (e : ℕ) → length (run rule ps e) ≡ size (pieceAt rule ps e)
   unfolding run
   run-size e = go (eqb (sideOf e) 0)
     where
@@ -42,18 +43,18 @@ module _ (rule : Rule) (ps : List Piece) where
       go true = refl
       go false = length-reverse (pieceAt rule ps e .points)
 
-  runs-size : (w : List ℕ) → length (flatMap (run rule ps) w) ≡ along rule ps size w
+  pub runs-size : (w : List ℕ) → length (flatMap (run rule ps) w) ≡ along rule ps size w
   unfolding flatMap along total
   runs-size [] = refl
   runs-size (e ∷ w) = omega (arith, length-append (run rule ps e) (flatMap (run rule ps) w), run-size e, runs-size w)
 
-  merged-size : (w : List ℕ) → length (merged rule ps w) ≤ along rule ps size w
+  pub merged-size : (w : List ℕ) → length (merged rule ps w) ≤ along rule ps size w
   unfolding merged along total
   merged-size [] = zero-le
   merged-size (e ∷ []) = omega arith
   merged-size (e ∷ f ∷ w) = omega (arith, lay-short none (flatMap (run rule ps) (e ∷ f ∷ w)), runs-size (e ∷ f ∷ w))
 
-  merges-size : (ws : List (List ℕ)) → total (map size (map (merge rule ps) ws)) ≤ total (map (along rule ps size) ws)
+  pub merges-size : (ws : List (List ℕ)) → total (map size (map (merge rule ps) ws)) ≤ total (map (along rule ps size) ws)
   unfolding total merge
   merges-size [] = zero-le
   merges-size (w ∷ ws) = omega (arith, merged-size w, merges-size ws)
@@ -95,7 +96,7 @@ chains-size s ls =
       pieces-size 0 ls,
     ))
 
-copy-size : (p : Piece) → length (copy p) ≤ size p
+pub copy-size : (p : Piece) → length (copy p) ≤ size p
 unfolding copy
 copy-size p = go (copied p) refl
   where
@@ -103,7 +104,7 @@ copy-size p = go (copied p) refl
     go true e = rw (e, copy) (omega arith)
     go false e = rw (e, copy) zero-le
 
-copies-size : (ps : List Piece) → length (flatMap copy ps) ≤ total (map size ps)
+pub copies-size : (ps : List Piece) → length (flatMap copy ps) ≤ total (map size ps)
 unfolding flatMap total
 copies-size [] = zero-le
 copies-size (p ∷ ps) = omega (arith, length-append (copy p) (flatMap copy ps), copy-size p, copies-size ps)
@@ -113,17 +114,8 @@ pub copies-fit : (s : Settings) (ls : List Line) → length (flatMap copy (chain
 copies-fit s ls = omega (arith, copies-size (chains s ls), chains-size s ls)
 
 -- there are as many members as lines
-ones : (l : List ℕ) → total (map (λ x. 1) l) ≡ length l
-unfolding total
-ones [] = refl
-ones (a ∷ l) = omega (arith, ones l)
-
 pub members-fit : (s : Settings) (ls : List Line) → length (linesOf (chains s ls)) ≡ length ls
-members-fit s ls =
-    sym (ones (linesOf (chains s ls)))
-    ∙ total-same (λ x. 1) (linesOf (chains s ls)) (upto (length ls)) (chains-count s ls)
-    ∙ ones (upto (length ls))
-    ∙ upto-length (length ls)
+members-fit s ls = same-length (linesOf (chains s ls)) (upto (length ls)) (chains-count s ls) ∙ upto-length (length ls)
 
 -- no more chains than lines: each has one
 full-long : (ls : List Line) (ps : List Piece) → Each (Sound ls) ps → length ps ≤ length (linesOf ps)
@@ -158,7 +150,7 @@ lines-size ps (c ∷ cs) gs ks = omega (arith, length-take c ps, lines-size (dro
 
 pub record Fits (n numbers : ℕ) (a : Laid) : Type 0 where
   pub chains : a .number ≤ n
-  pub records : length (a .records) ≡ recordSize * a .number
+  pub records : length (a .records) ≡ a .number * recordSize
   pub members : length (a .members) ≡ n
   pub marks : length (a .marks) ≡ n
   pub merged : length (a .merged) ≤ numbers

@@ -1,5 +1,5 @@
 -- The measure of two directions: it does not ask which comes first, it is a value of binary64, and clamping keeps the order of dot products.
-use mathlib.Core.Path.{_≡_, ap₂}
+use mathlib.Core.Path.{_≡_, refl, ap₂}
 use mathlib.Core.Bool.{Bool, true, false, not, cond}
 use lib.Dec.{T}
 use lib.Ieee.{Float, nan, inf, fin, binary64, add, lt, le, isNan, fits}
@@ -19,6 +19,10 @@ clamp-fits x p = cond-fits binary64 (lt x minus-unity) minus-unity (cond (lt uni
 pub measure-fits : (ax ay bx by : Float) → T (fits binary64 (measure ax ay bx by))
 unfolding measure dot
 measure-fits ax ay bx by = clamp-fits (dot ax ay bx by) (add-fits binary64 _ _)
+
+pub clamp-nan : clamp nan ≡ nan
+unfolding clamp lt
+clamp-nan = refl
 
 -- ---- `clamp` keeps the order
 

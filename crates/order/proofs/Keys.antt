@@ -95,7 +95,8 @@ module _ (c v : Float) (p : T (fits binary64 c)) (q : T (fits binary64 v)) (n : 
       go (inr i) = rank-eq-is binary64 c v p q i n ∙ sym (ap₂ eqb (low-key-num c i) (key-num v n))
 
 -- ---- a bound
-pub low-key-bound : (c m : Float) → T (fits binary64 c) → T (fits binary64 m) → (T (not (isNan c)) → T (not (isNan m)) → T (le c m)) → low-key c ≤ key m
+pub low-key-bound : (c m : Float) → T (fits binary64 c) → T (fits binary64 m) → (T (not (isNan c)) → T (not (isNan m)) → T (le c m))
+    → low-key c ≤ key m
 low-key-bound c m p q h = go (nan-or-num c) (nan-or-num m)
   where
     go : (c ≡ nan) ⊎ T (not (isNan c)) → (m ≡ nan) ⊎ T (not (isNan m)) → low-key c ≤ key m

@@ -99,7 +99,8 @@ upper-le (fin false m e) (fin false n d) p q = left→le (fin true m e) (fin fal
 
 -- ---- both zero
 zero-value : (f : Format) (s : Bool) (c : ℕ) → 0 < c → HasValue (round f s 0 c) s 0 c
-zero-value f s c C = round-exact f s 0 c 0 0 C (pow-pos (prec f)) (subst (λ (z : ℕ). z < 2 ^ (low f + suc (emax f))) (sym (zero-mul 1)) (pow-pos (low f + suc (emax f)))) (omega (arith, zero-mul (2 ^ low f), zero-mul c))
+zero-value f s c C =
+    round-exact f s 0 c 0 0 C (pow-pos (prec f)) (subst (λ (z : ℕ). z < 2 ^ (low f + suc (emax f))) (sym (zero-mul 1)) (pow-pos (low f + suc (emax f)))) (omega (arith, zero-mul (2 ^ low f), zero-mul c))
 
 zeros : (x y : Float) (c d : ℕ) → 0 < c → 0 < d → HasValue x false 0 c → HasValue y true 0 d → T (le x y)
 zeros nan y c d C D p q = absurd p
@@ -124,7 +125,8 @@ sub-mul p n d = mul-comm (p - n) d ∙ mul-sub d p n ∙ ap₂ _-_ (mul-comm d p
 none : (a b d : ℕ) → 0 < d → a * d ≡ b * d → a - b ≡ 0
 none a b d D h = let e : a ≡ b = eq-of-mul-eq-mul-right d D a b h in omega arith
 
-pub rounds-mono : (f : Format) (x y : Float) (P N c Q M d : ℕ) → 0 < c → 0 < d → Rounds f x P N c → Rounds f y Q M d → P * d + M * c ≤ Q * c + N * d → T (le x y)
+pub rounds-mono : (f : Format) (x y : Float) (P N c Q M d : ℕ) → 0 < c → 0 < d → Rounds f x P N c → Rounds f y Q M d → P * d + M * c ≤ Q * c + N * d
+    → T (le x y)
 rounds-mono f x y P N c Q M d C D (inl u) (inl v) h =
     rw (u .1, v .1) (round-mono f (P - N) c (Q - M) d C D (omega (arith, sub-mul P N d, sub-mul Q M c)))
 rounds-mono f x y P N c Q M d C D (inr u) (inr v) h =
@@ -140,14 +142,16 @@ rounds-mono f x y P N c Q M d C D (inl u) (inr v) h =
 
 -- ---- the product
 -- a finite factor a by its sign, and x by plus and less
-mul-rounds : (f : Format) (m : ℕ) (e : ℤ) (x : Float) → T (finite x) → Rounds f (mul f (fin false m e) x) (m * up e * plus x) (m * up e * less x) (down e * den x)
+mul-rounds : (f : Format) (m : ℕ) (e : ℤ) (x : Float) → T (finite x)
+    → Rounds f (mul f (fin false m e) x) (m * up e * plus x) (m * up e * less x) (down e * den x)
 unfolding mul
 mul-rounds f m e nan p = absurd p
 mul-rounds f m e (inf s) p = absurd p
 mul-rounds f m e (fin false n d) p = inl (omega arith, ap (λ (z : ℕ). round f false z (down e * down d)) (omega arith))
 mul-rounds f m e (fin true n d) p = inr (omega arith, ap (λ (z : ℕ). round f true z (down e * down d)) (omega arith))
 
-mul-rounds-neg : (f : Format) (m : ℕ) (e : ℤ) (x : Float) → T (finite x) → Rounds f (mul f (fin true m e) x) (m * up e * less x) (m * up e * plus x) (down e * den x)
+mul-rounds-neg : (f : Format) (m : ℕ) (e : ℤ) (x : Float) → T (finite x)
+    → Rounds f (mul f (fin true m e) x) (m * up e * less x) (m * up e * plus x) (down e * den x)
 unfolding mul
 mul-rounds-neg f m e nan p = absurd p
 mul-rounds-neg f m e (inf s) p = absurd p
@@ -163,7 +167,8 @@ no-sign : (m : ℕ) (e : ℤ) → T (not (lt (fin true m e) nought)) → m * up 
 unfolding lt
 no-sign m e h = omega (arith, nltb→le)
 
-pub mul-up : (f : Format) (a x y : Float) → T (finite a) → T (finite x) → T (finite y) → T (not (lt a nought)) → T (le x y) → T (le (mul f a x) (mul f a y))
+pub mul-up : (f : Format) (a x y : Float) → T (finite a) → T (finite x) → T (finite y) → T (not (lt a nought)) → T (le x y)
+    → T (le (mul f a x) (mul f a y))
 mul-up f nan x y p q r h k = absurd p
 mul-up f (inf s) x y p q r h k = absurd p
 mul-up f (fin false m e) x y p q r h k =
@@ -175,7 +180,8 @@ mul-up f (fin true m e) x y p q r h k =
     (mul-pos (down-pos e) (den-pos x)) (mul-pos (down-pos e) (den-pos y)) (mul-rounds-neg f m e x q) (mul-rounds-neg f m e y r)
     (let z = no-sign m e h in rw z (simp zero-mul (omega arith)))
 
-pub mul-down : (f : Format) (a x y : Float) → T (finite a) → T (finite x) → T (finite y) → T (lt a nought) → T (le x y) → T (le (mul f a y) (mul f a x))
+pub mul-down : (f : Format) (a x y : Float) → T (finite a) → T (finite x) → T (finite y) → T (lt a nought) → T (le x y)
+    → T (le (mul f a y) (mul f a x))
 mul-down f nan x y p q r h k = absurd p
 mul-down f (inf s) x y p q r h k = absurd p
 mul-down f (fin false m e) x y p q r h k = absurd (unfold lt in omega (arith, ltb→lt))
@@ -196,7 +202,8 @@ sum-rounds f false a true b c = go (ltb a b) (ltb→lt a b) (nltb→le a b)
     go false h k = let l = k tt in inl (omega arith, ap (λ (z : ℕ). round f false z c) (omega arith))
 sum-rounds f true a false b c = go (ltb a b) (ltb b a) (ltb→lt a b) (nltb→le a b) (nltb→le b a)
   where
-    go : (x y : Bool) → (T x → a < b) → (T (not x) → b ≤ a) → (T (not y) → a ≤ b) → Rounds f (cond x (round f false (b - a) c) (round f y (a - b) c)) (0 + b) (a + 0) c
+    go : (x y : Bool) → (T x → a < b) → (T (not x) → b ≤ a) → (T (not y) → a ≤ b)
+        → Rounds f (cond x (round f false (b - a) c) (round f y (a - b) c)) (0 + b) (a + 0) c
     go true y h k l = let i = h tt in inl (omega arith, ap (λ (z : ℕ). round f false z c) (omega arith))
     go false true h k l = let i = k tt in inr (omega arith, ap (λ (z : ℕ). round f true z c) (omega arith))
     go false false h k l = let i = k tt in let j = l tt in inl (omega arith, ap (λ (z : ℕ). round f false z c) (omega arith))
@@ -209,7 +216,8 @@ cond-mul false a b c = refl
 rounds-at : (f : Format) (x : Float) (P P' N N' c : ℕ) → P ≡ P' → N ≡ N' → Rounds f x P N c → Rounds f x P' N' c
 rounds-at f x P P' N N' c p q h = rw (p, q) at h
 
-add-rounds : (f : Format) (x y : Float) → T (finite x) → T (finite y) → Rounds f (add f x y) (plus x * den y + plus y * den x) (less x * den y + less y * den x) (den x * den y)
+add-rounds : (f : Format) (x y : Float) → T (finite x) → T (finite y)
+    → Rounds f (add f x y) (plus x * den y + plus y * den x) (less x * den y + less y * den x) (den x * den y)
 unfolding add
 add-rounds f nan y p q = absurd p
 add-rounds f (inf s) y p q = absurd p
@@ -228,7 +236,8 @@ both p n c p' n' c' q m d q' m' d' h k =
     let k' = simp (add-mul, mul-assoc, mul-comm, mul-left-comm) at (mul-le-mul-right (c * c') k) in
     simp (add-mul, mul-assoc, mul-comm, mul-left-comm) (omega arith)
 
-fin-add : (f : Format) (x x' y y' : Float) → T (finite x) → T (finite x') → T (finite y) → T (finite y') → T (le x x') → T (le y y') → T (le (add f x y) (add f x' y'))
+fin-add : (f : Format) (x x' y y' : Float) → T (finite x) → T (finite x') → T (finite y) → T (finite y') → T (le x x') → T (le y y')
+    → T (le (add f x y) (add f x' y'))
 fin-add f x x' y y' p p' q q' h k =
     rounds-mono f (add f x y) (add f x' y') _ _ (den x * den y) _ _ (den x' * den y')
     (mul-pos (den-pos x) (den-pos y)) (mul-pos (den-pos x') (den-pos y')) (add-rounds f x y p q) (add-rounds f x' y' p' q')
@@ -259,7 +268,8 @@ lowest x y p q = rw p (bottom y q)
 highest : (x y : Float) → y ≡ inf false → T (not (isNan x)) → T (le x y)
 highest x y p q = rw p (top x q)
 
-pub add-mono : (f : Format) (x x' y y' : Float) → T (le x x') → T (le y y') → T (not (isNan (add f x y))) → T (not (isNan (add f x' y'))) → T (le (add f x y) (add f x' y'))
+pub add-mono : (f : Format) (x x' y y' : Float) → T (le x x') → T (le y y') → T (not (isNan (add f x y))) → T (not (isNan (add f x' y')))
+    → T (le (add f x y) (add f x' y'))
 unfolding le
 add-mono f nan x' y y' h k p q = absurd h
 add-mono f (inf true) x' y y' h k p q = lowest (add f (inf true) y) (add f x' y') (add-inf-l f true y p) q
@@ -271,14 +281,17 @@ add-mono f (fin s m e) nan y y' h k p q = absurd h
 add-mono f (fin s m e) (inf true) y y' h k p q = absurd h
 add-mono f (fin s m e) (inf false) y y' h k p q = highest (add f (fin s m e) y) (add f (inf false) y') (add-inf-l f false y' q) p
 add-mono f (fin s m e) (fin t n d) nan y' h k p q = absurd k
-add-mono f (fin s m e) (fin t n d) (inf true) y' h k p q = lowest (add f (fin s m e) (inf true)) (add f (fin t n d) y') (add-inf-r f (fin s m e) true p) q
+add-mono f (fin s m e) (fin t n d) (inf true) y' h k p q =
+    lowest (add f (fin s m e) (inf true)) (add f (fin t n d) y') (add-inf-r f (fin s m e) true p) q
 add-mono f (fin s m e) (fin t n d) (inf false) nan h k p q = absurd k
 add-mono f (fin s m e) (fin t n d) (inf false) (inf true) h k p q = absurd k
-add-mono f (fin s m e) (fin t n d) (inf false) (inf false) h k p q = highest (add f (fin s m e) (inf false)) (add f (fin t n d) (inf false)) (add-inf-r f (fin t n d) false q) p
+add-mono f (fin s m e) (fin t n d) (inf false) (inf false) h k p q =
+    highest (add f (fin s m e) (inf false)) (add f (fin t n d) (inf false)) (add-inf-r f (fin t n d) false q) p
 add-mono f (fin s m e) (fin t n d) (inf false) (fin u l g) h k p q = absurd k
 add-mono f (fin s m e) (fin t n d) (fin u l g) nan h k p q = absurd k
 add-mono f (fin s m e) (fin t n d) (fin u l g) (inf true) h k p q = absurd k
-add-mono f (fin s m e) (fin t n d) (fin u l g) (inf false) h k p q = highest (add f (fin s m e) (fin u l g)) (add f (fin t n d) (inf false)) (add-inf-r f (fin t n d) false q) p
+add-mono f (fin s m e) (fin t n d) (fin u l g) (inf false) h k p q =
+    highest (add f (fin s m e) (fin u l g)) (add f (fin t n d) (inf false)) (add-inf-r f (fin t n d) false q) p
 add-mono f (fin s m e) (fin t n d) (fin u l g) (fin v i j) h k p q = fin-add f (fin s m e) (fin t n d) (fin u l g) (fin v i j) tt tt tt tt h k
 
 -- ---- a product does not ask for an order of its factors

@@ -40,14 +40,18 @@ below-is true a false b = bool-ext _ _ (λ h. omega (arith, ltb→lt, lt→ltb))
 below-is true a true b = bool-ext _ _ (λ h. omega (arith, ltb→lt, lt→ltb)) (λ h. omega (arith, ltb→lt, lt→ltb))
 
 level-is : (s : Bool) (a : ℕ) (t : Bool) (b : ℕ) → level s a t b ≡ eqb (cond s 0 a + cond t b 0) (cond t 0 b + cond s a 0)
-level-is false a false b = bool-ext _ _ (λ h. let e : a ≡ b = eqb→eq a b (and-l (eqb a b) true h) in omega (arith, eq→eqb)) (λ h. let e : a ≡ b = omega (arith, eqb→eq) in and-i (eqb a b) true (eq→eqb e) tt)
+level-is false a false b =
+    bool-ext _ _ (λ h. let e : a ≡ b = eqb→eq a b (and-l (eqb a b) true h) in omega (arith, eq→eqb)) (λ h. let e : a ≡ b = omega (arith, eqb→eq) in and-i (eqb a b) true (eq→eqb e) tt)
 level-is false a true b =
-    bool-ext _ _ (λ h. let e : a ≡ b = eqb→eq a b (and-l (eqb a b) (eqb a 0) h) in let z : a ≡ 0 = eqb→eq a 0 (and-r (eqb a b) (eqb a 0) h) in omega (arith, eq→eqb))
+    bool-ext _ _ (λ h. let e : a ≡ b =
+    eqb→eq a b (and-l (eqb a b) (eqb a 0) h) in let z : a ≡ 0 = eqb→eq a 0 (and-r (eqb a b) (eqb a 0) h) in omega (arith, eq→eqb))
     (λ h. and-i (eqb a b) (eqb a 0) (omega (arith, eqb→eq, eq→eqb)) (omega (arith, eqb→eq, eq→eqb)))
 level-is true a false b =
-    bool-ext _ _ (λ h. let e : a ≡ b = eqb→eq a b (and-l (eqb a b) (eqb a 0) h) in let z : a ≡ 0 = eqb→eq a 0 (and-r (eqb a b) (eqb a 0) h) in omega (arith, eq→eqb))
+    bool-ext _ _ (λ h. let e : a ≡ b =
+    eqb→eq a b (and-l (eqb a b) (eqb a 0) h) in let z : a ≡ 0 = eqb→eq a 0 (and-r (eqb a b) (eqb a 0) h) in omega (arith, eq→eqb))
     (λ h. and-i (eqb a b) (eqb a 0) (omega (arith, eqb→eq, eq→eqb)) (omega (arith, eqb→eq, eq→eqb)))
-level-is true a true b = bool-ext _ _ (λ h. let e : a ≡ b = eqb→eq a b (and-l (eqb a b) true h) in omega (arith, eq→eqb)) (λ h. let e : a ≡ b = omega (arith, eqb→eq) in and-i (eqb a b) true (eq→eqb e) tt)
+level-is true a true b =
+    bool-ext _ _ (λ h. let e : a ≡ b = eqb→eq a b (and-l (eqb a b) true h) in omega (arith, eq→eqb)) (λ h. let e : a ≡ b = omega (arith, eqb→eq) in and-i (eqb a b) true (eq→eqb e) tt)
 
 -- ---- a finite value as (plus - less) / den
 abbrev pub plus : Float → ℕ

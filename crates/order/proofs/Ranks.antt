@@ -120,7 +120,8 @@ no-mag f a b d D h =
     let z : a ≡ 0 = eq-of-mul-eq-mul-right d D a 0 (h ∙ sym (zero-mul d)) in
     ap (λ (v : ℕ). code f (v * 2 ^ low f / b)) z ∙ ap (λ (v : ℕ). code f (v / b)) (zero-mul (2 ^ low f)) ∙ ap (code f) (zero-div b) ∙ code-zero f
 
-fin-rank : (f : Format) (s : Bool) (m : ℕ) (e : ℤ) (t : Bool) (n : ℕ) (d : ℤ) → T (le (fin s m e) (fin t n d)) → rank f (fin s m e) ≤ rank f (fin t n d)
+fin-rank : (f : Format) (s : Bool) (m : ℕ) (e : ℤ) (t : Bool) (n : ℕ) (d : ℤ) → T (le (fin s m e) (fin t n d))
+    → rank f (fin s m e) ≤ rank f (fin t n d)
 unfolding rank
 fin-rank f false m e false n d h =
     let l = le→left (fin false m e) (fin false n d) tt tt h in
@@ -184,7 +185,8 @@ same-rank f x y p q i j h = go (sign x) (sign y) refl refl h
     alike s a b e =
         subst (λ (v : Float). T (le x v)) (same-bits f x y p q (toBits-at f x s (magnitude f y) i a e ∙ sym (toBits-at f y s (magnitude f y) j b refl))) (refl-le x i)
 
-    go : (s t : Bool) → sign x ≡ s → sign y ≡ t → cond s (top f - magnitude f x) (top f + magnitude f x) ≡ cond t (top f - magnitude f y) (top f + magnitude f y) → T (le x y)
+    go : (s t : Bool) → sign x ≡ s → sign y ≡ t
+        → cond s (top f - magnitude f x) (top f + magnitude f x) ≡ cond t (top f - magnitude f y) (top f + magnitude f y) → T (le x y)
     go true true a b h = alike true a b (omega (arith, magnitude-le f x p, magnitude-le f y q, under-top f))
     go true false a b h = low-high x y i j a b
     go false true a b h =
@@ -230,7 +232,8 @@ module _ (f : Format) (x : Float) (p : T (fits f x)) (i : T (not (isNan x))) whe
   unfolding rank
   rank-low = go (sign x) (toBits-is f x i)
     where
-      go : (s : Bool) → toBits f x ≡ cond s (top f) 0 + magnitude f x → toBits f x < top f → toBits f x + top f ≡ cond s (top f - magnitude f x) (top f + magnitude f x)
+      go : (s : Bool) → toBits f x ≡ cond s (top f) 0 + magnitude f x → toBits f x < top f
+          → toBits f x + top f ≡ cond s (top f - magnitude f x) (top f + magnitude f x)
       go true e h = omega arith
       go false e h = omega arith
 
@@ -238,6 +241,7 @@ module _ (f : Format) (x : Float) (p : T (fits f x)) (i : T (not (isNan x))) whe
   unfolding rank
   rank-high = go (sign x) (toBits-is f x i)
     where
-      go : (s : Bool) → toBits f x ≡ cond s (top f) 0 + magnitude f x → top f ≤ toBits f x → top f - (toBits f x - top f) ≡ cond s (top f - magnitude f x) (top f + magnitude f x)
+      go : (s : Bool) → toBits f x ≡ cond s (top f) 0 + magnitude f x → top f ≤ toBits f x
+          → top f - (toBits f x - top f) ≡ cond s (top f - magnitude f x) (top f + magnitude f x)
       go true e h = omega arith
       go false e h = omega (arith, magnitude-le f x p, strictly f)

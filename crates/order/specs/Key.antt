@@ -1,12 +1,12 @@
 -- Measures as keys of 64 binary digits, so that a search compares whole numbers. A NaN's key is the greatest, since it never qualifies; a bound
 -- that is a NaN has the least key, since it rules nothing out.
-use Prim.Native.Nat.{ℕ}
+use Prim.Native.Nat.{ℕ, _-_, _^_}
 use mathlib.Core.Bool.{cond}
 use lib.Ieee.{Float, binary64, isNan}
 use Rattle.order.specs.Rank.{rank}
 
 abbrev pub key-nan : ℕ
-key-nan = 18446744073709551615
+key-nan = 2 ^ 64 - 1
 
 unfoldable pub key : Float → ℕ
 unfolding rank

@@ -5,7 +5,7 @@ use lib.IntN.{pos, negsuc}
 use lib.Ieee.{nan, inf, fin, binary64, ofBits, mul}
 use Rattle.rules.specs.Root.{root}
 
--- 4 and 2; the square of 2 ^ -537, the smallest double, has its root back; the largest double; 2, 0.1
+-- the root of 4; of the smallest double, which is 2 ^ -537; of the largest; of 2 and of 0.1
 four : root binary64 (fin false 1 (pos 2)) ≡ fin false 1 (pos 1)
 unfolding root
 four = refl

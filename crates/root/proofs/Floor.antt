@@ -1,4 +1,5 @@
--- `floorRoot` is the root cut to a whole number, and `nearest` of it is the whole number nearest to the root.
+-- `floorRoot` is the root cut to a whole number, and `nearest` of it is the whole number nearest to the root: a digit more of the root takes
+-- two more of the radicand, and the comparison with the middle is the test of `Near`.
 use mathlib.Core.Path.{_≡_, refl, sym, ap, _∙_, subst}
 use mathlib.Core.Bool.{Bool, true, false, not, cond}
 use mathlib.Core.Logic.{_⊎_, inl, inr}
@@ -59,7 +60,8 @@ compare-gt a b h = go (compare a b) (lt→nleb a b h)
 pub four-pos : (k : ℕ) → 0 < 4 ^ k
 four-pos k = one-le-pow k 4 (lit< tt)
 
-pub rounded : (c k r : ℕ) → 0 < c → Near c r → nearest (floorRoot c) (compare (4 * (c * 4 ^ k)) ((2 * floorRoot c + 1) * (2 * floorRoot c + 1) * 4 ^ k)) ≡ r
+pub rounded : (c k r : ℕ) → 0 < c → Near c r
+    → nearest (floorRoot c) (compare (4 * (c * 4 ^ k)) ((2 * floorRoot c + 1) * (2 * floorRoot c + 1) * 4 ^ k)) ≡ r
 rounded c k r o near = go (floorRoot c) (floor-cut c)
   where
     some : (q : ℕ) → (q ≡ 0) ⊎ (0 < q) → Cut c q → q * q < c + q
@@ -72,7 +74,8 @@ rounded c k r o near = go (floorRoot c) (floor-cut c)
     scaled-up : (a b : ℕ) → b < 4 * a → b * 4 ^ k < 4 * (a * 4 ^ k)
     scaled-up a b h = subst (λ (x : ℕ). b * 4 ^ k < x) (mul-assoc 4 a (4 ^ k)) (mul-lt-mul-of-pos-right h (four-pos k))
 
-    pick : (q : ℕ) → Cut c q → (b : Bool) → (T b → c ≤ q * q + q) → (T (not b) → q * q + q < c) → nearest q (compare (4 * (c * 4 ^ k)) ((2 * q + 1) * (2 * q + 1) * 4 ^ k)) ≡ r
+    pick : (q : ℕ) → Cut c q → (b : Bool) → (T b → c ≤ q * q + q) → (T (not b) → q * q + q < c)
+        → nearest q (compare (4 * (c * 4 ^ k)) ((2 * q + 1) * (2 * q + 1) * 4 ^ k)) ≡ r
     pick q p true y n =
         let u = y tt in
         ap (nearest q) (compare-lt _ _ (scaled c ((2 * q + 1) * (2 * q + 1)) (omega (arith, sq-odd q))))

@@ -1,4 +1,5 @@
--- Doubles as multiples of powers of two: none lies between two neighbours of 53 digits.
+-- Doubles as multiples of powers of two: none lies between q * 2 ^ k and (q + 1) * 2 ^ k for a q of 53 digits. A multiple of 2 ^ k does not, and a multiple
+-- of a smaller power, which has 53 digits at most, is too small.
 use mathlib.Core.Path.{_≡_, sym, ap, _∙_, subst}
 use mathlib.Core.Bool.{Bool, true, false, not, _&&_}
 use Prim.Native.Nat.{ℕ, zero, suc, _+_, _-_, _*_, _/_, _%_, _^_, _≤_, _<_}
@@ -17,7 +18,7 @@ use Rattle.root.proofs.Size.{pow-back}
 
 -- ---- a double is a * 2 ^ j smallest values, with an a of 53 digits at most
 pub record Double (v : Float) (a j : ℕ) : Type 0 where
-  pub short : a < 9007199254740992
+  pub short : a < 2 ^ 53
   pub counted : count v ≡ a * 2 ^ j
   pub exact : num v * 2 ^ 1074 ≡ a * 2 ^ j * den v
   pub bounded : a * 2 ^ j < 2 ^ 2098
@@ -26,7 +27,8 @@ pow-le-back : (a l : ℕ) → 2 ^ a ≤ 2 ^ l → a ≤ l
 pow-le-back a l h = le-of-suc-le-suc (pow-back a (suc l) (lt-of-le-of-lt h (pow-lt (lt-suc-self l))))
 
 place : (e : ℤ) → down e ≤ 2 ^ 1074 → (j : ℕ) × ((m : ℕ) → m * up e * 2 ^ 1074 ≡ m * 2 ^ j * down e)
-place (pos a) h = (a + 1074, λ m. mul-assoc m (2 ^ a) (2 ^ 1074) ∙ ap (λ (x : ℕ). m * x) (sym (pow-add 2 a 1074)) ∙ sym (mul-one (m * 2 ^ (a + 1074))))
+place (pos a) h =
+    (a + 1074, λ m. mul-assoc m (2 ^ a) (2 ^ 1074) ∙ ap (λ (x : ℕ). m * x) (sym (pow-add 2 a 1074)) ∙ sym (mul-one (m * 2 ^ (a + 1074))))
 place (negsuc a) h = (
   1074 - suc a,
   λ m.
@@ -45,13 +47,15 @@ nothing : (e : ℤ) → 0 * up e * 2 ^ 1074 ≡ 0
 nothing e = ap (λ (x : ℕ). x * 2 ^ 1074) (zero-mul (up e)) ∙ zero-mul (2 ^ 1074)
 
 within : (x d y : ℕ) → x < 2 ^ 1024 * d → x * 2 ^ 1074 ≡ y * d → y < 2 ^ 2098
-within x d y h e = lt-of-mul-lt-mul-right d (subst (λ (z : ℕ). z < 2 ^ 2098 * d) e (subst (λ (z : ℕ). x * 2 ^ 1074 < z) (mul-right-comm (2 ^ 1024) d (2 ^ 1074)) (mul-lt-mul-of-pos-right h (pow-pos 1074))))
+within x d y h e =
+    lt-of-mul-lt-mul-right d (subst (λ (z : ℕ). z < 2 ^ 2098 * d) e (subst (λ (z : ℕ). x * 2 ^ 1074 < z) (mul-right-comm (2 ^ 1024) d (2 ^ 1074)) (mul-lt-mul-of-pos-right h (pow-pos 1074))))
 
 pub double : (v : Float) → T (fits binary64 v) → T (finite v) → (a : ℕ) × (j : ℕ) × Double v a j
 unfolding fits
 double nan h f = absurd f
 double (inf s) h f = absurd f
-double (fin s zero e) h f = (0, 0, record { short = zero-lt-suc 9007199254740991; counted = ap (λ (x : ℕ). x / down e) (nothing e) ∙ zero-div (down e); exact = nothing e ∙ sym (zero-mul (down e)); bounded = pow-pos 2098 })
+double (fin s zero e) h f =
+    (0, 0, record { short = zero-lt-suc (2 ^ 53 - 1); counted = ap (λ (x : ℕ). x / down e) (nothing e) ∙ zero-div (down e); exact = nothing e ∙ sym (zero-mul (down e)); bounded = pow-pos 2098 })
 double (fin s (suc m) e) h f =
     let A = eqb (suc m % 2) 1 in
     let B = ltb (suc m) (2 ^ 53) in
@@ -64,12 +68,13 @@ double (fin s (suc m) e) h f =
         short = ltb→lt (suc m) (2 ^ 53) (and-r A B (and-l (A && B) C (and-l (A && B && C) D h)));
         counted = ap (λ (x : ℕ). x / down e) (p .1 (suc m)) ∙ mul-div-cancel (suc m * 2 ^ p .0) (down-pos e);
         exact = p .1 (suc m);
-        bounded = within (suc m * up e) (down e) (suc m * 2 ^ p .0) (ltb→lt (suc m * up e) (2 ^ 1024 * down e) (and-r (A && B && C) D h)) (p .1 (suc m));
+        bounded =
+            within (suc m * up e) (down e) (suc m * 2 ^ p .0) (ltb→lt (suc m * up e) (2 ^ 1024 * down e) (and-r (A && B && C) D h)) (p .1 (suc m));
       },
     )
 
 -- ---- between q * 2 ^ k and (q + 1) * 2 ^ k, for a q of 53 digits, lies no double
-pub none-between : (a j q k : ℕ) → a < 9007199254740992 → 4503599627370496 ≤ q → q * 2 ^ k < a * 2 ^ j → a * 2 ^ j < (q + 1) * 2 ^ k → ⊥
+pub none-between : (a j q k : ℕ) → a < 2 ^ 53 → 2 ^ 52 ≤ q → q * 2 ^ k < a * 2 ^ j → a * 2 ^ j < (q + 1) * 2 ^ k → ⊥
 none-between a j q k s n lo hi = go (leb k j) (leb→le k j) (nleb→lt k j)
   where
     no : (b : ℕ) → a * 2 ^ j ≡ b * 2 ^ k → ⊥
@@ -79,9 +84,10 @@ none-between a j q k s n lo hi = go (leb k j) (leb→le k j) (nleb→lt k j)
         omega arith
 
     go : (b : Bool) → (T b → k ≤ j) → (T (not b) → j < k) → ⊥
-    go true y z = no (a * 2 ^ (j - k)) (ap (λ (x : ℕ). a * x) (ap (λ (x : ℕ). 2 ^ x) (sym (sub-add-cancel (y tt))) ∙ pow-add 2 (j - k) k) ∙ sym (mul-assoc a (2 ^ (j - k)) (2 ^ k)))
+    go true y z =
+        no (a * 2 ^ (j - k)) (ap (λ (x : ℕ). a * x) (ap (λ (x : ℕ). 2 ^ x) (sym (sub-add-cancel (y tt))) ∙ pow-add 2 (j - k) k) ∙ sym (mul-assoc a (2 ^ (j - k)) (2 ^ k)))
     go false y z =
         let l : j < k = z tt in
         let m : 2 ^ (53 + j) ≤ 2 ^ (52 + k) = pow-mono {i = 53 + j} {j = 52 + k} (omega arith) in
-        let r : 4503599627370496 * 2 ^ k ≤ q * 2 ^ k = mul-le-mul-right (2 ^ k) n in
+        let r : (2 ^ 52) * 2 ^ k ≤ q * 2 ^ k = mul-le-mul-right (2 ^ k) n in
         lt-irrefl (q * 2 ^ k) (lt-trans lo (lt-of-lt-of-le (shl-lt 53 j s) (le-trans m (le-trans (le-of-eq (pow-add 2 52 k)) r))))

@@ -1,4 +1,6 @@
--- The law of this crate: of a double that is finite and above zero, `root` is the double nearest to its root (`root-nearest`). A tie between two is impossible.
+-- Of a double that is finite and above zero, `root` is the double nearest to its root (`root-nearest`), and no other is (`nearest-only`).
+-- True since no double lies between the two multiples of 2 ^ k around the root, and the definition compares the root with their middle. A tie is
+-- impossible: the middle's square, taken 4 times, is odd, and the radicand, taken 4 times, is even.
 use mathlib.Core.Path.{_≡_, refl, sym, ap, _∙_, subst}
 use mathlib.Core.Bool.{Bool, true, false, not}
 use Prim.Native.Nat.{ℕ, suc, _+_, _-_, _*_, _/_, _^_, _≤_, _<_, compare}
@@ -89,8 +91,8 @@ no-tie a t k q h e =
 record Sized (n k q : ℕ) : Type 0 where
   lo : q * q * 4 ^ k ≤ n
   hi : n < (q + 1) * (q + 1) * 4 ^ k
-  least : 4503599627370496 ≤ q
-  most : q < 9007199254740992
+  least : (2 ^ 52) ≤ q
+  most : q < 2 ^ 53
   few : k ≤ 1600
   even : k + k ≤ size n - 105
 
@@ -108,16 +110,16 @@ cut-at n k m h e = go (floorRoot (n / 4 ^ k)) (floor-cut (n / 4 ^ k))
         record {
           lo = lo;
           hi = hi;
-          least = le-of-suc-le-suc (lt-of-not-le (λ (g : suc q ≤ 4503599627370496). no-least q big g));
-          most = lt-of-not-le (λ (g : 9007199254740992 ≤ q). no-most q small g);
+          least = le-of-suc-le-suc (lt-of-not-le (λ (g : suc q ≤ 2 ^ 52). no-least q big g));
+          most = lt-of-not-le (λ (g : (2 ^ 53) ≤ q). no-most q small g);
           few = omega arith;
           even = omega arith;
         }
       where
-        no-least : (q : ℕ) → 2 ^ 104 < (q + 1) * (q + 1) → suc q ≤ 4503599627370496 → ⊥
-        no-least q h g = let g' : q + 1 ≤ 4503599627370496 = omega arith in omega (arith, sq-mono g')
+        no-least : (q : ℕ) → 2 ^ 104 < (q + 1) * (q + 1) → suc q ≤ 2 ^ 52 → ⊥
+        no-least q h g = let g' : q + 1 ≤ (2 ^ 52) = omega arith in omega (arith, sq-mono g')
 
-        no-most : (q : ℕ) → q * q < 2 ^ 106 → 9007199254740992 ≤ q → ⊥
+        no-most : (q : ℕ) → q * q < 2 ^ 106 → 2 ^ 53 ≤ q → ⊥
         no-most q h g = omega (arith, sq-mono g)
 
 -- ---- the law
@@ -131,13 +133,14 @@ own (fin false m e) a j p d = (refl, d .exact)
 
 nearest-at : (x r : Float) (n k q u : ℕ) → count x * 2 ^ 1074 ≡ n → Sized n k q → Rounded n k q u → r ≡ units binary64 false u k → Nearest x r
 nearest-at x r n k q u e z w f =
-    let least : 4503599627370496 ≤ u = at-least w in
-    let most : u ≤ 9007199254740992 = at-most w in
+    let least : (2 ^ 52) ≤ u = at-least w in
+    let most : u ≤ (2 ^ 53) = at-most w in
     let fine : u * 2 ^ k < 2 ^ 2098 = lt-of-lt-of-le (shl-lt 54 k (omega arith)) (pow-mono {i = 54 + k} {j = 2098} (fewer (z .few))) in
     let v : HasValue r false (u * 2 ^ k) (2 ^ 1074) = subst (λ (y : Float). HasValue y false (u * 2 ^ k) (2 ^ 1074)) (sym f) (units-val binary64 false u k fine) in
     let c : count r ≡ u * 2 ^ k = count-value r false (u * 2 ^ k) v in
     record {
-      held = subst (λ (y : Float). T (fits binary64 y)) (units-bits u k least most (z .few) ∙ sym f) (ofBits-fits binary64 (k * 4503599627370496 + u));
+      held =
+          subst (λ (y : Float). T (fits binary64 y)) (units-bits u k least most (z .few) ∙ sym f) (ofBits-fits binary64 (k * 2 ^ 52 + u));
       above-zero = positive-of-value r (u * 2 ^ k) (2 ^ 1074) v (mul-pos (omega arith) (pow-pos k));
       under = λ y h g l.
           let d = double y h g in
@@ -151,21 +154,23 @@ nearest-at x r n k q u e z w f =
           (over n k q u (count y) (z .lo) (z .hi) (between y (d .0) (d .1) (d .2)) w (subst (λ (t : ℕ). t < count y) c l)));
     }
   where
-    at-least : Rounded n k q u → 4503599627370496 ≤ u
-    at-least (stays g h) = subst (λ (t : ℕ). 4503599627370496 ≤ t) (sym g) (z .least)
-    at-least (rises g h) = subst (λ (t : ℕ). 4503599627370496 ≤ t) (sym g) (le-trans (z .least) (omega arith))
+    at-least : Rounded n k q u → 2 ^ 52 ≤ u
+    at-least (stays g h) = subst (λ (t : ℕ). (2 ^ 52) ≤ t) (sym g) (z .least)
+    at-least (rises g h) = subst (λ (t : ℕ). (2 ^ 52) ≤ t) (sym g) (le-trans (z .least) (omega arith))
 
-    at-most : Rounded n k q u → u ≤ 9007199254740992
-    at-most (stays g h) = subst (λ (t : ℕ). t ≤ 9007199254740992) (sym g) (le-of-lt (z .most))
-    at-most (rises g h) = subst (λ (t : ℕ). t ≤ 9007199254740992) (sym (g ∙ add-one q)) (z .most)
+    at-most : Rounded n k q u → u ≤ 2 ^ 53
+    at-most (stays g h) = subst (λ (t : ℕ). t ≤ 2 ^ 53) (sym g) (le-of-lt (z .most))
+    at-most (rises g h) = subst (λ (t : ℕ). t ≤ 2 ^ 53) (sym (g ∙ add-one q)) (z .most)
 
     fewer : k ≤ 1600 → 54 + k ≤ 2098
     fewer h = omega arith
 
     between : (y : Float) (a j : ℕ) → Double y a j → q * 2 ^ k < count y → count y < (q + 1) * 2 ^ k → ⊥
-    between y a j d l h = none-between a j q k (d .short) (z .least) (subst (λ (t : ℕ). q * 2 ^ k < t) (d .counted) l) (subst (λ (t : ℕ). t < (q + 1) * 2 ^ k) (d .counted) h)
+    between y a j d l h =
+        none-between a j q k (d .short) (z .least) (subst (λ (t : ℕ). q * 2 ^ k < t) (d .counted) l) (subst (λ (t : ℕ). t < (q + 1) * 2 ^ k) (d .counted) h)
 
-units-of : (n : ℕ) → rootUnits binary64 n ≡ units binary64 false (picked n ((size n + 1) / 2 - 53) (floorRoot (n / 4 ^ ((size n + 1) / 2 - 53)))) ((size n + 1) / 2 - 53)
+units-of : (n : ℕ)
+    → rootUnits binary64 n ≡ units binary64 false (picked n ((size n + 1) / 2 - 53) (floorRoot (n / 4 ^ ((size n + 1) / 2 - 53)))) ((size n + 1) / 2 - 53)
 unfolding rootUnits
 units-of n = refl
 
@@ -210,7 +215,7 @@ nearest-only x r r' p p' =
     sym (told r (p .held) (p .above-zero)) ∙ ap told-by (le-antisymm (not-more (no-less x r' r p' p)) (not-more (no-less x r r' p p'))) ∙ told r' (p' .held) (p' .above-zero)
   where
     told-by : ℕ → Float
-    told-by a = ofBits binary64 ((size a - 53) * 4503599627370496 + a / 2 ^ (size a - 53))
+    told-by a = ofBits binary64 ((size a - 53) * 2 ^ 52 + a / 2 ^ (size a - 53))
 
     not-more : {a b : ℕ} → (b < a → ⊥) → a ≤ b
     not-more {a} {b} n = le-of-suc-le-suc (lt-of-not-le (λ (g : suc b ≤ a). n g))

@@ -13,13 +13,13 @@ use Rattle.root.proofs.Size.{pow-back, four}
 pub record Shifted (m a s : ℕ) : Type 0 where
   pub value : a ≡ m * 2 ^ s
   pub some : 0 < a
-  pub short : a < 9007199254740992
+  pub short : a < 2 ^ 53
   pub few : s ≤ 52
 
-pub unshifted : (m : ℕ) → 0 < m → m < 9007199254740992 → Shifted m m 0
+pub unshifted : (m : ℕ) → 0 < m → m < 2 ^ 53 → Shifted m m 0
 unshifted m o h = record { value = omega arith; some = o; short = h; few = omega arith }
 
-pub shifted-more : {m a s : ℕ} → Shifted m a s → 0 < m → a < 4503599627370496 → Shifted m (a * 2) (s + 1)
+pub shifted-more : {m a s : ℕ} → Shifted m a s → 0 < m → a < 2 ^ 52 → Shifted m (a * 2) (s + 1)
 shifted-more {m} {a} {s} p o h =
     let reach : 2 ^ s ≤ 2 ^ s * m = le-mul-of-pos-right (2 ^ s) o in
     let below : 2 ^ s < 2 ^ 52 = omega (arith, mul-comm m (2 ^ s)) in
@@ -37,32 +37,32 @@ taken-out p k s j m b e f =
     ∙ ap (λ (x : ℕ). b * 2 ^ p * x) (sym (four k))
 
 -- the root of 105 or 106 digits has 53, or it is 2 ^ 53
-pub at-least : (c r : ℕ) → Near c r → 20282409603651670423947251286016 ≤ c → 4503599627370496 ≤ r
-at-least c r p h = le-of-suc-le-suc (lt-of-not-le (λ (g : suc r ≤ 4503599627370496). no g))
+pub at-least : (c r : ℕ) → Near c r → 2 ^ 104 ≤ c → 2 ^ 52 ≤ r
+at-least c r p h = le-of-suc-le-suc (lt-of-not-le (λ (g : suc r ≤ 2 ^ 52). no g))
   where
-    no : suc r ≤ 4503599627370496 → ⊥
-    no g = let l : r ≤ 4503599627370495 = omega arith in omega (arith, sq-mono l)
+    no : suc r ≤ 2 ^ 52 → ⊥
+    no g = let l : r ≤ (2 ^ 52 - 1) = omega arith in omega (arith, sq-mono l)
 
-pub at-most : (c r : ℕ) → Near c r → c < 81129638414606681695789005144064 → r ≤ 9007199254740992
-at-most c r p h = le-of-suc-le-suc (lt-of-not-le (λ (g : suc 9007199254740992 ≤ r). no g))
+pub at-most : (c r : ℕ) → Near c r → c < 2 ^ 106 → r ≤ 2 ^ 53
+at-most c r p h = le-of-suc-le-suc (lt-of-not-le (λ (g : suc (2 ^ 53) ≤ r). no g))
   where
-    no : suc 9007199254740992 ≤ r → ⊥
+    no : suc (2 ^ 53) ≤ r → ⊥
     no g = omega (arith, mul-le-mul-right r g)
 
-pub taken-out-odd : (k s j m b : ℕ) → b ≡ m * 2 ^ s → j ≡ s + (53 + (k + k)) → m * 2 ^ j ≡ b * 2 * 4503599627370496 * 4 ^ k
-taken-out-odd k s j m b e f = taken-out 53 k s j m b e f ∙ ap (λ (x : ℕ). x * 4 ^ k) (sym (mul-assoc b 2 4503599627370496))
+pub taken-out-odd : (k s j m b : ℕ) → b ≡ m * 2 ^ s → j ≡ s + (53 + (k + k)) → m * 2 ^ j ≡ b * 2 * 2 ^ 52 * 4 ^ k
+taken-out-odd k s j m b e f = taken-out 53 k s j m b e f ∙ ap (λ (x : ℕ). x * 4 ^ k) (sym (mul-assoc b 2 (2 ^ 52)))
 
 -- either way in one expression
-pub taken-either : (s j m b : ℕ) → b ≡ m * 2 ^ s → s + 52 ≤ j → m * 2 ^ j ≡ (b + b * ((j - s) % 2)) * 4503599627370496 * 4 ^ ((j - s - 52) / 2)
+pub taken-either : (s j m b : ℕ) → b ≡ m * 2 ^ s → s + 52 ≤ j → m * 2 ^ j ≡ (b + b * ((j - s) % 2)) * 2 ^ 52 * 4 ^ ((j - s - 52) / 2)
 taken-either s j m b e f = go ((j - s) % 2) refl
   where
-    go : (p : ℕ) → (j - s) % 2 ≡ p → m * 2 ^ j ≡ (b + b * ((j - s) % 2)) * 4503599627370496 * 4 ^ ((j - s - 52) / 2)
+    go : (p : ℕ) → (j - s) % 2 ≡ p → m * 2 ^ j ≡ (b + b * ((j - s) % 2)) * 2 ^ 52 * 4 ^ ((j - s - 52) / 2)
     go zero h =
         let w : b ≡ b + b * ((j - s) % 2) = omega (arith, ap (λ (x : ℕ). b * x) h, mul-zero b) in
-        taken-out 52 ((j - s - 52) / 2) s j m b e (omega arith) ∙ ap (λ (x : ℕ). x * 4503599627370496 * 4 ^ ((j - s - 52) / 2)) w
+        taken-out 52 ((j - s - 52) / 2) s j m b e (omega arith) ∙ ap (λ (x : ℕ). x * 2 ^ 52 * 4 ^ ((j - s - 52) / 2)) w
     go (suc zero) h =
         let w : b * 2 ≡ b + b * ((j - s) % 2) = omega (arith, ap (λ (x : ℕ). b * x) h, mul-one b) in
-        taken-out-odd ((j - s - 52) / 2) s j m b e (omega arith) ∙ ap (λ (x : ℕ). x * 4503599627370496 * 4 ^ ((j - s - 52) / 2)) w
+        taken-out-odd ((j - s - 52) / 2) s j m b e (omega arith) ∙ ap (λ (x : ℕ). x * 2 ^ 52 * 4 ^ ((j - s - 52) / 2)) w
     go (suc (suc p)) h = absurd (omega arith)
 
 pub at-most-twice : (b h : ℕ) → b * (h % 2) ≤ b

@@ -1,4 +1,4 @@
--- `root` at each kind of pattern.
+-- `root` at each kind of pattern: read by its fields, a pattern is a count of smallest values, or a zero, an infinity or a NaN.
 use mathlib.Core.Path.{_≡_, refl, sym, ap, _∙_, subst}
 use mathlib.Core.Bool.{Bool, true, false, cond}
 use Prim.Native.Nat.{ℕ, zero, suc, _+_, _*_, _/_, _%_, _^_, _≤_, _<_}
@@ -47,38 +47,42 @@ root-odd m x o =
     ∙ ap (rootUnits binary64) (mul-assoc m (2 ^ x) (2 ^ 1074) ∙ ap (λ (y : ℕ). m * y) (sym (pow-add 2 x 1074)))
 
 -- ---- a pattern without its sign's bit
-fields : (n : ℕ) → n < 9223372036854775808 → ofBits binary64 n ≡ ofFields binary64 false (n / 4503599627370496) (n % 4503599627370496)
+fields : (n : ℕ) → n < 2 ^ 63 → ofBits binary64 n ≡ ofFields binary64 false (n / 2 ^ 52) (n % 2 ^ 52)
 unfolding ofBits
 fields n h =
-    ap (λ (s : Bool). ofFields binary64 s (n % 9223372036854775808 / 4503599627370496) (n % 4503599627370496)) (lt-leb 9223372036854775808 n h)
-    ∙ ap (λ (x : ℕ). ofFields binary64 false (x / 4503599627370496) (n % 4503599627370496)) (mod-eq-of-lt h)
+    ap (λ (s : Bool). ofFields binary64 s (n % 2 ^ 63 / 2 ^ 52) (n % 2 ^ 52)) (lt-leb (2 ^ 63) n h)
+    ∙ ap (λ (x : ℕ). ofFields binary64 false (x / 2 ^ 52) (n % 2 ^ 52)) (mod-eq-of-lt h)
 
-signed : (n : ℕ) → 9223372036854775808 ≤ n → ofBits binary64 n ≡ ofFields binary64 true (n % 9223372036854775808 / 4503599627370496) (n % 4503599627370496)
+signed : (n : ℕ) → 2 ^ 63 ≤ n
+    → ofBits binary64 n ≡ ofFields binary64 true (n % 2 ^ 63 / 2 ^ 52) (n % 2 ^ 52)
 unfolding ofBits
-signed n h = ap (λ (s : Bool). ofFields binary64 s (n % 9223372036854775808 / 4503599627370496) (n % 4503599627370496)) (le-leb 9223372036854775808 n h)
+signed n h =
+    ap (λ (s : Bool). ofFields binary64 s (n % 2 ^ 63 / 2 ^ 52) (n % 2 ^ 52)) (le-leb (2 ^ 63) n h)
 
-pub root-low : (n : ℕ) → 0 < n → n < 9218868437227405312 → n / 4503599627370496 ≡ 0 → root binary64 (ofBits binary64 n) ≡ rootUnits binary64 (n % 4503599627370496 * 2 ^ 1074)
+pub root-low : (n : ℕ) → 0 < n → n < 0x7ff0_0000_0000_0000 → n / 2 ^ 52 ≡ 0
+    → root binary64 (ofBits binary64 n) ≡ rootUnits binary64 (n % 2 ^ 52 * 2 ^ 1074)
 unfolding ofFields
 root-low n o h z =
-    ap (root binary64) (fields n (omega arith) ∙ ap (λ (x : ℕ). ofFields binary64 false x (n % 4503599627370496)) z)
-    ∙ root-odd (n % 4503599627370496) 0 (omega arith)
+    ap (root binary64) (fields n (omega arith) ∙ ap (λ (x : ℕ). ofFields binary64 false x (n % 2 ^ 52)) z)
+    ∙ root-odd (n % 2 ^ 52) 0 (omega arith)
 
-pub root-high : (n : ℕ) → n < 9218868437227405312 → (n / 4503599627370496 ≡ 0 → ⊥)
-    → root binary64 (ofBits binary64 n) ≡ rootUnits binary64 ((n % 4503599627370496 + 4503599627370496) * 2 ^ (n / 4503599627370496 + 1073))
+pub root-high : (n : ℕ) → n < 0x7ff0_0000_0000_0000 → (n / 2 ^ 52 ≡ 0 → ⊥)
+    → root binary64 (ofBits binary64 n) ≡ rootUnits binary64 ((n % 2 ^ 52 + 2 ^ 52) * 2 ^ (n / 2 ^ 52 + 1073))
 unfolding ofFields
-root-high n h z = ap (root binary64) (fields n (omega arith)) ∙ go (n / 4503599627370496) (n % 4503599627370496) z (omega arith)
+root-high n h z = ap (root binary64) (fields n (omega arith)) ∙ go (n / 2 ^ 52) (n % 2 ^ 52) z (omega arith)
   where
-    arranged : (x t : ℕ) → (4503599627370496 + t) * 2 ^ (x + 1074) ≡ (t + 4503599627370496) * 2 ^ (suc x + 1073)
+    arranged : (x t : ℕ) → (2 ^ 52 + t) * 2 ^ (x + 1074) ≡ (t + 2 ^ 52) * 2 ^ (suc x + 1073)
     arranged x t =
         let e : x + 1074 ≡ suc x + 1073 = omega arith in
-        let f : 4503599627370496 + t ≡ t + 4503599627370496 = omega arith in
-        ap (λ (y : ℕ). (4503599627370496 + t) * 2 ^ y) e ∙ ap (λ (y : ℕ). y * 2 ^ (suc x + 1073)) f
+        let f : (2 ^ 52) + t ≡ t + (2 ^ 52) = omega arith in
+        ap (λ (y : ℕ). (2 ^ 52 + t) * 2 ^ y) e ∙ ap (λ (y : ℕ). y * 2 ^ (suc x + 1073)) f
 
-    go : (x t : ℕ) → (x ≡ 0 → ⊥) → x < 2047 → root binary64 (ofFields binary64 false x t) ≡ rootUnits binary64 ((t + 4503599627370496) * 2 ^ (x + 1073))
+    go : (x t : ℕ) → (x ≡ 0 → ⊥) → x < 2047
+        → root binary64 (ofFields binary64 false x t) ≡ rootUnits binary64 ((t + 2 ^ 52) * 2 ^ (x + 1073))
     go zero t z l = absurd (z refl)
     go (suc x) t z l =
-        ap (λ (b : Bool). root binary64 (cond b (cond (eqb t 0) (inf false) nan) (odd 53 false (4503599627370496 + t) x 1074))) (ne-eqb (suc x) 2047 (λ e. omega arith))
-        ∙ root-odd (4503599627370496 + t) x (omega arith)
+        ap (λ (b : Bool). root binary64 (cond b (cond (eqb t 0) (inf false) nan) (odd 53 false (2 ^ 52 + t) x 1074))) (ne-eqb (suc x) 2047 (λ e. omega arith))
+        ∙ root-odd (2 ^ 52 + t) x (omega arith)
         ∙ ap (rootUnits binary64) (arranged x t)
 
 -- ---- the others
@@ -86,11 +90,11 @@ pub root-zero : ofBits binary64 0 ≡ root binary64 (ofBits binary64 0)
 unfolding root ofBits
 root-zero = refl
 
-pub root-infinity : div binary64 (ofBits binary64 4607182418800017408) (ofBits binary64 0) ≡ root binary64 (ofBits binary64 9218868437227405312)
+pub root-infinity : div binary64 (ofBits binary64 0x3ff0_0000_0000_0000) (ofBits binary64 0) ≡ root binary64 (ofBits binary64 0x7ff0_0000_0000_0000)
 unfolding root ofBits div
 root-infinity = refl
 
-pub root-minus-zero : neg (ofBits binary64 0) ≡ root binary64 (ofBits binary64 9223372036854775808)
+pub root-minus-zero : neg (ofBits binary64 0) ≡ root binary64 (ofBits binary64 (2 ^ 63))
 unfolding root ofBits neg
 root-minus-zero = refl
 
@@ -109,17 +113,22 @@ unfolding ofFields root
 negative zero t o = root-below (odd 53 true t 0 1074) (t * 2 ^ 0) (odd-sign 53 true t 0 1074) (mul-pos (omega arith) (pow-pos 0))
 negative (suc x) t o = go (eqb (suc x) 2047) (eqb t 0)
   where
-    go : (a b : Bool) → root binary64 (cond a (cond b (inf true) nan) (odd 53 true (4503599627370496 + t) x 1074)) ≡ nan
+    go : (a b : Bool) → root binary64 (cond a (cond b (inf true) nan) (odd 53 true (2 ^ 52 + t) x 1074)) ≡ nan
     go true true = refl
     go true false = refl
-    go false b = root-below (odd 53 true (4503599627370496 + t) x 1074) ((4503599627370496 + t) * 2 ^ x) (odd-sign 53 true (4503599627370496 + t) x 1074) (mul-pos (omega arith) (pow-pos x))
+    go false b =
+        root-below (odd 53 true (2 ^ 52 + t) x 1074) ((2 ^ 52 + t) * 2 ^ x) (odd-sign 53 true (2 ^ 52 + t) x 1074) (mul-pos (omega arith) (pow-pos x))
 
 -- above the infinity's pattern: a NaN, or a sign and a value that is not zero, or -0
-pub root-rest : (n : ℕ) → n < 18446744073709551616 → 9218868437227405312 < n → (n ≡ 9223372036854775808 → ⊥) → div binary64 (ofBits binary64 0) (ofBits binary64 0) ≡ root binary64 (ofBits binary64 n)
-root-rest n w h z = zero-by-zero ∙ sym (go (leb 9223372036854775808 n) refl)
+pub root-rest : (n : ℕ) → n < 2 ^ 64 → 0x7ff0_0000_0000_0000 < n → (n ≡ 2 ^ 63 → ⊥)
+    → div binary64 (ofBits binary64 0) (ofBits binary64 0) ≡ root binary64 (ofBits binary64 n)
+root-rest n w h z = zero-by-zero ∙ sym (go (leb (2 ^ 63) n) refl)
   where
-    go : (b : Bool) → leb 9223372036854775808 n ≡ b → root binary64 (ofBits binary64 n) ≡ nan
-    go true e = ap (root binary64) (signed n (leb-true _ _ e)) ∙ negative (n % 9223372036854775808 / 4503599627370496) (n % 4503599627370496) (let l : 9223372036854775808 ≤ n = leb-true 9223372036854775808 n e in omega arith)
+    go : (b : Bool) → leb (2 ^ 63) n ≡ b → root binary64 (ofBits binary64 n) ≡ nan
+    go true e =
+        ap (root binary64) (signed n (leb-true _ _ e))
+        ∙ negative (n % 2 ^ 63 / 2 ^ 52) (n % 2 ^ 52) (let l : (2 ^ 63) ≤ n = leb-true (2 ^ 63) n e in omega arith)
     go false e =
         root-nan (ofBits binary64 n)
-        (sym (nanBits-is binary64 n) ∙ nanBits-above binary64 n ∙ lt-ltb 9218868437227405312 (n % 9223372036854775808) (let l : n < 9223372036854775808 = leb-false 9223372036854775808 n e in omega arith))
+        (sym (nanBits-is binary64 n) ∙ nanBits-above binary64 n ∙ lt-ltb 0x7ff0_0000_0000_0000 (n % 2 ^ 63) (let l : n < (2 ^ 63) =
+        leb-false (2 ^ 63) n e in omega arith))

@@ -17,16 +17,17 @@ use Rattle.root.proofs.Floor.{rounded, four-pos}
 use Rattle.root.proofs.Size.{sized, half-size}
 
 -- the bits of a value of a smallest values
-pub pattern : (v : Float) (a : ℕ) → HasValue v false a (2 ^ 1074) → toBits binary64 v ≡ (size a - 53) * 4503599627370496 + a / 2 ^ (size a - 53)
+pub pattern : (v : Float) (a : ℕ) → HasValue v false a (2 ^ 1074) → toBits binary64 v ≡ (size a - 53) * 2 ^ 52 + a / 2 ^ (size a - 53)
 unfolding toBits
 pattern nan a h = absurd h
 pattern (inf s) a h = absurd h
 pattern (fin s m e) a h =
-    ap (λ (t : Bool). cond t 9223372036854775808 0 + (size (m * up e * 2 ^ 1074 / down e) - 53) * 4503599627370496 + m * up e * 2 ^ 1074 / down e / 2 ^ (size (m * up e * 2 ^ 1074 / down e) - 53)) (h .0)
-    ∙ ap (λ (x : ℕ). 0 + (size x - 53) * 4503599627370496 + x / 2 ^ (size x - 53)) (ap (λ (x : ℕ). x / down e) (h .1) ∙ mul-div-cancel a (down-pos e))
-    ∙ ap (λ (x : ℕ). x + a / 2 ^ (size a - 53)) (zero-add ((size a - 53) * 4503599627370496))
+    ap (λ (t : Bool). cond t (2 ^ 63) 0 + (size (m * up e * 2 ^ 1074 / down e) - 53) * 2 ^ 52 + m * up e * 2 ^ 1074 / down e / 2 ^ (size (m * up e * 2 ^ 1074 / down e) - 53)) (h .0)
+    ∙ ap (λ (x : ℕ). 0 + (size x - 53) * 2 ^ 52 + x / 2 ^ (size x - 53)) (ap (λ (x : ℕ). x / down e) (h .1) ∙ mul-div-cancel a (down-pos e))
+    ∙ ap (λ (x : ℕ). x + a / 2 ^ (size a - 53)) (zero-add ((size a - 53) * 2 ^ 52))
 
-written : (r k : ℕ) → 4503599627370496 ≤ r → r ≤ 9007199254740992 → (size (r * 2 ^ k) - 53) * 4503599627370496 + r * 2 ^ k / 2 ^ (size (r * 2 ^ k) - 53) ≡ k * 4503599627370496 + r
+written : (r k : ℕ) → 2 ^ 52 ≤ r → r ≤ 2 ^ 53
+    → (size (r * 2 ^ k) - 53) * 2 ^ 52 + r * 2 ^ k / 2 ^ (size (r * 2 ^ k) - 53) ≡ k * 2 ^ 52 + r
 written r k lo hi = go (eq-or-lt-of-le hi)
   where
     drop : (k : ℕ) → 53 + k - 53 ≡ k
@@ -35,19 +36,21 @@ written r k lo hi = go (eq-or-lt-of-le hi)
     drop-one : (k : ℕ) → 54 + k - 53 ≡ suc k
     drop-one k = omega arith
 
-    go : (r ≡ 9007199254740992) ⊎ (r < 9007199254740992) → (size (r * 2 ^ k) - 53) * 4503599627370496 + r * 2 ^ k / 2 ^ (size (r * 2 ^ k) - 53) ≡ k * 4503599627370496 + r
+    go : (r ≡ 2 ^ 53) ⊎ (r < 2 ^ 53)
+        → (size (r * 2 ^ k) - 53) * 2 ^ 52 + r * 2 ^ k / 2 ^ (size (r * 2 ^ k) - 53) ≡ k * 2 ^ 52 + r
     go (inl e) =
         let z : size (r * 2 ^ k) - 53 ≡ suc k = ap (λ (x : ℕ). x - 53) (sized 53 k r (omega arith) (omega arith)) ∙ drop-one k in
-        let d : r * 2 ^ k / 2 ^ suc k ≡ 4503599627370496 =
+        let d : r * 2 ^ k / 2 ^ suc k ≡ (2 ^ 52) =
         ap (λ (x : ℕ). x * 2 ^ k / 2 ^ suc k) e
-        ∙ ap (λ (x : ℕ). x / 2 ^ suc k) (mul-assoc 4503599627370496 2 (2 ^ k) ∙ ap (λ (x : ℕ). 4503599627370496 * x) (sym (pow-succ' 2 k)))
-        ∙ mul-div-cancel 4503599627370496 (pow-pos (suc k)) in
-        ap (λ (x : ℕ). x * 4503599627370496 + r * 2 ^ k / 2 ^ x) z ∙ omega (arith, d)
+        ∙ ap (λ (x : ℕ). x / 2 ^ suc k) (mul-assoc (2 ^ 52) 2 (2 ^ k) ∙ ap (λ (x : ℕ). (2 ^ 52) * x) (sym (pow-succ' 2 k)))
+        ∙ mul-div-cancel (2 ^ 52) (pow-pos (suc k)) in
+        ap (λ (x : ℕ). x * 2 ^ 52 + r * 2 ^ k / 2 ^ x) z ∙ omega (arith, d)
     go (inr l) =
         let z : size (r * 2 ^ k) - 53 ≡ k = ap (λ (x : ℕ). x - 53) (sized 52 k r lo l) ∙ drop k in
-        ap (λ (x : ℕ). x * 4503599627370496 + r * 2 ^ k / 2 ^ x) z ∙ ap (λ (x : ℕ). k * 4503599627370496 + x) (mul-div-cancel r (pow-pos k))
+        ap (λ (x : ℕ). x * 2 ^ 52 + r * 2 ^ k / 2 ^ x) z ∙ ap (λ (x : ℕ). k * 2 ^ 52 + x) (mul-div-cancel r (pow-pos k))
 
-pub units-bits : (r k : ℕ) → 4503599627370496 ≤ r → r ≤ 9007199254740992 → k ≤ 1600 → ofBits binary64 (k * 4503599627370496 + r) ≡ units binary64 false r k
+pub units-bits : (r k : ℕ) → 2 ^ 52 ≤ r → r ≤ 2 ^ 53 → k ≤ 1600
+    → ofBits binary64 (k * 2 ^ 52 + r) ≡ units binary64 false r k
 unfolding units
 units-bits r k lo hi h =
     let fine : r * 2 ^ k < 2 ^ 2098 = lt-of-lt-of-le (shl-lt 54 k (omega arith)) (pow-mono {i = 54 + k} {j = 2098} (omega arith)) in

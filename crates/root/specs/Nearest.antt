@@ -17,5 +17,7 @@ count (fin s m e) = m * up e * 2 ^ 1074 / down e
 pub record Nearest (x r : Float) : Type 0 where
   pub held : T (fits binary64 r)
   pub above-zero : T (positive r)
-  pub under : (y : Float) → T (fits binary64 y) → T (finite y) → count y < count r → (count y + count r) * (count y + count r) < 4 * (count x * 2 ^ 1074)
-  pub over : (y : Float) → T (fits binary64 y) → T (finite y) → count r < count y → 4 * (count x * 2 ^ 1074) < (count y + count r) * (count y + count r)
+  pub under : (y : Float) → T (fits binary64 y) → T (finite y) → count y < count r
+      → (count y + count r) * (count y + count r) < 4 * (count x * 2 ^ 1074)
+  pub over : (y : Float) → T (fits binary64 y) → T (finite y) → count r < count y
+      → 4 * (count x * 2 ^ 1074) < (count y + count r) * (count y + count r)

@@ -53,7 +53,7 @@ fn scaled(m: u64, j: u64) -> f64
 
 // The root of the value that n stands for, where that is finite and above zero.
 fn positive(n: u64) -> f64
-    requires { ⌜ (0 < n) × (n < 9218868437227405312) ⌝ }
+    requires { ⌜ (0 < n) × (n < 0x7ff0_0000_0000_0000) ⌝ }
     ensures { λ r. ⌜ r ≡ root-of binary64 (ofBits binary64 n) ⌝ }
 {
     let e = n / UNIT;

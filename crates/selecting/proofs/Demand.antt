@@ -1,12 +1,12 @@
--- Demand 3. For two limits, the second not below the first, the selection under the first is exactly the pairs of the selection under the second whose measure
--- isn't above the first limit, in the same order, and stands at the beginning of that list. True since what is above the first limit stands, in the order, after
--- all that isn't, so that taking it comes when the rest is done; and sorting goes with keeping some of the pairs.
+-- Demand 3. For two limits, the second not below the first, the selection under the first is exactly the pairs of the selection under the second
+-- whose measure isn't above the first limit, in the same order, and stands at the beginning of that list. True since what is above the first limit
+-- stands, in the order, after all that isn't, so that it is taken when the rest is done; and sorting goes with keeping some of the pairs.
 use Prim.Native.Nat.{ℕ}
 use mathlib.Core.Path.{_≡_, refl, sym, _∙_, ap, ap₂, subst}
 use mathlib.Core.Bool.{Bool, true, false, not, _||_}
-use mathlib.Core.Logic.{_⊎_, inl, inr, ⊎-elim}
+use mathlib.Core.Logic.{_⊎_, inl, inr}
 use mathlib.Core.List.{List, [], _∷_, _++_}
-use lib.Dec.{T, eqb, leb}
+use lib.Dec.{T, eqb}
 use lib.Ieee.{Float, le}
 use borrow.Author.Tests.{le-leb}
 use Rattle.rules.specs.declared.Direction.{Direction}
@@ -18,7 +18,7 @@ use Rattle.order.proofs.Order.{trans}
 use Rattle.order.proofs.Keys.{key-le-is}
 use Rattle.selecting.specs.Sets.{In, Sorted}
 use Rattle.selecting.specs.Ends.{keyed}
-use Rattle.selecting.proofs.Order.{two, tf, key-le}
+use Rattle.selecting.proofs.Order.{two, key-le}
 use Rattle.selecting.proofs.Lists.{keep-yes, keep-no, keep-none, keep-all, keep-append}
 use Rattle.selecting.proofs.Sort.{sorted-sort, keep-sort}
 use Rattle.selecting.proofs.Qualifying.{Measured, qualifying-measured}

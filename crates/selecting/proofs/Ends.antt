@@ -1,21 +1,33 @@
--- The ends of a pairing call: one for each piece number, named by its place, with the direction that stands there.
-use Prim.Native.Nat.{ℕ, zero, suc, _+_, _*_, _<_}
+-- The ends of a pairing call: one for each piece number, named by its place, with the direction that stands there. So what a call selects is the
+-- ranked selection of their node, and has room in an output of a number per end.
+use Prim.Native.Nat.{ℕ, zero, suc, _+_, _*_, _≤_, _<_}
 use mathlib.Core.Path.{_≡_, refl, sym, _∙_, ap}
-use mathlib.Core.Bool.{Bool, true, false, not, _&&_}
+use mathlib.Core.Bool.{Bool, true, false, not, _&&_, and-false}
+use mathlib.Core.Logic.{_⊎_, inl, inr}
 use mathlib.Core.List.{List, [], _∷_}
 use native.Mathlib.Omega.{arith}
 use native.Mathlib.Numerals.{one-add}
 use lib.ListN.{length, getD, drop}
 use lib.Seq.{getD-drop}
-use lib.Dec.{eqb}
-use lib.Ieee.{Float, nan}
-use borrow.Author.Tests.{eq-eqb}
+use lib.Dec.{T, eqb, leb}
+use lib.Ieee.{Float, nan, binary64, isNan, fits}
+use borrow.Author.Tests.{eq-eqb, leb-true}
+use Rattle.rules.specs.declared.Direction.{Direction}
 use Rattle.rules.specs.declared.Direction.the-variants.{Absent, Toward}
 use Rattle.rules.specs.Plane.{measure}
 use Rattle.rules.specs.Selecting.{End}
-use Rattle.rules.specs.Layout.{given, ends}
-use Rattle.order.specs.Key.{key}
+use Rattle.rules.specs.Layout.{given, ends, listed, paired}
+use Rattle.order.specs.Key.{key-nan, key}
+use Rattle.order.proofs.Dot.{measure-sym}
+use Rattle.selecting.specs.Ranked as ranked
+use Rattle.selecting.specs.Ranked.{qualifies}
+use Rattle.selecting.specs.Taking as taking
+use Rattle.selecting.specs.Taking.{pairAt}
 use Rattle.selecting.specs.Ends.{endAt, there, keyOf, nodeOf, ByPlace}
+use Rattle.selecting.proofs.Order.{two}
+use Rattle.selecting.proofs.Bridge.{select-count, select-listed}
+use Rattle.selecting.proofs.Names.{place-rises}
+use Rattle.selecting.proofs.Room.{select-room}
 
 -- the end that is lent at the place e, where k is the name of the first
 abbrev pub lentEnd : ℕ → List ℕ → List Float → List ℕ → ℕ → End
@@ -74,16 +86,50 @@ there-given mark x y = go (eqb mark 1)
     go true = refl
     go false = refl
 
-pub given-there : (mark : ℕ) (x y : Float) → mark ≡ 1 → given mark x y ≡ Toward x y
+pub given-there : (mark : ℕ) {x y : Float} → mark ≡ 1 → given mark x y ≡ Toward x y
 unfolding given
-given-there mark x y e = rw (eq-eqb mark 1 e, given)
+given-there mark e = rw (eq-eqb mark 1 e, given)
+
+-- a key does not ask which end comes first
+pub key-sym : (a b : Direction) → keyOf a b ≡ keyOf b a
+unfolding keyOf
+key-sym Absent Absent = refl
+key-sym Absent (Toward bx by) = refl
+key-sym (Toward ax ay) Absent = refl
+key-sym (Toward ax ay) (Toward bx by) = ap key (measure-sym ax ay bx by)
+
+-- a key at or below a limit's is that of two present directions
+low-there : (limit : ℕ) → limit < key-nan → (a b : Direction) → leb (keyOf a b) limit ≡ true → (there a ≡ true) × (there b ≡ true)
+unfolding keyOf there
+low-there limit h Absent b e = absurd (omega (arith, leb-true key-nan limit e))
+low-there limit h (Toward ax ay) Absent e = absurd (omega (arith, leb-true key-nan limit e))
+low-there limit h (Toward ax ay) (Toward bx by) e = (refl, refl)
+
+-- so that of a pair only its pieces and its key need be looked at
+pub qualifies-is : (l : List End) (limit : ℕ) → limit < key-nan → (i j : ℕ)
+    → qualifies (nodeOf l) limit (pairAt (nodeOf l) i j) ≡ (not (eqb (endAt l i .piece) (endAt l j .piece)) && leb (nodeOf l .key i j) limit)
+unfolding qualifies
+qualifies-is l limit h i j = go (two (leb (nodeOf l .key i j) limit))
+  where
+    a : Direction
+    a = endAt l i .direction
+
+    b : Direction
+    b = endAt l j .direction
+
+    apart : Bool
+    apart = not (eqb (endAt l i .piece) (endAt l j .piece))
+
+    go : (leb (keyOf a b) limit ≡ true) ⊎ (leb (keyOf a b) limit ≡ false) → ((there a && (there b && apart)) && leb (keyOf a b) limit) ≡ (apart && leb (keyOf a b) limit)
+    go (inl e) = (let t = low-there limit h a b e in rw (t .0, t .1))
+    go (inr e) = rw e (and-false (there a && (there b && apart)) ∙ sym (and-false apart))
 
 module _ (marks : List ℕ) (ways : List Float) (pieces : List ℕ) (i j : ℕ) (i<d : i < length pieces) (j<d : j < length pieces) where
   pub may-lent : nodeOf (ends 0 marks ways pieces) .may i j
       ≡ (eqb (getD marks i 0) 1 && (eqb (getD marks j 0) 1 && not (eqb (getD pieces i 0) (getD pieces j 0))))
   may-lent =
       rw (ends-at 0 marks ways pieces i i<d, ends-at 0 marks ways pieces j j<d)
-      (rw (there-given (getD marks i 0) (getD ways (i * 2) nan) (getD ways (i * 2 + 1) nan), there-given (getD marks j 0) (getD ways (j * 2) nan) (getD ways (j * 2 + 1) nan)))
+      (simp there-given)
 
   pub key-lent : getD marks i 0 ≡ 1 → getD marks j 0 ≡ 1
       → nodeOf (ends 0 marks ways pieces) .key i j
@@ -91,4 +137,25 @@ module _ (marks : List ℕ) (ways : List Float) (pieces : List ℕ) (i j : ℕ) 
   unfolding keyOf
   key-lent e f =
       rw (ends-at 0 marks ways pieces i i<d, ends-at 0 marks ways pieces j j<d)
-      (rw (given-there (getD marks i 0) (getD ways (i * 2) nan) (getD ways (i * 2 + 1) nan) e, given-there (getD marks j 0) (getD ways (j * 2) nan) (getD ways (j * 2 + 1) nan) f))
+      (rw (given-there (getD marks i 0) e, given-there (getD marks j 0) f))
+
+-- ---- what a call selects
+
+module _ (marks : List ℕ) (ways : List Float) (pieces : List ℕ) (limit : Float) where
+  pub paired-room : 2 * length (paired marks ways pieces limit) ≤ length pieces
+  unfolding paired
+  paired-room =
+      omega (
+        arith,
+        select-room limit (ends 0 marks ways pieces) (place-rises (ends 0 marks ways pieces) (ends-placed marks ways pieces)),
+        ends-length 0 marks ways pieces,
+      )
+
+  module _ (fitting : T (fits binary64 limit)) (number : T (not (isNan limit))) where
+    pub paired-count : length (paired marks ways pieces limit) ≡ length (ranked.select (nodeOf (ends 0 marks ways pieces)) (key limit))
+    unfolding paired
+    paired-count = select-count limit fitting number (ends 0 marks ways pieces) (ends-placed marks ways pieces)
+
+    pub paired-listed : listed (paired marks ways pieces limit) ≡ taking.listed (ranked.select (nodeOf (ends 0 marks ways pieces)) (key limit))
+    unfolding paired
+    paired-listed = select-listed limit fitting number (ends 0 marks ways pieces) (ends-placed marks ways pieces)

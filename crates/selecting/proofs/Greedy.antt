@@ -121,8 +121,10 @@ greedy-apart used (x ∷ xs) p q hp hq s = go (busy used x) (greedy-apart used x
         → In q (elim b as (λ _. List Pair) [ true ↦ greedy used xs | false ↦ x ∷ greedy (mark x used) xs ]) → p ≡ q
     go true ih₁ ih₂ m n = ih₁ m n s
     go false ih₁ ih₂ (inl m) (inl n) = m ∙ sym n
-    go false ih₁ ih₂ (inl m) (inr n) = absurd (tf (sym (ap (λ (t : Pair). shares t q) m) ∙ s) (free-less x q used (in-greedy (mark x used) q xs n .1) .0))
-    go false ih₁ ih₂ (inr m) (inl n) = absurd (tf (sym (ap (λ (t : Pair). shares t p) n) ∙ shares-sym q p ∙ s) (free-less x p used (in-greedy (mark x used) p xs m .1) .0))
+    go false ih₁ ih₂ (inl m) (inr n) =
+        absurd (tf (sym (ap (λ (t : Pair). shares t q) m) ∙ s) (free-less x q used (in-greedy (mark x used) q xs n .1) .0))
+    go false ih₁ ih₂ (inr m) (inl n) =
+        absurd (tf (sym (ap (λ (t : Pair). shares t p) n) ∙ shares-sym q p ∙ s) (free-less x p used (in-greedy (mark x used) p xs m .1) .0))
     go false ih₁ ih₂ (inr m) (inr n) = ih₂ m n s
 
 -- what is taken stands in order
@@ -142,14 +144,17 @@ greedy-order used (x ∷ xs) s = go (busy used x) (greedy-order used xs (s .1)) 
     go false ih₁ ih₂ = (first, ih₂)
 
 -- why a pair of the list is not taken: one taken before it shares an end
-pub greedy-blocked : (used : ℕ → Bool) (l : List Pair) → Sorted before l → (p : Pair) → In p l → busy used p ≡ false → In p (greedy used l) ⊎ Blocked before shares (greedy used l) p
+pub greedy-blocked : (used : ℕ → Bool) (l : List Pair) → Sorted before l → (p : Pair) → In p l → busy used p ≡ false
+    → In p (greedy used l) ⊎ Blocked before shares (greedy used l) p
 unfolding greedy
 greedy-blocked used [] s p m f = absurd m
 greedy-blocked used (x ∷ xs) s p m f = go (busy used x) refl m (λ k. greedy-blocked used xs (s .1) p k f) (greedy-blocked (mark x used) xs (s .1) p)
   where
     both : In p xs
         → (In p xs → busy (mark x used) p ≡ false → In p (greedy (mark x used) xs) ⊎ Blocked before shares (greedy (mark x used) xs) p)
-        → (busy (mark x used) p ≡ true) ⊎ (busy (mark x used) p ≡ false) → (shares x p ≡ true) ⊎ (shares x p ≡ false) → (before x p ≡ true) ⊎ (before x p ≡ false)
+        → (busy (mark x used) p ≡ true) ⊎ (busy (mark x used) p ≡ false)
+        → (shares x p ≡ true) ⊎ (shares x p ≡ false)
+        → (before x p ≡ true) ⊎ (before x p ≡ false)
         → In p (x ∷ greedy (mark x used) xs) ⊎ Blocked before shares (x ∷ greedy (mark x used) xs) p
     both k ih c (inl d) (inl e) = inr (x, inl refl, e, d)
     both k ih c (inl d) (inr e) = inl (inl (antisym p x e (s .0 p k)))
@@ -172,7 +177,9 @@ greedy-blocked used (x ∷ xs) s p m f = go (busy used x) refl m (λ k. greedy-b
 -- the law of the step: a free pair of the list that no free pair of the list is before is taken next
 pub step : (used : ℕ → Bool) (l : List Pair) → Sorted before l → (p : Pair) → Least used l p → greedy used l ≡ p ∷ greedy (mark p used) l
 step used [] s p m = absurd (m .member)
-step used (x ∷ xs) s p m = go (two (busy used x)) (m .member) (λ k. step used xs (s .1) p (record { member = k; free = m .free; first = λ q n. m .first q (inr n) }))
+step used (x ∷ xs) s p m =
+    go (two (busy used x)) (m .member)
+    (λ k. step used xs (s .1) p (record { member = k; free = m .free; first = λ q n. m .first q (inr n) }))
   where
     first : p ≡ x → busy used x ≡ false → greedy used (x ∷ xs) ≡ p ∷ greedy (mark p used) (x ∷ xs)
     first e b =

@@ -1,5 +1,5 @@
--- The book's selection, with each measure replaced by its key, is what ranked selection takes of the qualifying pairs: among measures that are numbers the keys
--- decide as the measures do, so that both sort alike, and taking looks at the ends alone.
+-- The book's selection, with each measure replaced by its key, is what ranked selection takes of the qualifying pairs: among measures that are
+-- numbers the keys decide as the measures do, so that both sort alike, and taking looks at the ends alone.
 use Prim.Native.Nat.{ℕ, _+_}
 use mathlib.Core.Path.{_≡_, refl, sym, _∙_, ap, ap₂, fun-ext, subst}
 use mathlib.Core.Bool.{Bool, true, false, _||_, or-assoc}
@@ -14,9 +14,9 @@ use Rattle.rules.specs.Selecting.{End, Pair, qualifying, before, insert, sorted
 use Rattle.order.proofs.Keys.{key-lt-is, key-eq-is}
 use Rattle.selecting.specs.Ranked as ranked
 use Rattle.selecting.specs.Ranked.{none}
-use Rattle.selecting.specs.Sets.{In, Sorted}
+use Rattle.selecting.specs.Sets.{In}
 use Rattle.selecting.specs.Ends.{keyed}
-use Rattle.selecting.proofs.Order.{two, tf, asym, least-trans}
+use Rattle.selecting.proofs.Order.{two, asym, least-trans}
 use Rattle.selecting.proofs.Sort.{in-sort}
 use Rattle.selecting.proofs.Qualifying.{Measured, qualifying-measured}
 
@@ -54,7 +54,8 @@ sorted-is (p ∷ l) = insert-is p (sorted l) ∙ ap (ranked.insert before p) (so
 pub in-sorted : (q : Pair) (l : List Pair) → In q (sorted l) → In q l
 in-sorted q l h = in-sort before q l (subst (In q) (sorted-is l) h)
 
-insert-keyed : (p : Pair) (l : List Pair) → Measured p → ((q : Pair) → In q l → Measured q) → map keyed (insert p l) ≡ ranked.insert ranked.before (keyed p) (map keyed l)
+insert-keyed : (p : Pair) (l : List Pair) → Measured p → ((q : Pair) → In q l → Measured q)
+    → map keyed (insert p l) ≡ ranked.insert ranked.before (keyed p) (map keyed l)
 unfolding insert ranked.insert
 insert-keyed p [] m h = refl
 insert-keyed p (q ∷ l) m h = go (before p q) refl (insert-keyed p l m (λ r k. h r (inr k)))

@@ -1,10 +1,10 @@
--- The laws of ranked selection: its candidates are the qualifying pairs; the least free candidate is the next pair selected; and what is selected is settled in
--- the candidates, which no other list in order is, and which settles every set of them that is.
+-- The laws of ranked selection: its candidates are the qualifying pairs; the least free candidate is the next pair selected; and what is selected
+-- is settled in the candidates, as no other set of them is.
 use Prim.Native.Nat.{ℕ, zero, suc, _<_}
 use mathlib.Core.Path.{_≡_, refl, sym, _∙_, ap, subst}
 use mathlib.Core.Bool.{Bool, true, false}
 use mathlib.Core.Logic.{_⊎_, inl, inr, ⊎-elim}
-use mathlib.Core.List.{List, [], _∷_, _++_}
+use mathlib.Core.List.{List, [], _∷_}
 use native.Mathlib.Omega.{arith}
 use Rattle.selecting.specs.Ranked.{Pair, Node, before, column, pairs, qualifies, candidates, sort, mark, busy, greedy, none, selectFrom, select}
 use Rattle.selecting.specs.Sets.{In, Sorted, InOrder, shares, Blocked, Settled, Least, Entry, Covers, Enough, Ends}
@@ -46,7 +46,7 @@ settled-ordered l s h o =
       blocked = λ p m. inr (h .blocked p (in-sort before p l m));
     })
 
--- A set, in whatever order, that is settled in l has the pairs that are taken of l: none of it blocks another, so that all of it is taken of itself.
+-- a set that is settled in l, in whatever order, has the pairs that are taken of l: none of it blocks another, so that all of it is taken of itself
 module _ (l s : List Pair) (h : Settled before shares l s) where
   own : List Pair
   own = greedy none (sort before s)
@@ -69,7 +69,11 @@ module _ (l s : List Pair) (h : Settled before shares l s) where
       (record {
         within = λ p m. h .within p (own-in p m);
         apart = λ p q m n. h .apart p q (own-in p m) (own-in q n);
-        blocked = λ p m. ⊎-elim (λ (k : In p s). inl (in-own p k)) (λ (k : Blocked before shares s p). inr (k .0, in-own (k .0) (k .1), k .2, k .3)) (h .blocked p m);
+        blocked =
+            λ p m. ⊎-elim
+            (λ (k : In p s). inl (in-own p k))
+            (λ (k : Blocked before shares s p). inr (k .0, in-own (k .0) (k .1), k .2, k .3))
+            (h .blocked p m);
       })
       (unfold own in taken-ordered s)
 
@@ -80,7 +84,8 @@ module _ (l s : List Pair) (h : Settled before shares l s) where
   taken-settles p m = own-in p (subst (In p) (sym own-is) m)
 
 -- what is taken depends on which pairs there are, and on nothing else
-pub same-taken : (l l′ : List Pair) → ((p : Pair) → In p l → In p l′) → ((p : Pair) → In p l′ → In p l) → greedy none (sort before l) ≡ greedy none (sort before l′)
+pub same-taken : (l l′ : List Pair) → ((p : Pair) → In p l → In p l′) → ((p : Pair) → In p l′ → In p l)
+    → greedy none (sort before l) ≡ greedy none (sort before l′)
 same-taken l l′ f g =
     settled-ordered l′ (greedy none (sort before l))
     (record {

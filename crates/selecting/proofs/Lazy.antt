@@ -44,7 +44,8 @@ module _ (used : ℕ → Bool) (l : List Pair) (active : ℕ → Bool) where
       → Covers used l active h′
   covers-refresh m p h h′ c k n f q o i b a e = which (two (eqb o m)) (c q o i b a e)
     where
-      which : (eqb o m ≡ true) ⊎ (eqb o m ≡ false) → (t : Entry) × h t × (t .owner ≡ o) × (before q (t .best) ≡ false) → (t : Entry) × h′ t × (t .owner ≡ o) × (before q (t .best) ≡ false)
+      which : (eqb o m ≡ true) ⊎ (eqb o m ≡ false) → (t : Entry) × h t × (t .owner ≡ o) × (before q (t .best) ≡ false)
+          → (t : Entry) × h′ t × (t .owner ≡ o) × (before q (t .best) ≡ false)
       which (inl d) t = (record { owner = m; best = p }, n, sym (eqb-true o m d), f q i b (subst (λ (z : ℕ). EndOf z q) (eqb-true o m d) e))
       which (inr d) (t, g, w, z) = (t, k t g (λ x. eqb-false o m d (sym w ∙ x)), w, z)
 
@@ -55,7 +56,8 @@ module _ (used : ℕ → Bool) (l : List Pair) (active : ℕ → Bool) where
       → Covers used l active h′
   covers-drop m h h′ c k f q o i b a e = which (two (eqb o m)) (c q o i b a e)
     where
-      which : (eqb o m ≡ true) ⊎ (eqb o m ≡ false) → (t : Entry) × h t × (t .owner ≡ o) × (before q (t .best) ≡ false) → (t : Entry) × h′ t × (t .owner ≡ o) × (before q (t .best) ≡ false)
+      which : (eqb o m ≡ true) ⊎ (eqb o m ≡ false) → (t : Entry) × h t × (t .owner ≡ o) × (before q (t .best) ≡ false)
+          → (t : Entry) × h′ t × (t .owner ≡ o) × (before q (t .best) ≡ false)
       which (inl d) t = absurd (f q i b (subst (λ (z : ℕ). EndOf z q) (eqb-true o m d) e))
       which (inr d) (t, g, w, z) = (t, k t g (λ x. eqb-false o m d (sym w ∙ x)), w, z)
 

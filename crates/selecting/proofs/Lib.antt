@@ -16,3 +16,7 @@ pub mod Bridge
 pub mod Ends
 pub mod Renaming
 pub mod Names
+pub mod Room
+pub mod Settled
+pub mod Calls
+pub mod Refusals

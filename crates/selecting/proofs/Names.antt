@@ -1,9 +1,9 @@
--- Ends that are listed by name: their selection is the ranked selection of their node, each place then given its name. The names are a rising function of the
--- places, which is carried on beyond the last place so that it rises everywhere.
+-- Ends that are listed by name: their selection is the ranked selection of their node, each place then given its name. The names are a rising
+-- function of the places, which is carried on beyond the last place so that it rises everywhere.
 use Prim.Native.Nat.{ℕ, zero, suc, _+_, _-_, _≤_, _<_}
-use mathlib.Core.Path.{_≡_, refl, sym, ap, ap₂, _∙_, fun-ext, subst}
-use mathlib.Core.Logic.{_⊎_, inl, inr, ⊎-elim}
-use mathlib.Core.Bool.{Bool, true, false, not, _&&_, cond}
+use mathlib.Core.Path.{_≡_, refl, sym, ap, ap₂, _∙_}
+use mathlib.Core.Logic.{_⊎_, inl, inr}
+use mathlib.Core.Bool.{true, false, not, _&&_, cond}
 use mathlib.Core.List.{List, [], _∷_, map, map-map}
 use native.Mathlib.Omega.{arith}
 use lib.ListN.{length, length-map}
@@ -24,7 +24,7 @@ use Rattle.selecting.proofs.Renaming.{Rising, same-select}
 
 -- ---- the same ends by place
 
-placed-length : (k : ℕ) (l : List End) → length (placed k l) ≡ length l
+pub placed-length : (k : ℕ) (l : List End) → length (placed k l) ≡ length l
 unfolding placed
 placed-length k [] = refl
 placed-length k (a ∷ l) = ap suc (placed-length (suc k) l)
@@ -47,7 +47,7 @@ placed-direction k [] e = refl
 placed-direction k (a ∷ l) zero = refl
 placed-direction k (a ∷ l) (suc e) = placed-direction (suc k) l e
 
-by-place : (l : List End) → ByPlace (placed 0 l)
+pub by-place : (l : List End) → ByPlace (placed 0 l)
 by-place l = record { placed = λ e h. (let t = placed-name 0 l e (omega (arith, placed-length 0 l)) in omega (arith, t)) }
 
 placed-node : (l : List End) → nodeOf (placed 0 l) ≡ nodeOf l
@@ -58,6 +58,10 @@ placed-node l =
           λ i j. there (placed-direction 0 l i t) && (there (placed-direction 0 l j t) && not (eqb (placed-piece 0 l i t) (placed-piece 0 l j t)));
       key = λ i j. keyOf (placed-direction 0 l i t) (placed-direction 0 l j t);
     }
+
+-- places rise
+pub place-rises : (l : List End) → ByPlace l → ByName l
+place-rises l b = record { rises = λ i j h k. omega (arith, b .placed i (omega arith), b .placed j k) }
 
 -- ---- names that rise everywhere
 
@@ -113,7 +117,7 @@ named-placed f k (a ∷ l) h =
 
 -- ---- the selection
 
-module _ (limit : Float) (fitting : T (fits binary64 limit)) (number : T (not (isNan limit))) (l : List End) (b : ByName l) where
+module _ (limit : Float) (l : List End) (b : ByName l) where
   select-placed : select limit l ≡ map (renamed (spread l)) (select limit (placed 0 l))
   select-placed =
       ap (select limit) (sym (named-placed (spread l) 0 l at)) ∙ same-select (spread l) (spread-rises l b) limit (placed 0 l)
@@ -121,10 +125,14 @@ module _ (limit : Float) (fitting : T (fits binary64 limit)) (number : T (not (i
       at : (e : ℕ) → e < length l → spread l (0 + e) ≡ nameAt l e
       at e h = (let t : 0 + e ≡ e = omega arith in ap (spread l) t ∙ spread-in l e h)
 
+  pub count-placed : length (select limit l) ≡ length (select limit (placed 0 l))
+  count-placed = ap length select-placed ∙ length-map (select limit (placed 0 l)) (renamed (spread l))
+
+module _ (limit : Float) (fitting : T (fits binary64 limit)) (number : T (not (isNan limit))) (l : List End) (b : ByName l) where
   -- the places of the ranked selection, each with its name
   pub select-named : map sides (select limit l) ≡ map (sidesBy (nameAt l)) (ranked.select (nodeOf l) (key limit))
   select-named =
-      ap (map sides) select-placed
+      ap (map sides) (select-placed limit l b)
       ∙ map-map sides (renamed (spread l)) (select limit (placed 0 l))
       ∙ sym (map-map (sidesBy (spread l)) keyed (select limit (placed 0 l)))
       ∙ ap (map (sidesBy (spread l)))

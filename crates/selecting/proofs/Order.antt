@@ -24,11 +24,12 @@ pub and-right : (a b : Bool) → (a && b) ≡ true → b ≡ true
 and-right true b e = e
 and-right false b e = absurd (tf e refl)
 
--- p stands at or before q
+-- p stands at or before q: by i and j, and by the key first
+abbrev pub NotAfter : Pair → Pair → Type 0
+NotAfter p q = (p .i < q .i) ⊎ ((p .i ≡ q .i) × (p .j ≤ q .j))
+
 abbrev pub AtBefore : Pair → Pair → Type 0
-AtBefore p q =
-    (p .key < q .key)
-    ⊎ ((p .key ≡ q .key) × ((p .i < q .i) ⊎ ((p .i ≡ q .i) × (p .j ≤ q .j))))
+AtBefore p q = (p .key < q .key) ⊎ ((p .key ≡ q .key) × NotAfter p q)
 
 pub at-before : (p q : Pair) → before q p ≡ false → AtBefore p q
 unfolding before
@@ -52,11 +53,16 @@ of-at-before p q (inl h) =
     rw (le-ltb (q .key) (p .key) (omega arith), ne-eqb (q .key) (p .key) (omega arith))
 of-at-before p q (inr h) = ⊎-elim (λ (k : p .i < q .i). below k) (λ (k : (p .i ≡ q .i) × (p .j ≤ q .j)). level k) (h .1)
   where
+    level-key : ltb (q .key) (p .key) ≡ false
+    level-key = le-ltb (q .key) (p .key) (omega (arith, h .0))
+
     below : p .i < q .i → before q p ≡ false
-    below k = rw (le-ltb (q .key) (p .key) (omega (arith, h .0)), eq-eqb (q .key) (p .key) (sym (h .0)), le-ltb (q .i) (p .i) (omega arith), ne-eqb (q .i) (p .i) (omega arith))
+    below k =
+        rw (level-key, eq-eqb (q .key) (p .key) (sym (h .0)), le-ltb (q .i) (p .i) (omega arith), ne-eqb (q .i) (p .i) (omega arith))
 
     level : (p .i ≡ q .i) × (p .j ≤ q .j) → before q p ≡ false
-    level k = rw (le-ltb (q .key) (p .key) (omega (arith, h .0)), eq-eqb (q .key) (p .key) (sym (h .0)), le-ltb (q .i) (p .i) (omega arith), eq-eqb (q .i) (p .i) (sym (k .0)), le-ltb (q .j) (p .j) (k .1))
+    level k =
+        rw (level-key, eq-eqb (q .key) (p .key) (sym (h .0)), le-ltb (q .i) (p .i) (omega arith), eq-eqb (q .i) (p .i) (sym (k .0)), le-ltb (q .j) (p .j) (k .1))
 
 at-before-trans : (p q r : Pair) → AtBefore p q → AtBefore q r → AtBefore p r
 at-before-trans p q r (inl h) (inl k) = inl (omega arith)
@@ -64,7 +70,7 @@ at-before-trans p q r (inl h) (inr k) = inl (omega (arith, k .0))
 at-before-trans p q r (inr h) (inl k) = inl (omega (arith, h .0))
 at-before-trans p q r (inr h) (inr k) = inr (h .0 ∙ k .0, ends (h .1) (k .1))
   where
-    ends : ((p .i < q .i) ⊎ ((p .i ≡ q .i) × (p .j ≤ q .j))) → ((q .i < r .i) ⊎ ((q .i ≡ r .i) × (q .j ≤ r .j))) → (p .i < r .i) ⊎ ((p .i ≡ r .i) × (p .j ≤ r .j))
+    ends : NotAfter p q → NotAfter q r → NotAfter p r
     ends (inl a) (inl b) = inl (omega arith)
     ends (inl a) (inr b) = inl (omega (arith, b .0))
     ends (inr a) (inl b) = inl (omega (arith, a .0))
@@ -76,7 +82,7 @@ at-before-antisym p q (inl h) (inr k) = absurd (omega (arith, k .0))
 at-before-antisym p q (inr h) (inl k) = absurd (omega (arith, h .0))
 at-before-antisym p q (inr h) (inr k) = λ t. record { key = h .0 t; i = (ends (h .1) (k .1)) .0 t; j = (ends (h .1) (k .1)) .1 t }
   where
-    ends : ((p .i < q .i) ⊎ ((p .i ≡ q .i) × (p .j ≤ q .j))) → ((q .i < p .i) ⊎ ((q .i ≡ p .i) × (q .j ≤ p .j))) → (p .i ≡ q .i) × (p .j ≡ q .j)
+    ends : NotAfter p q → NotAfter q p → (p .i ≡ q .i) × (p .j ≡ q .j)
     ends (inl a) (inl b) = absurd (omega arith)
     ends (inl a) (inr b) = absurd (omega (arith, b .0))
     ends (inr a) (inl b) = absurd (omega (arith, a .0))
@@ -93,10 +99,14 @@ antisym p q h k = at-before-antisym p q (at-before p q h) (at-before q p k)
 pub irrefl : (p : Pair) → before p p ≡ false
 irrefl p = of-at-before p p (inr (refl, inr (refl, omega arith)))
 
-pub three : (m n : ℕ) → (m < n) ⊎ ((m ≡ n) ⊎ (n < m))
+-- of two numbers one is below the other, or they are equal
+abbrev pub Three : ℕ → ℕ → Type 0
+Three m n = (m < n) ⊎ ((m ≡ n) ⊎ (n < m))
+
+pub three : (m n : ℕ) → Three m n
 three m n = go (ltb m n) (ltb n m) refl refl
   where
-    go : (a b : Bool) → ltb m n ≡ a → ltb n m ≡ b → (m < n) ⊎ ((m ≡ n) ⊎ (n < m))
+    go : (a b : Bool) → ltb m n ≡ a → ltb n m ≡ b → Three m n
     go true b ha hb = inl (ltb-true m n ha)
     go false true ha hb = inr (inr (ltb-true n m hb))
     go false false ha hb = inr (inl (omega (arith, ltb-false m n ha, ltb-false n m hb)))
@@ -104,7 +114,7 @@ three m n = go (ltb m n) (ltb n m) refl refl
 total : (p q : Pair) → AtBefore p q ⊎ AtBefore q p
 total p q = keys (three (p .key) (q .key)) (three (p .i) (q .i)) (three (p .j) (q .j))
   where
-    keys : (p .key < q .key) ⊎ ((p .key ≡ q .key) ⊎ (q .key < p .key)) → (p .i < q .i) ⊎ ((p .i ≡ q .i) ⊎ (q .i < p .i)) → (p .j < q .j) ⊎ ((p .j ≡ q .j) ⊎ (q .j < p .j))
+    keys : Three (p .key) (q .key) → Three (p .i) (q .i) → Three (p .j) (q .j)
         → AtBefore p q ⊎ AtBefore q p
     keys (inl a) y z = inl (inl a)
     keys (inr (inr a)) y z = inr (inl a)
@@ -128,7 +138,7 @@ apart p q h n = ⊎-elim (λ (e : before p q ≡ true). e) (λ (e : before p q �
 
 -- keys rise with the order
 pub key-le : (p q : Pair) → before q p ≡ false → p .key ≤ q .key
-key-le p q h = ⊎-elim (λ (k : p .key < q .key). omega arith) (λ (k : (p .key ≡ q .key) × ((p .i < q .i) ⊎ ((p .i ≡ q .i) × (p .j ≤ q .j)))). omega (arith, k .0)) (at-before p q h)
+key-le p q h = ⊎-elim (λ (k : p .key < q .key). omega arith) (λ (k : (p .key ≡ q .key) × NotAfter p q). omega (arith, k .0)) (at-before p q h)
 
 pub lower-key : (p q : Pair) → p .key < q .key → before p q ≡ true
 unfolding before

@@ -1,14 +1,19 @@
--- Two owners of a direction are enough for all later ends of it, where no piece number occurs more than twice. Let the lower end i of a free candidate
--- (i, j) be no owner. Of its two owners one is of another piece than j; with j that one makes a free candidate of the same key, which is before (i, j).
-use Prim.Native.Nat.{ℕ, zero, suc, _+_, _≤_, _<_}
-use mathlib.Core.Path.{_≡_, refl, sym, _∙_, ap, subst}
-use mathlib.Core.Bool.{Bool, true, false, _&&_, _||_}
+-- Two owners of a direction are enough for all later ends of it, where no piece number occurs more than twice. Let the lower end i of a free
+-- candidate (i, j) be no owner. Of its two owners one is of another piece than j; with j it makes a free candidate of the same key, before (i, j).
+use Prim.Native.Nat.{ℕ, zero, suc, _+_, _<_}
+use mathlib.Core.Path.{_≡_, refl, sym, _∙_, ap}
+use mathlib.Core.Bool.{Bool, true, false}
 use mathlib.Core.Logic.{_⊎_, inl, inr, ⊎-elim}
+use mathlib.Core.List.{List}
 use native.Mathlib.Omega.{arith}
+use lib.ListN.{length}
 use lib.Dec.{eqb, leb}
-use borrow.Author.Tests.{eqb-true, eqb-false}
+use borrow.Author.Tests.{eqb-true, eqb-false, ne-eqb}
+use Rattle.rules.specs.declared.Direction.{Direction}
+use Rattle.rules.specs.Selecting.{End}
 use Rattle.selecting.specs.Ranked.{Pair, Node, before, qualifies, candidates, busy}
 use Rattle.selecting.specs.Sets.{In, EndOf, Enough, Ends}
+use Rattle.selecting.specs.Ends.{endAt, there, keyOf, nodeOf}
 use Rattle.selecting.specs.Owners.{Stands, Led, Precedes, Chained, AtMostTwice}
 use Rattle.selecting.proofs.Order.{two, and-left, and-right, irrefl, of-at-before}
 use Rattle.selecting.proofs.Greedy.{or-false-left, or-false-right}
@@ -113,7 +118,9 @@ module _
   back : (k e : ℕ) → e < k → There e → used e ≡ false → active e ≡ false → Two e
   back zero e h p u a = absurd (omega arith)
   back (suc k) e h p u a =
-      go (two (active (prev e))) (two (active (prev (prev e)))) (back k (prev e) (omega (arith, f .below))) (back k (prev (prev e)) (omega (arith, f .below, s .below)))
+      go (two (active (prev e))) (two (active (prev (prev e))))
+      (back k (prev e) (omega (arith, f .below)))
+      (back k (prev (prev e)) (omega (arith, f .below, s .below)))
     where
       f : Precedes There Alike used active e (prev e)
       f = c .first e p u a
@@ -130,3 +137,27 @@ module _
 
   pub chained-led : Led There Alike used active
   chained-led e = back (e + 1) e (omega arith)
+
+-- ---- the ends of a list: those with a direction, and those of one direction
+
+module _ (l : List End) where
+  abbrev pub There : ℕ → Type 0
+  There e = there (endAt l e .direction) ≡ true
+
+  abbrev pub Alike : ℕ → ℕ → Type 0
+  Alike a e = endAt l a .direction ≡ endAt l e .direction
+
+  pub alike-trans : (a b c : ℕ) → Alike a b → Alike b c → Alike a c
+  alike-trans a b c h k = h ∙ k
+
+  pub ends-enough : (limit : ℕ) (used active : ℕ → Bool) → AtMostTwice (λ e. endAt l e .piece) (length l) → Led There Alike used active
+      → Enough used (candidates (nodeOf l) limit) active
+  ends-enough limit used active twice led =
+      led-enough (nodeOf l) There Alike (λ e. endAt l e .piece)
+      (λ x z h. and-left (there (endAt l x .direction)) _ h)
+      (λ y x z h. ap (λ (a : Direction). keyOf a (endAt l z .direction)) h)
+      same-may twice limit used active led
+    where
+      same-may : (y x z : ℕ) → There y → nodeOf l .may x z ≡ true → (endAt l y .piece ≡ endAt l z .piece → ⊥) → nodeOf l .may y z ≡ true
+      same-may y x z h m n =
+          rw (h, and-left (there (endAt l z .direction)) _ (and-right (there (endAt l x .direction)) _ m), ne-eqb (endAt l y .piece) (endAt l z .piece) n)

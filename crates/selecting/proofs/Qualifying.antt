@@ -1,10 +1,10 @@
--- Which pairs qualify: those of two places of the list, the lower first, whose ends are of different pieces and have directions with a measure at or below
--- the limit. Such a measure is a number of binary64, so that its key stands for it.
+-- Which pairs qualify: those of two places of the list, the lower first, whose ends are of different pieces and have directions with a measure at
+-- or below the limit. Such a measure is a number of binary64, so that its key stands for it.
 use Prim.Native.Nat.{ℕ, zero, suc, _<_}
 use mathlib.Core.Path.{_≡_, refl, sym, _∙_, ap, subst}
 use mathlib.Core.Bool.{Bool, true, false, not}
 use mathlib.Core.Logic.{_⊎_, inl, inr, ⊎-elim}
-use mathlib.Core.List.{List, [], _∷_, _++_}
+use mathlib.Core.List.{List, [], _∷_}
 use native.Mathlib.Omega.{arith}
 use lib.ListN.{length}
 use lib.Dec.{T, eqb}
@@ -16,8 +16,7 @@ use Rattle.rules.specs.Selecting.{End, Pair, within, pair, pairsWith, qualifyin
 use Rattle.order.proofs.Order.{le-num-l}
 use Rattle.order.proofs.Dot.{measure-fits}
 use Rattle.selecting.specs.Sets.{In}
-use Rattle.selecting.specs.Ends.{endAt}
-use Rattle.selecting.proofs.Order.{tf}
+use Rattle.selecting.specs.Ends.{endAt, nameAt}
 use Rattle.selecting.proofs.Lists.{in-append, append-in}
 
 -- ---- two ends
@@ -39,10 +38,8 @@ in-within limit i j Absent b p h = absurd h
 in-within limit i j (Toward ax ay) Absent p h = absurd h
 in-within limit i j (Toward ax ay) (Toward bx by) p h = go (le (measure ax ay bx by) limit) refl h
   where
-    it : Pair
-    it = record { size = measure ax ay bx by; i = i; j = j }
-
-    go : (t : Bool) → le (measure ax ay bx by) limit ≡ t → In p (elim t as (λ _. List Pair) [ true ↦ record { size = measure ax ay bx by; i = i; j = j } ∷ [] | false ↦ [] ])
+    go : (t : Bool) → le (measure ax ay bx by) limit ≡ t
+        → In p (elim t as (λ _. List Pair) [ true ↦ record { size = measure ax ay bx by; i = i; j = j } ∷ [] | false ↦ [] ])
         → Within limit i j (Toward ax ay) (Toward bx by) p
     go true e (inl k) = record { ax = ax; ay = ay; bx = bx; by = by; from = refl; to = refl; low = e; is = k }
     go true e (inr k) = absurd k
@@ -103,6 +100,14 @@ module _ (limit : Float) where
   qualifying-in p (x ∷ l) (suc a) zero h k m = absurd (omega arith)
   qualifying-in p (x ∷ l) (suc a) (suc b) h k m =
       append-in p (pairsWith limit x l) (qualifying limit l) (inr (qualifying-in p l a b (omega arith) (omega arith) m))
+
+-- a qualifying pair is of two places of the list, the lower first, by their names
+pub qualifying-names : (limit : Float) (l : List End) (p : Pair) → In p (qualifying limit l)
+    → (a b : ℕ) × (a < b) × (b < length l) × (p .i ≡ nameAt l a) × (p .j ≡ nameAt l b)
+qualifying-names limit l p h =
+    let t = in-qualifying limit p l h in
+    let w = in-pair limit (endAt l (t .0)) (endAt l (t .1)) p (t .4) .1 in
+    (t .0, t .1, t .2, t .3, ap (λ (q : Pair). q .i) (w .is), ap (λ (q : Pair). q .j) (w .is))
 
 -- ---- measures
 

@@ -1,15 +1,16 @@
--- The first free candidate of a row, the pairs (i, j) with j above i, found by going through its ends: after each, what is held is the first of those seen.
-use Prim.Native.Nat.{ℕ, zero, suc, _+_, _≤_, _<_}
-use mathlib.Core.Path.{_≡_, refl, sym, _∙_, ap, subst}
+-- The first free candidate of a row, the pairs (i, j) with j above i, found by going through its ends: after each, what is held is the first of
+-- those seen.
+use Prim.Native.Nat.{ℕ, _+_, _≤_, _<_}
+use mathlib.Core.Path.{_≡_, refl, _∙_, ap₂, subst}
 use mathlib.Core.Bool.{Bool, true, false, cond, not, _&&_, _||_}
 use mathlib.Core.Logic.{_⊎_, inl, inr, ⊎-elim}
 use native.Mathlib.Omega.{arith}
-use lib.Dec.{ltb, leb, eqb}
+use lib.Dec.{ltb, eqb}
 use borrow.Author.Tests.{ltb-true, ltb-false, eqb-true, eqb-false}
 use Rattle.selecting.specs.Ranked.{Pair, Node, qualifies, candidates, busy, before}
 use Rattle.selecting.specs.Sets.{In, Ends}
 use Rattle.selecting.specs.Taking.{pairAt, better, IsFirst}
-use Rattle.selecting.proofs.Order.{tf, three, irrefl, asym, before-trans, of-at-before, lower-key}
+use Rattle.selecting.proofs.Order.{AtBefore, tf, Three, three, irrefl, asym, before-trans, of-at-before, lower-key}
 use Rattle.selecting.proofs.Laws.{in-candidates, candidates-in}
 
 -- q stands at or before (i, j), whatever the keys
@@ -72,7 +73,7 @@ module _ (n : Node) (limit : ℕ) (used : ℕ → Bool) where
     one-more q o m =
         ⊎-elim
         (λ (k : S q). inl k)
-        (λ (k : (q .i ≡ i) × (q .j ≡ j)). inr (λ t. record { key = (o .ends .keyed ∙ ap (λ (x : ℕ). n .key x (q .j)) (k .0) ∙ ap (n .key i) (k .1)) t; i = k .0 t; j = k .1 t }))
+        (λ (k : (q .i ≡ i) × (q .j ≡ j)). inr (λ t. record { key = (o .ends .keyed ∙ ap₂ (n .key) (k .0) (k .1)) t; i = k .0 t; j = k .1 t }))
         (more q o m)
 
     -- the pair is not open: nothing changes
@@ -90,11 +91,14 @@ module _ (n : Node) (limit : ℕ) (used : ℕ → Bool) where
           nothing = λ e. absurd (omega arith);
           opened = s .opened;
           seen = λ e. still p (s .seen e);
-          first = λ e q o m. ⊎-elim (λ (a : S q). s .first e q o a) (λ (a : q ≡ pairAt n i j). rw a (later (upto p (s .opened e) (s .seen e)))) (one-more q o m);
+          first =
+              λ e q o m. ⊎-elim
+              (λ (a : S q). s .first e q o a)
+              (λ (a : q ≡ pairAt n i j). rw a (later (upto p (s .opened e) (s .seen e))))
+              (one-more q o m);
         }
       where
-        place : Upto i j p → (p .key < n .key i j) ⊎ ((p .key ≡ n .key i j) ⊎ (n .key i j < p .key))
-            → (p .key < n .key i j) ⊎ ((p .key ≡ n .key i j) × ((p .i < i) ⊎ ((p .i ≡ i) × (p .j ≤ j))))
+        place : Upto i j p → Three (p .key) (n .key i j) → AtBefore p (pairAt n i j)
         place m (inl a) = inl a
         place m (inr (inl a)) = inr (a, m)
         place m (inr (inr a)) = absurd (omega arith)
@@ -127,7 +131,9 @@ module _ (n : Node) (limit : ℕ) (used : ℕ → Bool) where
         go false true false true hx hy hz hw =
             replaced (open-it hx hy)
             (λ q o m. asym (pairAt n i j) q
-            (before-trans (pairAt n i j) p q (lower-key (pairAt n i j) p (ltb-true (n .key i j) (p .key) hw)) (s .first (omega (arith, eqb-false (p .j) 0 hz)) q o m)))
+            (before-trans (pairAt n i j) p q
+            (lower-key (pairAt n i j) p (ltb-true (n .key i j) (p .key) hw))
+            (s .first (omega (arith, eqb-false (p .j) 0 hz)) q o m)))
         go false true false false hx hy hz hw = kept (omega (arith, eqb-false (p .j) 0 hz)) (ltb-false (n .key i j) (p .key) hw)
 
   -- ---- the walk along row i, from j on

@@ -1,16 +1,15 @@
--- The lazy law by rows: for each end i a route holds the first free candidate (i, j) that it last found in row i, and a held pair stays at or before what is
--- still free there. So the least pair held, if it is free, is the least free candidate; and where no row holds a pair, no candidate is free.
-use Prim.Native.Nat.{ℕ, _<_}
-use mathlib.Core.Path.{_≡_, refl, sym, _∙_, ap, subst}
-use mathlib.Core.Bool.{Bool, true, false, _||_}
+-- The lazy law by rows: for each end i a route holds the first free candidate (i, j) that it last found in row i, and a held pair stays at or before
+-- what is still free there. So the least pair held, if it is free, is the least free candidate; and where no row holds one, no candidate is free.
+use Prim.Native.Nat.{ℕ}
+use mathlib.Core.Path.{_≡_, sym, subst}
+use mathlib.Core.Bool.{Bool, true, false}
 use mathlib.Core.Logic.{_⊎_, inl, inr, ⊎-elim}
 use mathlib.Core.List.{List}
 use lib.Dec.{eqb}
 use borrow.Author.Tests.{eqb-true, eqb-false}
-use Rattle.selecting.specs.Ranked.{Pair, Node, candidates, before, mark, busy}
+use Rattle.selecting.specs.Ranked.{Pair, before, mark, busy}
 use Rattle.selecting.specs.Sets.{In, Least, HeldRows}
-use Rattle.selecting.specs.Taking.{IsFirst}
-use Rattle.selecting.proofs.Order.{two, tf, least-trans}
+use Rattle.selecting.proofs.Order.{two, least-trans}
 use Rattle.selecting.proofs.Greedy.{free-less}
 use Rattle.selecting.proofs.Lazy.{taken-end}
 

@@ -1,5 +1,5 @@
--- Sorting keeps the elements, puts them in order, and goes with keeping some of them. The order need be one only among the elements of the list, which are
--- all `good`: what is before is not after, and what is not before goes on through a third.
+-- Sorting keeps the elements, puts them in order, and goes with keeping some of them. What is asked of `before` need hold only among the elements
+-- of the list, which are `good`: what is before is not after, and being at or before goes on through a third.
 use mathlib.Core.Path.{_≡_, refl, sym, _∙_, ap}
 use mathlib.Core.Bool.{Bool, true, false}
 use mathlib.Core.Logic.{_⊎_, inl, inr, ⊎-elim}

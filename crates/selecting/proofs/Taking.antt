@@ -1,5 +1,5 @@
--- The turns of a route: after each, the pairs taken so far and the selection among the ends that are left make the whole selection. A turn takes the least
--- free candidate, writes it behind the pairs in the output and marks its two ends; where there is none, all is taken.
+-- The turns of a route: after each, the pairs taken so far and the selection among the ends that are left make the whole selection. A turn takes
+-- the least free candidate, writes it behind the pairs in the output and marks its two ends; where there is none, all is taken.
 use Prim.Native.Nat.{ℕ, zero, suc, _+_, _≤_, _<_}
 use mathlib.Core.Path.{_≡_, refl, sym, _∙_, ap, subst, fun-ext}
 use mathlib.Core.Bool.{Bool, true, false, cond, not, _||_}
@@ -10,8 +10,7 @@ use lib.Dec.{eqb}
 use lib.ListN.{length, getD, set, drop, replicate, length-append, length-set, length-replicate}
 use lib.Seq.{drop-cons, set-at, getD-set-same, getD-set-other, append-snoc}
 use borrow.Author.Tests.{eqb-true, eqb-false, eq-eqb, ne-eqb, not-false}
-use Rattle.selecting.specs.Ranked.{Pair, Node, candidates, mark, busy, none, selectFrom, select}
-use Rattle.selecting.specs.Sets.{In, Least, Ends}
+use Rattle.selecting.specs.Ranked.{Pair, Node, mark, busy, none, selectFrom, select}
 use Rattle.selecting.specs.Taking.{usedOf, listed, IsLeast, Selected}
 use Rattle.selecting.proofs.Greedy.{or-false-left, or-false-right}
 use Rattle.selecting.proofs.Laws.{in-candidates, select-step, select-stop}
@@ -186,7 +185,9 @@ module _ (n : Node) (limit : ℕ) (out₀ out used : List ℕ) (k : ℕ) (p : Pa
         written : set (set out (k + k) (p .i)) (k + k + 1) (p .j) ≡ listed (t .taken ++ p ∷ []) ++ drop (k + 1 + (k + 1)) out₀
         written =
             ap (λ (l : List ℕ). set (set l (k + k) (p .i)) (k + k + 1) (p .j)) (t .written)
-            ∙ two-stores (listed (t .taken)) out₀ (k + k) (p .i) (p .j) (length-listed (t .taken) ∙ ap (λ (m : ℕ). m + m) (t .counted)) (omega (arith, t .room, fewer))
+            ∙ two-stores (listed (t .taken)) out₀ (k + k) (p .i) (p .j)
+            (length-listed (t .taken) ∙ ap (λ (m : ℕ). m + m) (t .counted))
+            (omega (arith, t .room, fewer))
             ∙ ap (λ (l : List ℕ). l ++ drop (k + k + 2) out₀) (ap (λ (l : List ℕ). listed (t .taken) ++ l) one ∙ sym (listed-append (t .taken) (p ∷ [])))
             ∙ ap (λ (m : ℕ). listed (t .taken ++ p ∷ []) ++ drop m out₀) twice
 

@@ -32,7 +32,8 @@ not-before-first x xs s b (inl e) h = tf h (ap (λ (t : Pair). before t x) e ∙
 not-before-first x xs s b (inr m) h = tf h (s .0 b m)
 
 -- the first pair of l is free: it is the first of s
-taken : (used : ℕ → Bool) (x : Pair) (xs : List Pair) (y : Pair) (ys : List Pair) → Sorted before (x ∷ xs) → busy used x ≡ false → SettledFrom used (x ∷ xs) (y ∷ ys) → x ≡ y
+taken : (used : ℕ → Bool) (x : Pair) (xs : List Pair) (y : Pair) (ys : List Pair) → Sorted before (x ∷ xs) → busy used x ≡ false
+    → SettledFrom used (x ∷ xs) (y ∷ ys) → x ≡ y
 taken used x xs y ys s b h = which (h .blocked x (inl refl))
   where
     here : In x (y ∷ ys) → x ≡ y
@@ -74,7 +75,8 @@ rest used x xs y ys e h = record {
         (λ (b : busy (mark x used) p ≡ false). b)
         (two (busy (mark x used) p))
 
-    blocked : (p : Pair) → (busy used p ≡ true) ⊎ (In p (y ∷ ys) ⊎ Blocked before shares (y ∷ ys) p) → (busy (mark x used) p ≡ true) ⊎ (In p ys ⊎ Blocked before shares ys p)
+    blocked : (p : Pair) → (busy used p ≡ true) ⊎ (In p (y ∷ ys) ⊎ Blocked before shares (y ∷ ys) p)
+        → (busy (mark x used) p ≡ true) ⊎ (In p ys ⊎ Blocked before shares ys p)
     blocked p (inl b) = inl (busy-more x p used b)
     blocked p (inr (inl (inl k))) = inl (busy-shared x p used (ap (shares x) (k ∙ sym e) ∙ shares-self x))
     blocked p (inr (inl (inr k))) = inr (inl k)

@@ -9,7 +9,7 @@ use Rattle.rules.specs.declared.Direction.{Direction}
 use Rattle.rules.specs.declared.Direction.the-variants.{Absent, Toward}
 use Rattle.rules.specs.Plane.{measure}
 use Rattle.rules.specs.Selecting.{End, Pair}
-use Rattle.order.specs.Key.{key}
+use Rattle.order.specs.Key.{key-nan, key}
 use Rattle.selecting.specs.Ranked.{Node}
 use Rattle.selecting.specs.Ranked as ranked
 
@@ -25,11 +25,11 @@ unfoldable pub there : Direction → Bool
 there Absent = false
 there (Toward x y) = true
 
--- the key of the measure of two directions, if both are present
+-- the key of the measure of two directions; where one is absent the greatest key, which is above every limit's
 unfoldable pub keyOf : Direction → Direction → ℕ
 unfolding key measure
-keyOf Absent d = 0
-keyOf (Toward ax ay) Absent = 0
+keyOf Absent d = key-nan
+keyOf (Toward ax ay) Absent = key-nan
 keyOf (Toward ax ay) (Toward bx by) = key (measure ax ay bx by)
 
 -- the node of a list of ends, each known by its place

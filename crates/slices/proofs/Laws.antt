@@ -185,7 +185,7 @@ slice-more {l′} {l} {at} {r} {out} h k a c =
     ap (drop a) (ap (take (at + r)) (from-cut h) ∙ take-at (take at l ++ out) (drop (at + r) l) (at + r) (from-head h k))
     ∙ drop-append-le a (take at l) out (omega (arith, length-take-le at l (omega arith)))
 
--- ---- the loops of the leaves: one number more of a copy, of a part copied up, and of a fill
+-- ---- the loops of the leaves: one number more of a copy, of a part copied down, and of a fill
 
 pub copy-more : (d d₀ s : List ℕ) (at i : ℕ) → HoldsFrom d d₀ at i (take i s) → at + length s ≤ length d₀ → i < length s
     → HoldsFrom (set d (at + i) (getD s i 0)) d₀ at (i + 1) (take (i + 1) s)
@@ -199,13 +199,13 @@ copy-done d d₀ s at i n h e k =
 pub part-length : (a k : ℕ) (l : List ℕ) → a + k ≤ length l → length (slice a (a + k) l) ≡ k
 part-length a k l h = length-slice a (a + k) l h ∙ omega arith
 
--- what is read below `at` is as it was
-pub up-more : (d d₀ : List ℕ) (from at n i : ℕ) → HoldsFrom d d₀ at i (take i (slice from (from + n) d₀)) → from + n ≤ at → at + n ≤ length d₀ → i < n
+-- what is read beyond `at` is as it was
+pub down-more : (d d₀ : List ℕ) (from at n i : ℕ) → HoldsFrom d d₀ at i (take i (slice from (from + n) d₀)) → at + n ≤ from → from + n ≤ length d₀ → i < n
     → HoldsFrom (set d (at + i) (getD d (from + i) 0)) d₀ at (i + 1) (take (i + 1) (slice from (from + n) d₀))
-up-more d d₀ from at n i h a b c =
+down-more d d₀ from at n i h a b c =
     let k : length (slice from (from + n) d₀) ≡ n = part-length from n d₀ (omega arith) in
     let same : getD d (from + i) 0 ≡ getD (slice from (from + n) d₀) i 0 =
-    from-below h (omega arith) (from + i) (omega arith)
+    from-beyond h (omega arith) (from + i) (omega arith)
     ∙ sym (ap (λ (t : List ℕ). getD t i 0) (slice-part from n d₀) ∙ getD-take n (drop from d₀) i 0 c ∙ getD-drop from d₀ i 0) in
     rw same (copy-more d d₀ (slice from (from + n) d₀) at i h (omega arith) (omega arith))
 

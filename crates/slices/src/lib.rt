@@ -89,9 +89,9 @@ pub fn copy_into(dst: &mut [u64], at: usize, src: &[u64])
     }
 }
 
-// The n numbers from `from` on, again from `at` on, which lies beyond them.
-pub fn copy_up(w: &mut [u64], from: usize, at: usize, n: usize)
-    requires { ⌜ (from + n ≤ at) × (at + n ≤ length (now w)) ⌝ }
+// The n numbers from `from` on, again from `at` on, which lies before them.
+pub fn copy_down(w: &mut [u64], from: usize, at: usize, n: usize)
+    requires { ⌜ (at + n ≤ from) × (from + n ≤ length (now w)) ⌝ }
     ensures { λ _. ⌜ HoldsFrom (now (w .exit)) (now (w .entry)) at n (slice from (from + n) (now (w .entry))) ⌝ }
 {
     let mut i = 0;

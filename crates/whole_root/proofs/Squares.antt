@@ -1,4 +1,4 @@
--- Squares of sums, and the whole number nearest to a root.
+-- Squares of sums; and only one whole number is nearest to a root, since the squares of neighbours lie too far apart.
 use mathlib.Core.Path.{_≡_}
 use Prim.Native.Nat.{ℕ, suc, _+_, _*_, _≤_, _<_, zero-le}
 use native.Mathlib.Nat.{add-mul, mul-add, mul-mul-mul-comm, mul-le-mul, mul-le-mul-left, mul-le-mul-right, mul-lt-mul-of-pos-right, le-antisymm, le-of-lt, lt-of-le-of-lt, le-of-suc-le-suc, lt-of-not-le}

@@ -1,4 +1,4 @@
--- `bits::bits_of` meets its contract.
+-- `bits::bits_of` meets its contract: `x != x` is the test of a NaN, and elsewhere `to_bits` is lib.Ieee's `toBits`.
 use mathlib.Core.Path.{refl}
 use Rattle.bits.specs.Bits.{bitsOf}
 use Rattle.bits.proofs.Kept.{no-nan, bits-of-nan}

@@ -1,4 +1,4 @@
--- `bits::is_finite` meets its contract.
+-- `bits::is_finite` meets its contract: without the sign's bit, a finite number's pattern is below the infinity's.
 use Rattle.bits.proofs.Patterns.{finite-below}
 use Rattle.bits.proofs.is_finite.Statement.{statement}
 use Rattle.bits.proofs.is_finite.Tie as tie

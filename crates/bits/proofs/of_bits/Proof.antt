@@ -1,4 +1,4 @@
--- `bits::of_bits` meets its contract.
+-- `bits::of_bits` meets its contract: 0.0 / 0.0 is the NaN, and elsewhere `from_bits` is defined.
 use borrow.Author.Needs.{needs}
 use mathlib.Core.Path.{sym, _∙_, subst}
 use mathlib.Core.Bool.{Bool, not}

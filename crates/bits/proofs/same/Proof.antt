@@ -1,4 +1,4 @@
--- `bits::same` meets its contract.
+-- `bits::same` meets its contract: it compares the two values.
 use borrow.Author.Needs.{needs}
 use Rattle.bits.proofs.same.Statement.{statement}
 use Rattle.bits.proofs.same.Tie as tie

@@ -1,4 +1,4 @@
--- `bounds::corner` meets its contract.
+-- `bounds::corner` meets its contract: the branches are those of the definition.
 use lib.Ieee.{ofBits}
 use Rattle.bounds.specs.Box.{corner}
 use Rattle.order.proofs.Pick.{chosen, other}

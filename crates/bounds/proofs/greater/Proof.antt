@@ -1,4 +1,4 @@
--- `bounds::greater` meets its contract.
+-- `bounds::greater` meets its contract: the branches are those of the definition.
 use lib.Ieee.{ofBits}
 use Rattle.bounds.specs.Box.{greatest}
 use Rattle.order.proofs.Pick.{chosen, other}

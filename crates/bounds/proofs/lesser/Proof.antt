@@ -1,4 +1,4 @@
--- `bounds::lesser` meets its contract.
+-- `bounds::lesser` meets its contract: the branches are those of the definition.
 use lib.Ieee.{ofBits}
 use Rattle.bounds.specs.Box.{least}
 use Rattle.order.proofs.Pick.{chosen, other}

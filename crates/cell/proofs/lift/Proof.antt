@@ -1,4 +1,4 @@
--- `cell::lift` meets its contract.
+-- `cell::lift` meets its contract: below zero -1 - t fits and is taken from 2 ^ 63 - 1, elsewhere 2 ^ 63 is added.
 use Rattle.cell.proofs.Turn.{Turned, turn, Plain, plain}
 use Rattle.cell.proofs.lift.Statement.{statement}
 use Rattle.cell.proofs.lift.Tie as tie

@@ -1,4 +1,4 @@
--- `order::clamped` meets its contract.
+-- `order::clamped` meets its contract: the branches are those of `clamp`. A literal is its bits' value, so `ofBits` and `neg` are unfolded.
 use mathlib.Core.Path.{_∙_}
 use lib.Ieee.{ofBits, neg}
 use Rattle.rules.specs.Plane.{clamp}

@@ -1,4 +1,4 @@
--- `order::is_finite` meets its contract.
+-- `order::is_finite` meets its contract: of a NaN or an infinity the difference from itself is a NaN, of a finite value it is not.
 use lib.Ieee.{binary64}
 use Rattle.order.proofs.Mono.{self-difference}
 use Rattle.order.proofs.is_finite.Statement.{statement}

@@ -1,4 +1,4 @@
--- `order::key` meets its contract.
+-- `order::key` meets its contract: only a NaN differs from itself.
 use mathlib.Core.Path.{_∙_, sym}
 use Rattle.order.proofs.Keys.{self, key-num, key-else}
 use Rattle.order.proofs.key.Statement.{statement}

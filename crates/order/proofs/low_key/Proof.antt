@@ -1,4 +1,4 @@
--- `order::low_key` meets its contract.
+-- `order::low_key` meets its contract: only a NaN differs from itself.
 use mathlib.Core.Path.{_∙_, sym}
 use Rattle.order.proofs.Keys.{self, low-key-num, low-key-else}
 use Rattle.order.proofs.low_key.Statement.{statement}

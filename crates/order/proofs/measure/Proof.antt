@@ -1,4 +1,4 @@
--- `order::measure` meets its contract.
+-- `order::measure` meets its contract: the callee clamps the sum of products.
 use borrow.Author.Needs.{needs}
 use Rattle.rules.specs.Plane.{measure}
 use Rattle.order.proofs.measure.Statement.{statement}

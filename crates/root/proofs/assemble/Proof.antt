@@ -1,6 +1,6 @@
 -- `root::assemble` meets its contract: the nearest whole root has 53 binary digits, or is 2 ^ 53, and its sum with the exponent is written so.
 use borrow.Author.Needs.{needs}
-use Prim.Native.Nat.{_+_, _*_, _%_}
+use Prim.Native.Nat.{_+_, _*_, _%_, _^_}
 use mathlib.Core.Path.{sym, _∙_, subst}
 use mathlib.Core.Bool.{Bool, not}
 use native.Mathlib.Omega.{arith}
@@ -24,8 +24,8 @@ add-result c = omega (arith, at-most _ _ (c .nearest-root .ensures) (omega arith
 
 float-from-bits-result : tie.Need-float-from-bits-result
 float-from-bits-result c =
-    let n = c .before .args .k * 4503599627370496 + c .nearest-root .result in
-    subst (λ (b : Bool). T (not b)) (sym (nanBits-above binary64 n ∙ le-ltb 9218868437227405312 (n % 9223372036854775808) (omega (arith, at-most _ _ (c .nearest-root .ensures) (omega arith))))) tt
+    let n = c .before .args .k * 2 ^ 52 + c .nearest-root .result in
+    subst (λ (b : Bool). T (not b)) (sym (nanBits-above binary64 n ∙ le-ltb 0x7ff0_0000_0000_0000 (n % 2 ^ 63) (omega (arith, at-most _ _ (c .nearest-root .ensures) (omega arith))))) tt
 
 returns : tie.Need-returns
 returns c =

@@ -1,4 +1,4 @@
--- `root::positive` meets its contract.
+-- `root::positive` meets its contract: an exponent's field of 0 has no leading digit, any other has one.
 use mathlib.Core.Path.{sym, _∙_}
 use Rattle.root.proofs.Values.{root-low, root-high}
 use borrow.Author.Needs.{needs}
@@ -18,7 +18,8 @@ scaled-requires-2 : tie.Need-scaled-requires-2
 scaled-requires-2 c κs = search needs
 
 returns : tie.Need-returns
-returns c = c .scaled .ensures ∙ sym (root-low (c .before .before .args .n) (c .before .before .pre .0) (c .before .before .pre .1) (c .before .if1 .taken))
+returns c =
+    c .scaled .ensures ∙ sym (root-low (c .before .before .args .n) (c .before .before .pre .0) (c .before .before .pre .1) (c .before .if1 .taken))
 
 returns-2 : tie.Need-returns-2
 returns-2 c = c .scaled2 .ensures ∙ sym (root-high (c .before .before .args .n) (c .before .before .pre .1) (c .before .if1 .left))

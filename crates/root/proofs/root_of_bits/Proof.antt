@@ -1,4 +1,4 @@
--- `root::root_of_bits` meets its contract.
+-- `root::root_of_bits` meets its contract, pattern by pattern: zero, above zero, infinity, -0.0, and the rest, which has no root.
 use Prim.Native.Nat.{ℕ}
 use mathlib.Core.Path.{sym, ap, _∙_}
 use native.Mathlib.Omega.{arith}

@@ -1,5 +1,5 @@
 -- `root::shifted` meets its contract. The loop's invariant is `Shifted`, and its measure how far the number is from 2 ^ 53.
-use Prim.Native.Nat.{_-_}
+use Prim.Native.Nat.{_-_, _^_}
 use native.Mathlib.Omega.{arith}
 use Rattle.root.proofs.Shift.{Shifted, unshifted, shifted-more}
 use Rattle.root.proofs.shifted.Statement.{statement}
@@ -9,7 +9,7 @@ abbrev Inv-loop : tie.InvT-loop
 Inv-loop m a₀ s₀ a s = Shifted m a s
 
 abbrev μ-loop : tie.MeasureT-loop
-μ-loop m a₀ s₀ a s = 9007199254740992 - a
+μ-loop m a₀ s₀ a s = 2 ^ 53 - a
 
 loop-holds : tie.Need-loop-holds Inv-loop μ-loop
 loop-holds c = unshifted _ (c .pre .0) (c .pre .1)

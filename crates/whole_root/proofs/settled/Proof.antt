@@ -1,5 +1,5 @@
 -- `whole_root::settled` meets its contract: the distance of the square from w * 2 ^ 52, which is exact, says whether g or a neighbour is nearest.
-use Prim.Native.Nat.{_+_, _-_, _*_}
+use Prim.Native.Nat.{_+_, _-_, _*_, _^_}
 use native.Mathlib.Omega.{arith}
 use lib.Dec.{ltb, leb}
 use Rattle.whole_root.proofs.Exact.{apart, byte-le, moved}
@@ -66,16 +66,16 @@ add-result c =
     let s = c .before .before .before .before .squared .result in
     let start = c .before .before .before .before .before in
     let g = start .args .g in
-    let e = (start .args .w + 8 - s .high) * 4503599627370496 - s .low in
-    omega (arith, byte-le (ltb (36028797018963968 + g) e))
+    let e = (start .args .w + 8 - s .high) * 2 ^ 52 - s .low in
+    omega (arith, byte-le (ltb (2 ^ 55 + g) e))
 
 sub-result : tie.Need-sub-result
 sub-result c =
     let s = c .before .before .before .before .squared .result in
     let start = c .before .before .before .before .before in
     let g = start .args .g in
-    let e = (start .args .w + 8 - s .high) * 4503599627370496 - s .low in
-    omega (arith, byte-le (leb (e + g) 36028797018963968))
+    let e = (start .args .w + 8 - s .high) * 2 ^ 52 - s .low in
+    omega (arith, byte-le (leb (e + g) (2 ^ 55)))
 
 returns-5 : tie.Need-returns-5
 returns-5 c =

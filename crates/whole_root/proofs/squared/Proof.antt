@@ -1,4 +1,4 @@
--- `whole_root::squared` meets its contract.
+-- `whole_root::squared` meets its contract: the products of the halves fit, and with their places they sum to the square.
 use native.Mathlib.Omega.{arith}
 use Rattle.whole_root.proofs.Exact.{halves, whole}
 use borrow.Author.Needs.{needs}

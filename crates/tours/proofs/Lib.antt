@@ -1,0 +1,5 @@
+pub mod Cut
+pub mod Heads
+pub mod Go
+pub mod Tour
+pub mod Partners
