@@ -15,7 +15,6 @@ use lib.ListN.{length}
 use borrow.Author.Tests.{eqb-true, eqb-false}
 use Rattle.rules.specs.Lists.{count, keep, upto}
 use Rattle.rules.specs.Plane.{Key, key, sameInt, sameKey}
-use Rattle.rules.specs.Selecting.{within}
 use Rattle.rules.specs.Walking.{pieceOf}
 use Rattle.rules.specs.Chaining.{Piece, Rule, keyAt, node, chosen, joined, partner}
 use Rattle.chaining.specs.Joins.{Joins}

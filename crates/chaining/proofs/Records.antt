@@ -38,22 +38,24 @@ five-length counts m c p = go (copied p) refl
     go true e = rw (e, five)
     go false e = rw (e, five)
 
-module _ (counts : List ℕ) (p : Piece) (post : List Piece) where
-  pub table-split : (m c : ℕ) (pre : List Piece)
-      → table counts m c (pre ++ (p ∷ post))
-      ≡ table counts m c pre
-      ++ (five counts (m + length (flatMap (λ p. p .lines) pre)) (c + length (flatMap copy pre)) p
-      ++ table counts (m + length (flatMap (λ p. p .lines) pre) + length (p .lines)) (c + length (flatMap copy pre) + length (copy p)) post)
-  unfolding table flatMap
-  table-split m c [] =
-      ap₂ (λ (i j : ℕ). five counts i j p ++ table counts (i + length (p .lines)) (j + length (copy p)) post) (sym (add-zero m)) (sym (add-zero c))
-  table-split m c (q ∷ pre) =
-      ap {B = List ℕ} (λ l. five counts m c q ++ l) (table-split (m + length (q .lines)) (c + length (copy q)) pre)
-      ∙ ap₂ (λ (i j : ℕ). five counts m c q ++ (table counts (m + length (q .lines)) (c + length (copy q)) pre
-      ++ (five counts i j p ++ table counts (i + length (p .lines)) (j + length (copy p)) post)))
-      (omega (arith, length-append (q .lines) (flatMap (λ (p : Piece). p .lines) pre)))
-      (omega (arith, length-append (copy q) (flatMap copy pre)))
-      ∙ sym (append-assoc (five counts m c q) (table counts (m + length (q .lines)) (c + length (copy q)) pre) _)
+-- the records of some chains, and those of the chains behind them
+pub table-append : (counts : List ℕ) (m c : ℕ) (a b : List Piece)
+    → table counts m c (a ++ b) ≡ table counts m c a ++ table counts (m + length (flatMap (λ p. p .lines) a)) (c + length (flatMap copy a)) b
+unfolding table flatMap
+table-append counts m c [] b = ap₂ (λ (i j : ℕ). table counts i j b) (sym (add-zero m)) (sym (add-zero c))
+table-append counts m c (p ∷ a) b =
+    ap {B = List ℕ} (λ l. five counts m c p ++ l) (table-append counts (m + length (p .lines)) (c + length (copy p)) a b)
+    ∙ ap₂ (λ (i j : ℕ). five counts m c p ++ (table counts (m + length (p .lines)) (c + length (copy p)) a ++ table counts i j b))
+    (omega (arith, length-append (p .lines) (flatMap (λ (p : Piece). p .lines) a)))
+    (omega (arith, length-append (copy p) (flatMap copy a)))
+    ∙ sym (append-assoc (five counts m c p) (table counts (m + length (p .lines)) (c + length (copy p)) a) _)
+
+-- from the first chain on
+pub table-behind : (counts : List ℕ) (a b : List Piece)
+    → table counts 0 0 (a ++ b) ≡ table counts 0 0 a ++ table counts (length (flatMap (λ p. p .lines) a)) (length (flatMap copy a)) b
+table-behind counts a b =
+    table-append counts 0 0 a b
+    ∙ ap₂ (λ (i j : ℕ). table counts 0 0 a ++ table counts i j b) (zero-add (length (flatMap (λ (p : Piece). p .lines) a))) (zero-add (length (flatMap copy a)))
 
 pub table-length : (counts : List ℕ) (m c : ℕ) (ps : List Piece) → length (table counts m c ps) ≡ length ps * recordSize
 unfolding table
@@ -70,11 +72,11 @@ module _ (counts : List ℕ) (pre : List Piece) (p : Piece) (post : List Piece) 
   -- record k is that of chain k
   pub record-at : take recordSize (drop (length pre * recordSize) (table counts 0 0 (pre ++ (p ∷ post))))
       ≡ five counts (length (flatMap (λ p. p .lines) pre)) (length (flatMap copy pre)) p
+  unfolding table
   record-at =
-      ap (λ (l : List ℕ). take recordSize (drop (length pre * recordSize) l)) (table-split counts p post 0 0 pre)
-      ∙ part (table counts 0 0 pre) (five counts (0 + length (flatMap (λ p. p .lines) pre)) (0 + length (flatMap copy pre)) p) _ (length pre * recordSize) recordSize
-      (table-length counts 0 0 pre) (five-length counts _ _ p)
-      ∙ ap₂ (λ (i j : ℕ). five counts i j p) (zero-add (length (flatMap (λ (p : Piece). p .lines) pre))) (zero-add (length (flatMap copy pre)))
+      ap (λ (l : List ℕ). take recordSize (drop (length pre * recordSize) l)) (table-behind counts pre (p ∷ post))
+      ∙ part (table counts 0 0 pre) (five counts (length (flatMap (λ p. p .lines) pre)) (length (flatMap copy pre)) p) _ (length pre * recordSize) recordSize
+      (table-length counts 0 0 pre) (five-length counts (length (flatMap (λ (p : Piece). p .lines) pre)) (length (flatMap copy pre)) p)
 
   -- its members
   pub members-at : take (length (p .lines)) (drop (length (flatMap (λ p. p .lines) pre)) (flatMap (λ p. p .lines) (pre ++ (p ∷ post)))) ≡ p .lines

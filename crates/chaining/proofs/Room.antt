@@ -138,7 +138,7 @@ marks-fit s ls = marks-long ls (chains s ls) (chains-sound s ls)
 
 -- ---- a call
 
-lines-length : (ps : List Point) (cs gs ks : List ℕ) → length (lines ps cs gs ks) ≡ length cs
+pub lines-length : (ps : List Point) (cs gs ks : List ℕ) → length (lines ps cs gs ks) ≡ length cs
 unfolding lines
 lines-length ps [] gs ks = refl
 lines-length ps (c ∷ cs) gs ks = ap suc (lines-length (drop c ps) cs (drop 1 gs) (drop 1 ks))

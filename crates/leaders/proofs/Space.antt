@@ -16,32 +16,32 @@ abbrev pub four : List ℕ → ℕ → ℕ → ℕ → ℕ → ℕ → ℕ → �
 four w a x b y c z d v = set (set (set (set w a x) b y) c z) d v
 
 module _ (w : List ℕ) (a x b y c z d v : ℕ) where
-  four-other : (j : ℕ) → j ≢ a → j ≢ b → j ≢ c → j ≢ d → getD (four w a x b y c z d v) j 0 ≡ getD w j 0
+  pub four-other : (j : ℕ) → j ≢ a → j ≢ b → j ≢ c → j ≢ d → getD (four w a x b y c z d v) j 0 ≡ getD w j 0
   four-other j p q r s =
       getD-set-other (set (set (set w a x) b y) c z) d j v 0 s
       ∙ getD-set-other (set (set w a x) b y) c j z 0 r
       ∙ getD-set-other (set w a x) b j y 0 q
       ∙ getD-set-other w a j x 0 p
 
-  four-a : a < length w → a ≢ b → a ≢ c → a ≢ d → getD (four w a x b y c z d v) a 0 ≡ x
+  pub four-a : a < length w → a ≢ b → a ≢ c → a ≢ d → getD (four w a x b y c z d v) a 0 ≡ x
   four-a h q r s =
       getD-set-other (set (set (set w a x) b y) c z) d a v 0 s
       ∙ getD-set-other (set (set w a x) b y) c a z 0 r
       ∙ getD-set-other (set w a x) b a y 0 q
       ∙ getD-set-same w a x 0 h
 
-  four-b : b < length w → b ≢ c → b ≢ d → getD (four w a x b y c z d v) b 0 ≡ y
+  pub four-b : b < length w → b ≢ c → b ≢ d → getD (four w a x b y c z d v) b 0 ≡ y
   four-b h r s =
       getD-set-other (set (set (set w a x) b y) c z) d b v 0 s
       ∙ getD-set-other (set (set w a x) b y) c b z 0 r
       ∙ getD-set-same (set w a x) b y 0 (lt-length-set w a x h)
 
-  four-c : c < length w → c ≢ d → getD (four w a x b y c z d v) c 0 ≡ z
+  pub four-c : c < length w → c ≢ d → getD (four w a x b y c z d v) c 0 ≡ z
   four-c h s =
       getD-set-other (set (set (set w a x) b y) c z) d c v 0 s
       ∙ getD-set-same (set (set w a x) b y) c z 0 (lt-length-set (set w a x) b y (lt-length-set w a x h))
 
-  four-d : d < length w → getD (four w a x b y c z d v) d 0 ≡ v
+  pub four-d : d < length w → getD (four w a x b y c z d v) d 0 ≡ v
   four-d h =
       getD-set-same (set (set (set w a x) b y) c z) d v 0 (lt-length-set (set (set w a x) b y) c z (lt-length-set (set w a x) b y (lt-length-set w a x h)))
 

@@ -7,7 +7,7 @@ use mathlib.Core.Bool.{true, false}
 use mathlib.Core.List.{List, [], _∷_, _++_, flatMap}
 use native.Mathlib.Omega.{arith}
 use native.Mathlib.Decide.{ℕ-discrete}
-use lib.ListN.{length, getD, take, drop, length-append, length-take}
+use lib.ListN.{length-drop, length, getD, take, drop, length-append, length-take}
 use lib.Seq.{slice, split-at, length-take-le, getD-take, getD-drop, take-take, drop-drop}
 use borrow.Author.Tests.{eq-eqb, ne-eqb}
 use Rattle.rules.specs.Plane.{flat}
@@ -16,7 +16,7 @@ use Rattle.rules.specs.Layout.{copied, copy, five, table}
 use Rattle.rules.specs.Refusals.{recordSize, sourceOf}
 use Rattle.chaining.proofs.Lines.{flatMap-append}
 use Rattle.chaining.proofs.Records.{record-at, members-at, copy-at, flat-length}
-use Rattle.slices.proofs.Laws.{slice-part}
+use Rattle.slices.proofs.Laws.{slice-part, rest-slice}
 use Rattle.pieces.specs.Held.{linesOf, recordOf, coordinatesAt, Recorded, placeOf, Held}
 
 -- ---- the five numbers of a piece
@@ -62,10 +62,10 @@ pub getD-part : (a k : ℕ) (l : List ℕ) (i : ℕ) → i < k → getD (slice a
 getD-part a k l i h = ap (λ (t : List ℕ). getD t i 0) (slice-part a k l) ∙ getD-take k (drop a l) i 0 h ∙ getD-drop a l i 0
 
 -- a part of a beginning, and a part of a part
-part-front : (m : ℕ) (l : List ℕ) (i k : ℕ) → i + k ≤ m → take k (drop i (take m l)) ≡ take k (drop i l)
+pub part-front : (m : ℕ) (l : List ℕ) (i k : ℕ) → i + k ≤ m → take k (drop i (take m l)) ≡ take k (drop i l)
 part-front m l i k h = sym (slice-part i k (take m l)) ∙ ap (drop i) (take-take (i + k) m l h) ∙ slice-part i k l
 
-part-part : (a m : ℕ) (l : List ℕ) (i k : ℕ) → i + k ≤ m → take k (drop i (slice a (a + m) l)) ≡ take k (drop (a + i) l)
+pub part-part : (a m : ℕ) (l : List ℕ) (i k : ℕ) → i + k ≤ m → take k (drop i (slice a (a + m) l)) ≡ take k (drop (a + i) l)
 part-part a m l i k h =
     ap (λ (t : List ℕ). take k (drop i t)) (slice-part a m l) ∙ part-front m (drop a l) i k h ∙ ap (take k) (drop-drop i a l)
 
@@ -222,16 +222,50 @@ held-beyond w′ w base n k input copies counts ps e z c h =
       few = h .few;
       listed = h .listed;
       room = omega (arith, h .room);
-      records = same base (length ps * recordSize) c ∙ h .records;
-      members = same (base + n * 5) (length (linesOf ps)) (omega arith) ∙ h .members;
+      records = rest-slice w′ w k e base (length ps * recordSize) c ∙ h .records;
+      members = rest-slice w′ w k e (base + n * 5) (length (linesOf ps)) (omega arith) ∙ h .members;
       full = h .full;
       own = h .own;
       copied = h .copied;
     }
-  where
-    same : (a m : ℕ) → k ≤ a → slice a (a + m) w′ ≡ slice a (a + m) w
-    same a m b =
-        let g : k + (a - k) ≡ a = omega arith in
-        slice-part a m w′
-        ∙ ap (take m) (rw (← g) (sym (drop-drop (a - k) k w′) ∙ ap (drop (a - k)) e ∙ drop-drop (a - k) k w))
-        ∙ sym (slice-part a m w)
+
+-- ---- pieces that stand in the part of a workspace from k on stand in the workspace, and the other way round
+
+module _ (w part : List ℕ) (k : ℕ) (e : drop k w ≡ part) (inside : k ≤ length w) where
+  shifted : (a m : ℕ) → slice (k + a) (k + a + m) w ≡ slice a (a + m) part
+  shifted a m = slice-part (k + a) m w ∙ ap (take m) (sym (drop-drop a k w) ∙ ap (drop a) e) ∙ sym (slice-part a m part)
+
+  part-size : length part ≡ length w - k
+  part-size = ap length (sym e) ∙ length-drop k w
+
+  module _ (base n : ℕ) (input copies counts : List ℕ) (ps : List Piece) where
+    members-place : k + base + n * 5 ≡ k + (base + n * 5)
+    members-place = omega arith
+
+    pub held-whole : Held part base n input copies counts ps → Held w (k + base) n input copies counts ps
+    held-whole h =
+        record {
+          few = h .few;
+          listed = h .listed;
+          room = omega (arith, h .room, part-size);
+          records = shifted base (length ps * recordSize) ∙ h .records;
+          members = ap (λ (a : ℕ). slice a (a + length (linesOf ps)) w) members-place ∙ shifted (base + n * 5) (length (linesOf ps)) ∙ h .members;
+          full = h .full;
+          own = h .own;
+          copied = h .copied;
+        }
+
+    pub held-part : Held w (k + base) n input copies counts ps → Held part base n input copies counts ps
+    held-part h =
+        record {
+          few = h .few;
+          listed = h .listed;
+          room = omega (arith, h .room, part-size);
+          records = sym (shifted base (length ps * recordSize)) ∙ h .records;
+          members =
+              sym (shifted (base + n * 5) (length (linesOf ps)))
+              ∙ ap (λ (a : ℕ). slice a (a + length (linesOf ps)) w) (sym members-place) ∙ h .members;
+          full = h .full;
+          own = h .own;
+          copied = h .copied;
+        }

@@ -156,10 +156,12 @@ from-then {l″} {l′} {l} {at} {r} {n} {out} {x} h k s =
 
 -- ---- other parts, after a write
 
--- a part below what was written, and one beyond it
+-- a beginning before what was written, a part below it, and one beyond it
+pub take-before : {l′ l : List ℕ} {at r : ℕ} {out : List ℕ} → HoldsFrom l′ l at r out → at + r ≤ length l → (a : ℕ) → a ≤ at → take a l′ ≡ take a l
+take-before {l′} {l} {at} h k a c = sym (take-take a at l′ c) ∙ ap (take a) (from-front h k) ∙ take-take a at l c
+
 pub slice-below : {l′ l : List ℕ} {at r : ℕ} {out : List ℕ} → HoldsFrom l′ l at r out → at + r ≤ length l → (a b : ℕ) → b ≤ at → slice a b l′ ≡ slice a b l
-slice-below {l′} {l} {at} h k a b c =
-    ap (drop a) (sym (take-take b at l′ c) ∙ ap (take b) (from-front h k) ∙ take-take b at l c)
+slice-below h k a b c = ap (drop a) (take-before h k b c)
 
 pub drop-past : {l′ l : List ℕ} {at r : ℕ} {out : List ℕ} → HoldsFrom l′ l at r out → at + r ≤ length l → (a : ℕ) → at + r ≤ a → drop a l′ ≡ drop a l
 drop-past {l′} {l} {at} {r} h k a c =
@@ -184,6 +186,24 @@ pub slice-more : {l′ l : List ℕ} {at r : ℕ} {out : List ℕ} → HoldsFrom
 slice-more {l′} {l} {at} {r} {out} h k a c =
     ap (drop a) (ap (take (at + r)) (from-cut h) ∙ take-at (take at l ++ out) (drop (at + r) l) (at + r) (from-head h k))
     ∙ drop-append-le a (take at l) out (omega (arith, length-take-le at l (omega arith)))
+
+-- ---- where two lists are the same from k on, so are their parts there
+
+module _ (l′ l : List ℕ) (k : ℕ) (e : drop k l′ ≡ drop k l) where
+  pub rest-drop : (a : ℕ) → k ≤ a → drop a l′ ≡ drop a l
+  rest-drop a h =
+      let s : k + (a - k) ≡ a = omega arith in
+      rw (← s) (sym (drop-drop (a - k) k l′) ∙ ap (drop (a - k)) e ∙ drop-drop (a - k) k l)
+
+  pub rest-getD : (a : ℕ) → k ≤ a → getD l′ a 0 ≡ getD l a 0
+  rest-getD a h =
+      let s : a + 0 ≡ a = omega arith in
+      ap (λ (i : ℕ). getD l′ i 0) (sym s)
+      ∙ sym (getD-drop a l′ 0 0) ∙ ap (λ (t : List ℕ). getD t 0 0) (rest-drop a h) ∙ getD-drop a l 0 0
+      ∙ ap (λ (i : ℕ). getD l i 0) s
+
+  pub rest-slice : (a m : ℕ) → k ≤ a → slice a (a + m) l′ ≡ slice a (a + m) l
+  rest-slice a m h = slice-part a m l′ ∙ ap (take m) (rest-drop a h) ∙ sym (slice-part a m l)
 
 -- ---- the loops of the leaves: one number more of a copy, of a part copied down, and of a fill
 

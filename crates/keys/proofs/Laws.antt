@@ -1,0 +1,204 @@
+-- The words of one end in the workspace, and those of one end more.
+use Prim.Native.Nat.{ℕ, zero, suc, _+_, _-_, _*_, _/_, _%_, _≤_, _<_}
+use mathlib.Core.Path.{_≡_, refl, sym, ap, subst, _∙_}
+use mathlib.Core.Logic.{_≢_}
+use mathlib.Core.Bool.{Bool, true, false, cond}
+use mathlib.Core.List.{List}
+use native.Mathlib.Omega.{arith}
+use native.Mathlib.Decide.{ℕ-discrete}
+use borrow.Author.Tests.{eq-eqb, ne-eqb, eqb-true, eqb-false}
+use lib.Dec.{eqb}
+use lib.Ieee.{Float}
+use lib.ListN.{length, getD, set, length-set}
+use lib.Seq.{getD-set-same, getD-set-other, lt-length-set}
+use Rattle.rules.specs.Refusals.{sourceOf}
+use Rattle.pieces.specs.Held.{recordOf, Recorded}
+use Rattle.keys.proofs.Source.{source-input, source-spare, within-input, within-spare}
+use Rattle.leaders.specs.Group.{Words, words, wordsAt}
+use Rattle.keys.specs.Keys.{groupAt, pairAt, numberAt, wordOf, wordsFor, keyed, Placed, Grouping, Keyable, Keyed}
+
+-- ---- a pair of a record
+
+pub pair-first : (first count side : ℕ) → side ≡ 0 → first ≡ pairAt first count side
+unfolding pairAt
+pair-first first count side e = rw (eq-eqb side 0 e)
+
+pub pair-last : (first count side : ℕ) → (side ≡ 0 → ⊥) → first + (count - 1) ≡ pairAt first count side
+unfolding pairAt
+pair-last first count side h = rw (ne-eqb side 0 h)
+
+pub pair-below : (first count side : ℕ) → 0 < count → pairAt first count side < first + count
+pair-below first count side h =
+    elim (ℕ-discrete side 0) [
+      | yes e ↦ omega (arith, pair-first first count side e)
+      | no e ↦ omega (arith, pair-last first count side e)
+    ]
+
+module _ (w : List ℕ) (p side axis : ℕ) (input spare : List ℕ) (P : Placed w p input spare) (h : axis < 2) where
+  pub below-input : getD w (p + 2) 0 ≡ 0 → pairAt (getD w (p + 3) 0) (getD w (p + 4) 0) side * 2 + axis < length input
+  below-input e = omega (arith, within-input w p input spare (P .recorded) e, pair-below (getD w (p + 3) 0) (getD w (p + 4) 0) side (P .long))
+
+  pub below-spare : (getD w (p + 2) 0 ≡ 0 → ⊥) → pairAt (getD w (p + 3) 0) (getD w (p + 4) 0) side * 2 + axis < length spare
+  below-spare e = omega (arith, within-spare w p input spare (P .recorded) e, pair-below (getD w (p + 3) 0) (getD w (p + 4) 0) side (P .long))
+
+module _ (w : List ℕ) (p side axis : ℕ) (input spare : List ℕ) where
+  pub number-input : getD w (p + 2) 0 ≡ 0
+      → getD input (pairAt (getD w (p + 3) 0) (getD w (p + 4) 0) side * 2 + axis) 0 ≡ numberAt w p side axis input spare
+  unfolding numberAt
+  number-input e = rw (source-input w p input spare e)
+
+  pub number-spare : (getD w (p + 2) 0 ≡ 0 → ⊥)
+      → getD spare (pairAt (getD w (p + 3) 0) (getD w (p + 4) 0) side * 2 + axis) 0 ≡ numberAt w p side axis input spare
+  unfolding numberAt
+  number-spare e = rw (source-spare w p input spare e)
+
+-- ---- three stores
+
+module _ (w : List ℕ) (a x y z : ℕ) where
+  abbrev pub three : List ℕ
+  three = set (set (set w a x) (a + 1) y) (a + 2) z
+
+  pub three-other : (j : ℕ) → j ≢ a → j ≢ a + 1 → j ≢ a + 2 → getD three j 0 ≡ getD w j 0
+  three-other j p q r =
+      getD-set-other (set (set w a x) (a + 1) y) (a + 2) j z 0 r
+      ∙ getD-set-other (set w a x) (a + 1) j y 0 q
+      ∙ getD-set-other w a j x 0 p
+
+  pub three-first : a + 3 ≤ length w → getD three a 0 ≡ x
+  three-first h =
+      getD-set-other (set (set w a x) (a + 1) y) (a + 2) a z 0 (λ q. omega arith)
+      ∙ getD-set-other (set w a x) (a + 1) a y 0 (λ q. omega arith)
+      ∙ getD-set-same w a x 0 (omega arith)
+
+  pub three-second : a + 3 ≤ length w → getD three (a + 1) 0 ≡ y
+  three-second h =
+      getD-set-other (set (set w a x) (a + 1) y) (a + 2) (a + 1) z 0 (λ q. omega arith)
+      ∙ getD-set-same (set w a x) (a + 1) y 0 (omega (arith, length-set w a x))
+
+  pub three-third : a + 3 ≤ length w → getD three (a + 2) 0 ≡ z
+  three-third h = getD-set-same (set (set w a x) (a + 1) y) (a + 2) z 0 (omega (arith, length-set w a x, length-set (set w a x) (a + 1) y))
+
+-- ---- records and members stay while keys are written above them
+
+-- two workspaces agree below k
+abbrev pub Same : List ℕ → List ℕ → ℕ → Type 0
+Same w′ w k = (j : ℕ) → j < k → getD w′ j 0 ≡ getD w j 0
+
+module _ (w′ w : List ℕ) (k p members : ℕ) (s : Same w′ w k) (hp : p + 5 ≤ k) (hm : members + getD w p 0 < k) where
+  at-first : getD w′ p 0 ≡ getD w p 0
+  at-first = s p (omega arith)
+
+  group-same : (groups : List ℕ) → groupAt w′ p members groups ≡ groupAt w p members groups
+  unfolding groupAt
+  group-same groups =
+      ap (λ (i : ℕ). getD groups (getD w′ (members + i) 0) 0) at-first
+      ∙ ap (λ (i : ℕ). getD groups i 0) (s (members + getD w p 0) hm)
+
+  pub source-same : (input spare : List ℕ) → sourceOf (getD w′ (p + 2) 0) input spare ≡ sourceOf (getD w (p + 2) 0) input spare
+  source-same input spare = ap (λ (i : ℕ). sourceOf i input spare) (s (p + 2) (omega arith))
+
+  number-same : (side axis : ℕ) (input spare : List ℕ) → numberAt w′ p side axis input spare ≡ numberAt w p side axis input spare
+  unfolding numberAt
+  number-same side axis input spare =
+      ap (λ (l : List ℕ). getD l (pairAt (getD w′ (p + 3) 0) (getD w′ (p + 4) 0) side * 2 + axis) 0) (source-same input spare)
+      ∙ ap (λ (i : ℕ). getD (sourceOf (getD w (p + 2) 0) input spare) (pairAt i (getD w′ (p + 4) 0) side * 2 + axis) 0) (s (p + 3) (omega arith))
+      ∙ ap (λ (i : ℕ). getD (sourceOf (getD w (p + 2) 0) input spare) (pairAt (getD w (p + 3) 0) i side * 2 + axis) 0) (s (p + 4) (omega arith))
+
+  pub words-same : (side : ℕ) (groups input spare : List ℕ) (exact : Bool) (tolerance : Float)
+      → wordsFor w′ p side members groups input spare exact tolerance ≡ wordsFor w p side members groups input spare exact tolerance
+  unfolding wordsFor
+  words-same side groups input spare exact tolerance = λ i.
+      words (group-same groups i) (wordOf exact tolerance (number-same side 0 input spare i)) (wordOf exact tolerance (number-same side 1 input spare i))
+
+  pub placed-same : (input spare : List ℕ) → length w′ ≡ length w → Placed w p input spare → Placed w′ p input spare
+  placed-same input spare n P =
+      record {
+        recorded = record {
+          inside = omega (arith, P .recorded .inside);
+          within = rw (source-same input spare, s (p + 3) (omega arith), s (p + 4) (omega arith)) (P .recorded .within);
+        };
+        long = rw (s (p + 4) (omega arith)) (P .long);
+      }
+
+  pub grouping-same : (groups : List ℕ) → length w′ ≡ length w → Grouping w p members groups → Grouping w′ p members groups
+  grouping-same groups n G =
+      let e = at-first in
+      record {
+        inside = omega (arith, G .inside);
+        member = omega (arith, G .member);
+        line = rw (e, s (members + getD w p 0) hm) (G .line);
+      }
+
+-- ---- one end more
+
+module _ (records members keys count : ℕ) (groups input spare : List ℕ) (exact : Bool) (tolerance : Float) where
+  -- after e ends
+  pub record Keying (w w₀ : List ℕ) (e : ℕ) : Type 0 where
+    pub size : length w ≡ length w₀
+    pub each : (f : ℕ) → f < e → wordsAt w keys f ≡ wordsFor w₀ (recordOf records (f / 2)) (f % 2) members groups input spare exact tolerance
+    pub kept : Same w w₀ keys
+
+  pub keying-start : (w : List ℕ) → Keying w w 0
+  keying-start w = record { size = refl; each = λ f h. absurd (omega arith); kept = λ j h. refl }
+
+  module _ (w w₀ : List ℕ) (e : ℕ) (K : Keying w w₀ e) (Y : Keyable w₀ records members keys count groups input spare) (h : e < count * 2) where
+    abbrev q : ℕ
+    q = e / 2
+
+    q-in : q < count
+    q-in = omega arith
+
+    above : recordOf records (e / 2) + 5 ≤ keys
+    above = let b = Y .below in omega arith
+
+    pub keying-placed : Placed w (recordOf records (e / 2)) input spare
+    keying-placed =
+        placed-same w w₀ keys (recordOf records (e / 2)) members (K .kept) above (Y .member (e / 2) q-in) input spare (K .size) (Y .placed (e / 2) q-in)
+
+    pub keying-group : Grouping w (recordOf records (e / 2)) members groups
+    keying-group =
+        grouping-same w w₀ keys (recordOf records (e / 2)) members (K .kept) above (Y .member (e / 2) q-in) groups (K .size)
+        (record {
+          inside = Y .placed (e / 2) q-in .recorded .inside;
+          member = let r = Y .room in omega (arith, Y .member (e / 2) q-in);
+          line = Y .line (e / 2) q-in;
+        })
+
+    step : Keying (keyed w records members keys e groups input spare exact tolerance) w₀ (e + 1)
+    unfolding keyed wordsAt wordsFor
+    step =
+        let g = groupAt w (recordOf records (e / 2)) members groups in
+        let x = wordOf exact tolerance (numberAt w (recordOf records (e / 2)) (e % 2) 0 input spare) in
+        let y = wordOf exact tolerance (numberAt w (recordOf records (e / 2)) (e % 2) 1 input spare) in
+        let n = K .size in
+        let r = Y .room in
+        let fit : keys + e * 3 + 3 ≤ length w = omega arith in
+        record {
+          size = simp length-set (K .size);
+          kept = λ j l. three-other w (keys + e * 3) g x y j (λ p. omega arith) (λ p. omega arith) (λ p. omega arith) ∙ K .kept j l;
+          each = λ f l. elim (ℕ-discrete f e) [
+            | yes p ↦
+                ap (wordsAt (three w (keys + e * 3) g x y) keys) p
+                ∙ here g x y fit
+                ∙ words-same w w₀ keys (recordOf records (e / 2)) members (K .kept) above (Y .member (e / 2) q-in) (e % 2) groups input spare exact tolerance
+                ∙ ap (λ (i : ℕ). wordsFor w₀ (recordOf records (i / 2)) (i % 2) members groups input spare exact tolerance) (sym p)
+            | no p ↦
+                (λ i. words
+                (three-other w (keys + e * 3) g x y (keys + f * 3) (λ s. omega arith) (λ s. omega arith) (λ s. omega arith) i)
+                (three-other w (keys + e * 3) g x y (keys + f * 3 + 1) (λ s. omega arith) (λ s. omega arith) (λ s. omega arith) i)
+                (three-other w (keys + e * 3) g x y (keys + f * 3 + 2) (λ s. omega arith) (λ s. omega arith) (λ s. omega arith) i))
+                ∙ K .each f (omega arith)
+          ];
+        }
+      where
+        here : (g x y : ℕ) → keys + e * 3 + 3 ≤ length w → wordsAt (three w (keys + e * 3) g x y) keys e ≡ words g x y
+        here g x y fit = λ i. words
+            (three-first w (keys + e * 3) g x y fit i)
+            (three-second w (keys + e * 3) g x y fit i)
+            (three-third w (keys + e * 3) g x y fit i)
+
+    pub keying-step : (w′ : List ℕ) → w′ ≡ keyed w records members keys e groups input spare exact tolerance → Keying w′ w₀ (e + 1)
+    keying-step w′ q = subst (λ (v : List ℕ). Keying v w₀ (e + 1)) (sym q) step
+
+  pub keying-done : {w w₀ : List ℕ} {e : ℕ} → Keying w w₀ e → count * 2 ≤ e → Keyed w w₀ records members keys count groups input spare exact tolerance
+  keying-done K h = record { each = λ f l. K .each f (omega arith); kept = K .kept }
