@@ -67,10 +67,14 @@ pub pieces-lone : (want : Bool) (k : ℕ) (ls : List Line) → Lone (pieces want
 unfolding alone
 pieces-lone want k ls = every want (λ p. length (p .lines) ≡ 1) k ls (λ i b. refl)
 
-pub lone-lines : (ps : List Piece) → Lone ps → length (linesOf ps) ≡ length ps
+-- as many numbers as pieces, where each piece has one
+pub ones-long : (f : Piece → List ℕ) (ps : List Piece) → Each (λ p. length (f p) ≡ 1) ps → length (flatMap f ps) ≡ length ps
 unfolding flatMap
-lone-lines ps nil = refl
-lone-lines ps (cons {a = p} {l = qs} e a) = omega (arith, length-append (p .lines) (linesOf qs), lone-lines qs a)
+ones-long f ps nil = refl
+ones-long f ps (cons {a = p} {l = qs} e a) = omega (arith, length-append (f p) (flatMap f qs), ones-long f qs a)
+
+pub lone-lines : (ps : List Piece) → Lone ps → length (linesOf ps) ≡ length ps
+lone-lines ps a = ones-long (λ p. p .lines) ps a
 
 pub lone-copies : (ps : List Piece) → Lone ps → flatMap copy ps ≡ []
 unfolding flatMap
@@ -121,17 +125,16 @@ total-next cs k b = rw (add-one, take-suc cs k 0 b) (total-append (take k cs) (g
 pub total-part : (cs : List ℕ) (k : ℕ) → total (take k cs) ≤ total cs
 total-part cs k = omega (arith, ap total (take-append-drop k cs), total-append (take k cs) (drop k cs))
 
-pub lines-many : (ps : List Point) (cs gs ks : List ℕ) → length (lines ps cs gs ks) ≡ length cs
-unfolding lines
-lines-many ps [] gs ks = refl
-lines-many ps (c ∷ cs) gs ks = ap suc (lines-many (drop c ps) cs (drop 1 gs) (drop 1 ks))
-
 kind-at : (ps : List Point) (cs gs ks : List ℕ) (k : ℕ) → k < length cs → getD (lines ps cs gs ks) k noLine .kind ≡ getD ks k 0
 unfolding lines
 kind-at ps [] gs ks k b = absurd (omega arith)
 kind-at ps (c ∷ cs) gs ks zero b = refl
 kind-at ps (c ∷ cs) gs ks (suc k) b =
     kind-at (drop c ps) cs (drop 1 gs) (drop 1 ks) k (omega arith) ∙ getD-drop 1 ks k 0 ∙ ap (λ (i : ℕ). getD ks i 0) (one-add k)
+
+-- whether line k is plain, by its kind and its coordinate count
+abbrev pub plainAt : List ℕ → List ℕ → ℕ → Bool
+plainAt counts kinds k = eqb (getD kinds k 0) 0 && leb 2 (getD counts k 0)
 
 module _ (input counts groups kinds : List ℕ) (adds : total counts * 2 ≡ length input) where
   abbrev ls : List Line
@@ -150,6 +153,6 @@ module _ (input counts groups kinds : List ℕ) (adds : total counts * 2 ≡ len
         total-part counts (k + 1),
       )
 
-  pub plain-at : (k : ℕ) → k < length counts → plain (getD ls k noLine) ≡ (eqb (getD kinds k 0) 0 && leb 2 (getD counts k 0))
+  pub plain-at : (k : ℕ) → k < length counts → plain (getD ls k noLine) ≡ plainAt counts kinds k
   unfolding plain
   plain-at k b = ap₂ (λ (i c : ℕ). eqb i 0 && leb 2 c) (kind-at (points input) counts groups kinds k b) (points-at k b)

@@ -1,49 +1,34 @@
--- Numbers of pieces: the records of two lists of pieces, one after the other; and what one line more adds to records, members and marks.
+-- Numbers of pieces of one line: what one line more adds to records, members and marks.
 use Prim.Native.Nat.{ℕ, _+_, _*_, _≤_, _<_}
-use mathlib.Core.Path.{_≡_, refl, sym, ap, ap₂, _∙_}
-use mathlib.Core.Bool.{Bool, true, false, _&&_, Bool·beq}
-use mathlib.Core.List.{List, [], _∷_, _++_, flatMap, append-assoc, append-nil}
+use mathlib.Core.Path.{_≡_, refl, ap, ap₂, _∙_}
+use mathlib.Core.Bool.{Bool, true, false, Bool·beq}
+use mathlib.Core.List.{List, [], _∷_, _++_, flatMap, append-nil}
 use native.Mathlib.Omega.{arith}
 use native.Mathlib.Nat.{add-zero}
-use lib.Dec.{leb, eqb}
 use lib.ListN.{length, getD, take, set, length-append}
 use Rattle.rules.specs.Lists.{total}
 use Rattle.rules.specs.Plane.{points}
 use Rattle.rules.specs.Chaining.{Piece, Line, plain, alone}
 use Rattle.rules.specs.Layout.{lines, copy, five, table}
 use Rattle.chaining.proofs.Lines.{flatMap-append}
+use Rattle.chaining.proofs.Records.{table-append}
+use Rattle.chaining.proofs.Room.{lines-length}
 use Rattle.chaining.proofs.Sound.{noLine}
 use Rattle.slices.specs.Holds.{HoldsFrom}
 use Rattle.slices.proofs.Laws.{from-set, from-start}
 use Rattle.pieces.specs.Held.{linesOf, marksOf}
 use Rattle.pieces.proofs.Reading.{five-own}
-use Rattle.intake.proofs.Passing.{passed, passed-one, passed-none, pieces-lone, lone-lines, lines-many, points-at, plain-at}
-
-pub table-append : (counts : List ℕ) (m c : ℕ) (ps qs : List Piece)
-    → table counts m c (ps ++ qs) ≡ table counts m c ps ++ table counts (m + length (linesOf ps)) (c + length (flatMap copy ps)) qs
-unfolding table flatMap
-table-append counts m c [] qs = ap₂ (λ (i j : ℕ). table counts i j qs) (sym (add-zero m)) (sym (add-zero c))
-table-append counts m c (p ∷ ps) qs =
-    ap {B = List ℕ} (λ l. five counts m c p ++ l)
-    (table-append counts (m + length (p .lines)) (c + length (copy p)) ps qs
-    ∙ ap₂ (λ (i j : ℕ). table counts (m + length (p .lines)) (c + length (copy p)) ps ++ table counts i j qs)
-    (omega (arith, length-append (p .lines) (linesOf ps)))
-    (omega (arith, length-append (copy p) (flatMap copy ps))))
-    ∙ sym (append-assoc (five counts m c p) (table counts (m + length (p .lines)) (c + length (copy p)) ps) _)
+use Rattle.intake.proofs.Passing.{plainAt, passed, passed-one, passed-none, pieces-lone, lone-lines, points-at, plain-at}
 
 -- ---- a line alone
 
-alone-record : (counts : List ℕ) (m c k : ℕ) (l : Line) → five counts m c (alone k l) ≡ m ∷ 1 ∷ 0 ∷ total (take k counts) ∷ length (l .points) ∷ []
-unfolding alone
-alone-record counts m c k l = five-own counts m c (alone k l) refl
-
 alone-table : (counts : List ℕ) (m c k : ℕ) (l : Line) → table counts m c (alone k l ∷ []) ≡ m ∷ 1 ∷ 0 ∷ total (take k counts) ∷ length (l .points) ∷ []
-unfolding table
-alone-table counts m c k l = append-nil (five counts m c (alone k l)) ∙ alone-record counts m c k l
+unfolding table alone
+alone-table counts m c k l = append-nil (five counts m c (alone k l)) ∙ five-own counts m c (alone k l) refl
 
 -- ---- one line more
 
--- what piece q, which is line k, adds behind m members
+-- line k is a piece behind the pieces qs: what it adds, where m members and c points stand before them all
 pub record More (counts : List ℕ) (k : ℕ) (qs qs′ : List Piece) : Type 0 where
   pub number : length qs′ ≡ length qs + 1
   pub records : (m c : ℕ) → table counts m c qs′ ≡ table counts m c qs ++ ((m + length qs) ∷ 1 ∷ 0 ∷ total (take k counts) ∷ getD counts k 0 ∷ [])
@@ -61,12 +46,12 @@ module _ (want : Bool) (input counts groups kinds : List ℕ) (adds : total coun
   qs = passed want ls k
 
   inside : k < length ls
-  inside = omega (arith, lines-many (points input) counts groups kinds)
+  inside = omega (arith, lines-length (points input) counts groups kinds)
 
-  asked : {t : Bool} → Bool·beq want (eqb (getD kinds k 0) 0 && leb 2 (getD counts k 0)) ≡ t → Bool·beq want (plain line) ≡ t
+  asked : {t : Bool} → Bool·beq want (plainAt counts kinds k) ≡ t → Bool·beq want (plain line) ≡ t
   asked e = ap (Bool·beq want) (plain-at input counts groups kinds adds k b) ∙ e
 
-  pub one-wanted : Bool·beq want (eqb (getD kinds k 0) 0 && leb 2 (getD counts k 0)) ≡ true → More counts k (passed want ls k) (passed want ls (k + 1))
+  pub one-wanted : Bool·beq want (plainAt counts kinds k) ≡ true → More counts k (passed want ls k) (passed want ls (k + 1))
   unfolding flatMap alone
   one-wanted e =
       rw (passed-one want ls k inside (asked e))
@@ -82,13 +67,15 @@ module _ (want : Bool) (input counts groups kinds : List ℕ) (adds : total coun
         marks = flatMap-append (λ (p : Piece). p .marks) qs (alone k line ∷ []);
       })
 
-  pub none-wanted : Bool·beq want (eqb (getD kinds k 0) 0 && leb 2 (getD counts k 0)) ≡ false → passed want ls (k + 1) ≡ passed want ls k
+  pub none-wanted : Bool·beq want (plainAt counts kinds k) ≡ false → passed want ls (k + 1) ≡ passed want ls k
   none-wanted e = passed-none want ls k inside (asked e)
 
--- ---- five numbers stored one after another
+-- ---- numbers stored one after another
+
+pub one-put : (l : List ℕ) (at v : ℕ) → at < length l → HoldsFrom (set l at v) l at 1 (v ∷ [])
+one-put l at v h = rw add-zero at (from-set (from-start l at) (omega arith) v)
 
 pub record-put : (l : List ℕ) (at a b s d f : ℕ) → at + 5 ≤ length l
     → HoldsFrom (set (set (set (set (set l at a) (at + 1) b) (at + 2) s) (at + 3) d) (at + 4) f) l at 5 (a ∷ b ∷ s ∷ d ∷ f ∷ [])
 record-put l at a b s d f h =
-    let z : HoldsFrom (set l at a) l at 1 (a ∷ []) = rw add-zero at (from-set (from-start l at) (omega arith) a) in
-    from-set (from-set (from-set (from-set z (omega arith) b) (omega arith) s) (omega arith) d) (omega arith) f
+    from-set (from-set (from-set (from-set (one-put l at a (omega arith)) (omega arith) b) (omega arith) s) (omega arith) d) (omega arith) f

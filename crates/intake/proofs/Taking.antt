@@ -2,11 +2,10 @@
 -- records and a member behind the members, and neither touches the other's part.
 use Prim.Native.Nat.{ℕ, _+_, _*_, _≤_, _<_}
 use mathlib.Core.Path.{_≡_, refl, sym, ap, ap₂, _∙_}
-use mathlib.Core.Bool.{true, false, _&&_, Bool·beq}
+use mathlib.Core.Bool.{true, false, Bool·beq}
 use mathlib.Core.List.{List, [], _∷_, _++_, flatMap}
 use native.Mathlib.Omega.{arith}
 use native.Mathlib.Nat.{add-zero, zero-add}
-use lib.Dec.{leb, eqb}
 use lib.ListN.{length, getD, take, drop, set, length-set}
 use lib.Seq.{slice, slice-empty}
 use Rattle.rules.specs.Lists.{total}
@@ -14,12 +13,13 @@ use Rattle.rules.specs.Plane.{points, flat}
 use Rattle.rules.specs.Chaining.{Piece, nothing, pieces}
 use Rattle.rules.specs.Layout.{lines, table}
 use Rattle.chaining.proofs.Counts.{Each, each-getD}
+use Rattle.chaining.proofs.Room.{lines-length}
 use Rattle.slices.specs.Holds.{HoldsFrom}
-use Rattle.slices.proofs.Laws.{from-set, from-start, from-length, drop-past, slice-below, slice-beyond, slice-more}
+use Rattle.slices.proofs.Laws.{from-length, take-before, drop-past, slice-below, slice-beyond, slice-more}
 use Rattle.pieces.specs.Held.{linesOf, Own, Held}
 use Rattle.intake.specs.Taken.{Takable, plainOf, Taken}
-use Rattle.intake.proofs.Passing.{every, passed, passed-all, pieces-few, pieces-lone, lone-lines, lone-copies, lines-many, total-next}
-use Rattle.intake.proofs.Rows.{More, one-wanted, none-wanted}
+use Rattle.intake.proofs.Passing.{plainAt, every, passed, passed-all, pieces-few, pieces-lone, lone-lines, lone-copies, total-next}
+use Rattle.intake.proofs.Rows.{More, one-wanted, none-wanted, one-put}
 use Rattle.intake.proofs.Own.{alone-own}
 
 -- the pieces qs, m of them, stand in the block as far as they go
@@ -69,13 +69,13 @@ module _ (v w : List ℕ) (n k m : ℕ) (counts : List ℕ) (room : n * 18 ≤ l
   same = from-length put (omega arith)
 
   listed : HoldsFrom (set v (n * 17 + m) k) v (n * 17 + m) 1 (k ∷ [])
-  listed = rw add-zero at (from-set (from-start v (n * 17 + m)) (omega (arith, same)) k)
+  listed = one-put v (n * 17 + m) k (omega (arith, same))
 
   kept-size : length (set v (n * 17 + m) k) ≡ length w
   kept-size = length-set v (n * 17 + m) k ∙ same
 
   kept-front : take (n * 12) (set v (n * 17 + m) k) ≡ take (n * 12) w
-  kept-front = slice-below listed (omega (arith, same)) 0 (n * 12) (omega arith) ∙ slice-below put (omega arith) 0 (n * 12) (omega arith)
+  kept-front = take-before listed (omega (arith, same)) (n * 12) (omega arith) ∙ take-before put (omega arith) (n * 12) (omega arith)
 
   kept-rest : drop (n * 18) (set v (n * 17 + m) k) ≡ drop (n * 18) w
   kept-rest = drop-past listed (omega (arith, same)) (n * 18) (omega arith) ∙ drop-past put (omega arith) (n * 18) (omega arith)
@@ -108,7 +108,7 @@ module _ {w w₀ : List ℕ} {n k m first : ℕ} {counts kinds : List ℕ} (s : 
   next : first + getD counts k 0 ≡ total (take (k + 1) counts)
   next = omega (arith, total-next counts k below, s .first-is)
 
-  pub taking-plain : {w′ v : List ℕ} {m′ : ℕ} → (eqb (getD kinds k 0) 0 && leb 2 (getD counts k 0)) ≡ true
+  pub taking-plain : {w′ v : List ℕ} {m′ : ℕ} → plainAt counts kinds k ≡ true
       → HoldsFrom v w (n * 12 + m * 5) 5 (m ∷ 1 ∷ 0 ∷ first ∷ getD counts k 0 ∷ []) → w′ ≡ set v (n * 17 + m) k → m′ ≡ m + 1
       → Taking w′ w₀ n (k + 1) m′ (first + getD counts k 0) counts kinds
   taking-plain {w′} {v} {m′} t put e g =
@@ -130,7 +130,7 @@ module _ {w w₀ : List ℕ} {n k m first : ℕ} {counts kinds : List ℕ} (s : 
       })
 
   -- a line that passes through
-  pub taking-other : {w′ : List ℕ} {m′ : ℕ} → (eqb (getD kinds k 0) 0 && leb 2 (getD counts k 0)) ≡ false → w′ ≡ w → m′ ≡ m
+  pub taking-other : {w′ : List ℕ} {m′ : ℕ} → plainAt counts kinds k ≡ false → w′ ≡ w → m′ ≡ m
       → Taking w′ w₀ n (k + 1) m′ (first + getD counts k 0) counts kinds
   taking-other {w′} {m′} t e g =
       rw (e, g)
@@ -153,7 +153,7 @@ module _ (w : List ℕ) (n : ℕ) (input copies counts groups kinds : List ℕ) 
   qs = plainOf input counts groups kinds
 
   few : length qs ≤ n
-  few = omega (arith, pieces-few true 0 (lines (points input) counts groups kinds), lines-many (points input) counts groups kinds, y .counts-long)
+  few = omega (arith, pieces-few true 0 (lines (points input) counts groups kinds), lines-length (points input) counts groups kinds, y .counts-long)
 
   one-line : length (linesOf qs) ≡ length qs
   one-line = lone-lines qs (pieces-lone true 0 (lines (points input) counts groups kinds))
@@ -178,7 +178,7 @@ module _ (w : List ℕ) (n : ℕ) (input copies counts groups kinds : List ℕ) 
       owns : Each (Own input counts) qs
       owns =
           every true (Own input counts) 0 (lines (points input) counts groups kinds)
-          (λ i b. rw zero-add (alone-own input counts groups kinds adds i (omega (arith, lines-many (points input) counts groups kinds))))
+          (λ i b. rw zero-add (alone-own input counts groups kinds adds i (omega (arith, lines-length (points input) counts groups kinds))))
 
 pub taking-done : {w w₀ : List ℕ} {n k m first : ℕ} {counts kinds : List ℕ} → Taking w w₀ n k m first counts kinds → Takable w₀ n counts kinds → n ≤ k
     → Taken w w₀ n counts kinds m
@@ -196,5 +196,5 @@ taking-done {w} {w₀} {n} {k} {m} {first} {counts} {kinds} s y h =
 
     all : (input groups : List ℕ) → total counts * 2 ≡ length input → Standing w n m counts (plainOf input counts groups kinds)
     all input groups a =
-        rw (passed-all true (lines (points input) counts groups kinds) k (omega (arith, lines-many (points input) counts groups kinds, y .counts-long))) at
+        rw (passed-all true (lines (points input) counts groups kinds) k (omega (arith, lines-length (points input) counts groups kinds, y .counts-long))) at
         (s .standing input groups a)

@@ -1,0 +1,73 @@
+-- The search for a partner: an index that was built of unions, and the first of its ends' pairs with a direction. N is the row of nodes, `way` the ends'
+-- directions, `piece` their piece numbers.
+use Prim.Native.Nat.{ℕ, zero, suc, _+_, _*_, _^_, _≤_, _<_, min}
+use mathlib.Core.Path.{_≡_}
+use mathlib.Core.Bool.{cond}
+use mathlib.Core.List.{List}
+use mathlib.Core.Logic.{_⊎_}
+use lib.ListN.{length}
+use lib.Dec.{T, eqb}
+use lib.Ieee.{Float}
+use lib.Ieee.Scale.{finite}
+use Rattle.rules.specs.declared.Direction.{Direction}
+use Rattle.rules.specs.declared.Direction.the-variants.{Toward}
+use Rattle.order.specs.Key.{low-key}
+use Rattle.bounds.specs.declared.Bounds.{Bounds}
+use Rattle.bounds.specs.Box.{empty-of, point-of, union-of, lower-of}
+use Rattle.bounds.specs.Search.{place, least}
+use Rattle.selecting.specs.Ends.{keyOf}
+use Rattle.ends.specs.Ends.{Room, directionAt, pieceAt}
+use Rattle.tree.specs.declared.Place.{Place}
+use Rattle.tree.specs.Places.{worth, gone, none}
+use Rattle.index.specs.Nodes.{node-at}
+
+-- node n is the box of the direction of an end below d, which is finite
+pub record Seat (N : ℕ → Bounds) (way : ℕ → Direction) (d n : ℕ) : Type 0 where
+  pub x : Float
+  pub y : Float
+  pub e : ℕ
+  pub box : N n ≡ point-of x y e
+  pub toward : way e ≡ Toward x y
+  pub x-finite : T (finite x)
+  pub y-finite : T (finite y)
+  pub within : e < d
+
+-- a leaf is empty, or an end's; any other node is the union of its two children
+unfoldable pub Built : (ℕ → Bounds) → (ℕ → Direction) → ℕ → ℕ → ℕ → Type 0
+Built N way d zero n = (N n ≡ empty-of) ⊎ Seat N way d n
+Built N way d (suc h) n = (N n ≡ union-of (N (2 * n)) (N (2 * n + 1))) × Built N way d h (2 * n) × Built N way d h (2 * n + 1)
+
+-- a box's bound on the pairs with (ax, ay): its low key, and then its first index
+unfoldable pub bound-of : Float → Float → Bounds → ℕ
+unfolding low-key lower-of
+bound-of ax ay b = cond (eqb (b .first) gone) none (place (low-key (lower-of b ax ay)) (b .first))
+
+module _ (way : ℕ → Direction) (piece : ℕ → ℕ) (ax ay : Float) (own : ℕ) where
+  -- the place of the pair with end e; none where e is of the piece `own`
+  unfoldable pub pair-at : ℕ → ℕ
+  unfolding keyOf
+  pair-at e = cond (eqb (piece e) own) none (place (keyOf (Toward ax ay) (way e)) e)
+
+  -- of a leaf: the pair with its end; none where it is empty
+  unfoldable pub leaf-at : (ℕ → Bounds) → ℕ → ℕ
+  leaf-at N n = cond (eqb (N n .first) gone) none (pair-at (N n .first))
+
+  -- the first of the pairs with the ends h steps below n
+  abbrev pub least-of : (ℕ → Bounds) → ℕ → ℕ → ℕ
+  least-of N h n = least (leaf-at N) h n
+
+-- ---- over the words of a workspace
+
+-- what the search asks: the tree below n, and a direction that is finite
+pub record Ready (w : List ℕ) (d t : ℕ) (ax ay : Float) (h n : ℕ) : Type 0 where
+  pub room : Room w d
+  pub nodes : ℕ
+  pub inside : t + 5 * nodes ≤ length w
+  pub within : (n + 1) * 2 ^ h ≤ nodes
+  pub built : Built (node-at w t) (directionAt w d) d h n
+  pub x-finite : T (finite ax)
+  pub y-finite : T (finite ay)
+
+-- and what it finds: the first of the best so far and of all pairs below n
+abbrev pub Finds : List ℕ → ℕ → ℕ → Float → Float → ℕ → ℕ → ℕ → Place → Place → Type 0
+Finds w d t ax ay own h n best r = worth r ≡ min (worth best) (least-of (directionAt w d) (pieceAt w d) ax ay own (node-at w t) h n)

@@ -1,0 +1,245 @@
+// The index of the free ends: a tree of bounds in a row of nodes, five words for each from `t` on, and the search for an end's partner.
+use bounds::Bounds;
+use rules::Direction;
+use tree::Place;
+ghost use mathlib.Core.Path.{_≡_};
+ghost use mathlib.Core.Logic.{_⊎_};
+ghost use Prim.Native.Nat.{_+_, _*_, _<_, _≤_, min};
+ghost use lib.ListN.{length};
+ghost use Rattle.bounds.specs.Box.{Sound};
+ghost use Rattle.tree.specs.Places.{worth, gone, none};
+ghost use Rattle.ends.specs.Ends.{Room, directionAt, pieceAt};
+ghost use Rattle.index.specs.Nodes.{node-at, Has, Children, Puts, Renews, Leaves, Joins, Whole, Removes};
+ghost use Rattle.index.specs.Search.{bound-of, pair-at, Ready, Finds};
+ghost use Rattle.index.specs.Index.{Query, Answers};
+
+// The index of no end.
+const GONE: u64 = 18446744073709551615;
+
+// A pair of ends with its key; none where j is 0.
+pub struct Best {
+    pub key: u64,
+    pub i: usize,
+    pub j: usize,
+}
+
+// Node n's bounds.
+fn node(w: &[u64], t: usize, n: usize) -> Bounds
+    requires { ⌜ Has (now w) t n ⌝ }
+    ensures { λ r. ⌜ r ≡ node-at (now (w .entry)) t n ⌝ }
+{
+    let k = t + 5 * n;
+    Bounds {
+        low_x: f64::from_bits(w[k]),
+        low_y: f64::from_bits(w[k + 1]),
+        high_x: f64::from_bits(w[k + 2]),
+        high_y: f64::from_bits(w[k + 3]),
+        first: w[k + 4],
+    }
+}
+
+// Node n becomes b.
+pub fn put(w: &mut [u64], t: usize, n: usize, b: Bounds)
+    requires { ⌜ (t + 5 * n + 4 < length (now w)) × Sound b ⌝ }
+    ensures { λ r. ⌜ Puts (now (w .entry)) (now (w .exit)) t n b ⌝ }
+{
+    let k = t + 5 * n;
+    w[k] = f64::to_bits(b.low_x);
+    w[k + 1] = f64::to_bits(b.low_y);
+    w[k + 2] = f64::to_bits(b.high_x);
+    w[k + 3] = f64::to_bits(b.high_y);
+    w[k + 4] = b.first;
+}
+
+// Node n becomes the union of its children.
+fn renew(w: &mut [u64], t: usize, n: usize)
+    requires { ⌜ Children (now w) t n ⌝ }
+    ensures { λ r. ⌜ Renews (now (w .entry)) (now (w .exit)) t n ⌝ }
+{
+    let a = node(w, t, 2 * n);
+    let b = node(w, t, 2 * n + 1);
+    put(w, t, n, Bounds::union(a, b));
+}
+
+// Every node above the leaves is made of its children.
+pub fn join(w: &mut [u64], t: usize, base: usize)
+    requires { ⌜ Leaves (now w) t base ⌝ }
+    ensures { λ r. ⌜ Joins (now (w .entry)) (now (w .exit)) t base ⌝ }
+{
+    let mut n = base;
+    while 1 < n {
+        n -= 1;
+        renew(w, t, n);
+    }
+}
+
+// The leaf p is emptied, and each node above it is made anew.
+pub fn remove(w: &mut [u64], t: usize, base: usize, p: usize)
+    requires { ⌜ Whole (now w) t base p ⌝ }
+    ensures { λ r. ⌜ Removes (now (w .entry)) (now (w .exit)) t base p ⌝ }
+{
+    put(w, t, base + p, Bounds::empty());
+    let mut q = (base + p) / 2;
+    while q != 0 {
+        renew(w, t, q);
+        q = q / 2;
+    }
+}
+
+// At or before the pair of (ax, ay) with each end below node n; the place after all others where there is none.
+fn reach(w: &[u64], t: usize, n: usize, ax: f64, ay: f64) -> Place
+    requires { ⌜ Has (now w) t n ⌝ }
+    ensures { λ r. ⌜ worth r ≡ bound-of ax ay (node-at (now (w .entry)) t n) ⌝ }
+{
+    let b = node(w, t, n);
+    let first = b.first;
+    if first == GONE {
+        return Place::none();
+    }
+    Place {
+        key: order::low_key(b.lower_measure(ax, ay)),
+        tie: first,
+    }
+}
+
+// Whether all directions below node n are one, bit for bit, but for a zero's sign.
+fn is_point(w: &[u64], t: usize, n: usize) -> bool
+    requires { ⌜ t + 5 * n + 4 < length (now w) ⌝ }
+{
+    let k = t + 5 * n;
+    if w[k] != w[k + 2] {
+        return false;
+    }
+    w[k + 1] == w[k + 3]
+}
+
+// The place of the pair of (ax, ay), which is of the piece `own`, with end e.
+fn pair_with(w: &[u64], d: usize, ax: f64, ay: f64, own: u64, e: u64) -> Place
+    requires { ⌜ Room (now w) d × (e < d) ⌝ }
+    ensures { λ r. ⌜ worth r ≡ pair-at (directionAt (now (w .entry)) d) (pieceAt (now (w .entry)) d) ax ay own e ⌝ }
+{
+    let x = e as usize;
+    if ends::piece_at(w, d, x) == own {
+        return Place::none();
+    }
+    Place {
+        key: ends::pair_key(Direction::Toward(ax, ay), ends::direction_at(w, d, x)),
+        tie: e,
+    }
+}
+
+// The pair with the first end below node n, where all directions there are one, so that it may be the first of all.
+fn settled(w: &[u64], d: usize, t: usize, ax: f64, ay: f64, own: u64, n: usize, e: u64) -> Place
+    requires { ⌜ Room (now w) d × (e < d) × (t + 5 * n + 4 < length (now w)) ⌝ }
+    ensures { λ r. ⌜ (worth r ≡ none) ⊎ (worth r ≡ pair-at (directionAt (now (w .entry)) d) (pieceAt (now (w .entry)) d) ax ay own e) ⌝ }
+{
+    if is_point(w, t, n) {
+        return pair_with(w, d, ax, ay, own, e);
+    }
+    Place::none()
+}
+
+// The first of the best so far and the pairs with the ends below node n, `height` steps above the leaves. None of these is before `at`, which is before the best.
+fn search(
+    w: &[u64],
+    d: usize,
+    t: usize,
+    ax: f64,
+    ay: f64,
+    own: u64,
+    n: usize,
+    height: u64,
+    at: Place,
+    best: Place,
+) -> Place
+    requires { ⌜ Ready (now w) d t ax ay height n × (worth at ≡ bound-of ax ay (node-at (now w) t n)) × (worth at < worth best) ⌝ }
+    ensures { λ r. ⌜ Finds (now (w .entry)) d t ax ay own height n best r ⌝ }
+{
+    if height == 0 {
+        return tree::lesser(best, pair_with(w, d, ax, ay, own, at.tie));
+    }
+    let found = settled(w, d, t, ax, ay, own, n, at.tie);
+    if tree::same(found, at) {
+        return found;
+    }
+    let l = 2 * n;
+    let r = l + 1;
+    let down = height - 1;
+    let left = reach(w, t, l, ax, ay);
+    let right = reach(w, t, r, ax, ay);
+    if tree::sooner(right, left) {
+        let one = visit(w, d, t, ax, ay, own, r, down, right, best);
+        return visit(w, d, t, ax, ay, own, l, down, left, one);
+    }
+    let one = visit(w, d, t, ax, ay, own, l, down, left, best);
+    visit(w, d, t, ax, ay, own, r, down, right, one)
+}
+
+// The same; a node whose pairs are not before the best so far is passed over.
+fn visit(
+    w: &[u64],
+    d: usize,
+    t: usize,
+    ax: f64,
+    ay: f64,
+    own: u64,
+    n: usize,
+    height: u64,
+    at: Place,
+    best: Place,
+) -> Place
+    requires { ⌜ Ready (now w) d t ax ay height n × (worth at ≡ bound-of ax ay (node-at (now w) t n)) ⌝ }
+    ensures { λ r. ⌜ Finds (now (w .entry)) d t ax ay own height n best r ⌝ }
+{
+    if tree::sooner(at, best) {
+        return search(w, d, t, ax, ay, own, n, height, at, best);
+    }
+    best
+}
+
+// The first of all pairs with (ax, ay) that are at or below the limit's key. Where there is none, the place behind all that have this key.
+fn partner(
+    w: &[u64],
+    d: usize,
+    t: usize,
+    ax: f64,
+    ay: f64,
+    own: u64,
+    height: u64,
+    limit: u64,
+) -> Place
+    requires { ⌜ Ready (now w) d t ax ay height 1 ⌝ }
+    ensures { λ r. ⌜ Finds (now (w .entry)) d t ax ay own height 1 (record { key = limit; tie = gone }) r ⌝ }
+{
+    let at = reach(w, t, 1, ax, ay);
+    let best = Place {
+        key: limit,
+        tie: GONE,
+    };
+    if tree::sooner(at, best) {
+        return search(w, d, t, ax, ay, own, 1, height, at, best);
+    }
+    best
+}
+
+// The first pair, in the order, that the free end o can be in; none where j is 0.
+pub fn first_pair(w: &[u64], d: usize, t: usize, height: u64, limit: u64, o: usize) -> Best
+    requires { ⌜ Query (now w) d t height limit o ⌝ }
+    ensures { λ r. ⌜ Answers (now (w .entry)) d t height limit o r ⌝ }
+{
+    let Direction::Toward(ax, ay) = ends::direction_at(w, d, o) else {
+        return Best { key: 0, i: 0, j: 0 };
+    };
+    let own = ends::piece_at(w, d, o);
+    let found = partner(w, d, t, ax, ay, own, height, limit);
+    let key = found.key;
+    let tie = found.tie;
+    if tie == GONE {
+        return Best { key: 0, i: 0, j: 0 };
+    }
+    let e = tie as usize;
+    if e < o {
+        return Best { key, i: e, j: o };
+    }
+    Best { key, i: o, j: e }
+}

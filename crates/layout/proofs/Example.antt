@@ -1,0 +1,73 @@
+-- What `lay_out` asks for can be met: a plain line alone, and a line that passes through. Everything computes.
+use Prim.Native.Nat.{ℕ, zero, suc, _<_}
+use mathlib.Core.Path.{refl}
+use mathlib.Core.List.{List, [], _∷_, flatMap}
+use native.Mathlib.Omega.{arith}
+use lib.Ieee.{lt}
+use lib.ListN.{length, getD, replicate}
+use Rattle.rules.specs.Lists.{total}
+use Rattle.rules.specs.Plane.{points, flat, nought}
+use Rattle.rules.specs.Chaining.{Settings, nothing, pieces, join, roundOne, roundTwo}
+use Rattle.rules.specs.Layout.{lines, copy, table}
+use Rattle.pieces.specs.Held.{Own}
+use Rattle.layout.specs.Laying.{leftOf, Layable}
+
+abbrev settings : Settings
+settings = record { tolerance = nought; switch = 0; limit = nought }
+
+abbrev coordinates : List ℕ
+coordinates = 0 ∷ 0 ∷ 1 ∷ 0 ∷ 5 ∷ 5 ∷ []
+
+abbrev counts : List ℕ
+counts = 2 ∷ 1 ∷ []
+
+abbrev groups : List ℕ
+groups = 0 ∷ 0 ∷ []
+
+abbrev kinds : List ℕ
+kinds = 0 ∷ 1 ∷ []
+
+-- room for two records, two members and two marks, of which one each is used
+abbrev work : List ℕ
+work = 0 ∷ 1 ∷ 0 ∷ 0 ∷ 2 ∷ replicate 9 0
+
+own : (q : ℕ) → q < 1 → Own coordinates counts (getD (leftOf settings coordinates counts groups kinds) q nothing)
+unfolding flat total lines points pieces join roundOne roundTwo lt
+own zero h = record { within = omega arith; same = refl }
+own (suc q) h = absurd (omega arith)
+
+full : (q : ℕ) → q < 1 → 0 < length (getD (leftOf settings coordinates counts groups kinds) q nothing .lines)
+unfolding lines points pieces join roundOne roundTwo lt
+full zero h = omega arith
+full (suc q) h = absurd (omega arith)
+
+pub example : Layable work 2 1 1 counts kinds (replicate 10 0) (replicate 2 0) (replicate 2 0)
+unfolding flat total flatMap table copy lines points pieces join roundOne roundTwo lt
+example =
+    record {
+      coordinates = coordinates;
+      groups = groups;
+      settings = settings;
+      copies = [];
+      held = record {
+        few = omega arith;
+        listed = omega arith;
+        room = omega arith;
+        records = refl;
+        members = refl;
+        full = full;
+        own = λ q b d. own q b;
+        copied = refl;
+      };
+      turned = refl;
+      number = refl;
+      listed = refl;
+      few = omega arith;
+      counts-long = refl;
+      kinds-long = refl;
+      adds = refl;
+      small = omega arith;
+      table-long = omega arith;
+      members-long = omega arith;
+      marks-long = omega arith;
+    }

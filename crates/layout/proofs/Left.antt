@@ -1,0 +1,121 @@
+-- The pieces that the rounds leave, beside the lines that pass through: together they are the chains, so that what is known of all chains bounds both.
+use Prim.Native.Nat.{ℕ, suc, _+_, _≤_, zero-le}
+use mathlib.Core.Path.{_≡_, refl, ap, _∙_}
+use mathlib.Core.Bool.{Bool, true, false, Bool·beq}
+use mathlib.Core.List.{List, [], _∷_, _++_, map, flatMap, map-append, append-nil}
+use native.Mathlib.Omega.{arith}
+use lib.ListN.{length, drop, length-append, length-take}
+use Rattle.rules.specs.Lists.{count, total}
+use Rattle.rules.specs.Plane.{Point, points, flat}
+use Rattle.rules.specs.Chaining.{Piece, Line, Settings, plain, alone, pieces, chains}
+use Rattle.rules.specs.Layout.{lines, copy, laidOut, build}
+use Rattle.chaining.proofs.Counts.{count-append}
+use Rattle.chaining.proofs.Totals.{total-append}
+use Rattle.chaining.proofs.Lines.{flatMap-append, pieces-take, pieces-leave, no-other-line}
+use Rattle.chaining.proofs.Room.{lines-length, size, chains-size, members-fit, chains-fit, marks-fit}
+use Rattle.pieces.specs.Held.{linesOf, marksOf}
+use Rattle.intake.specs.Taken.{plainOf}
+use Rattle.intake.proofs.Passing.{every, ones-long, Lone, pieces-lone, lone-lines, lone-copies}
+use Rattle.layout.specs.Laying.{passingOf, leftOf}
+use Rattle.layout.proofs.Small.{Low, members-low}
+
+-- a line is plain, or it passes through
+pieces-both : (k : ℕ) (ls : List Line) → length (pieces true k ls) + length (pieces false k ls) ≡ length ls
+unfolding pieces
+pieces-both k [] = refl
+pieces-both k (l ∷ ls) = go (plain l) refl (pieces-both (suc k) ls)
+  where
+    go : (t : Bool) → plain l ≡ t → length (pieces true (suc k) ls) + length (pieces false (suc k) ls) ≡ length ls
+        → length (pieces true k (l ∷ ls)) + length (pieces false k (l ∷ ls)) ≡ length (l ∷ ls)
+    go true e ih = rw (pieces-take true k l ls (ap (Bool·beq true) e), pieces-leave false k l ls (ap (Bool·beq false) e)) (omega arith)
+    go false e ih = rw (pieces-leave true k l ls (ap (Bool·beq true) e), pieces-take false k l ls (ap (Bool·beq false) e)) (omega arith)
+
+lines-size : (ps : List Point) (cs gs ks : List ℕ) → total (map (λ l. length (l .points)) (lines ps cs gs ks)) ≤ total cs
+unfolding lines total
+lines-size ps [] gs ks = zero-le
+lines-size ps (c ∷ cs) gs ks = omega (arith, length-take c ps, lines-size (drop c ps) cs (drop 1 gs) (drop 1 ks))
+
+module _ (s : Settings) (coordinates counts groups kinds : List ℕ) where
+  abbrev ls : List Line
+  ls = lines (points coordinates) counts groups kinds
+
+  abbrev qs : List Piece
+  qs = leftOf s coordinates counts groups kinds
+
+  abbrev rest : List Piece
+  rest = passingOf coordinates counts groups kinds
+
+  both : chains s ls ≡ qs ++ rest
+  unfolding chains
+  both = refl
+
+  many : length ls ≡ length counts
+  many = lines-length (points coordinates) counts groups kinds
+
+  pub pieces-all : length (leftOf s coordinates counts groups kinds) + length (passingOf coordinates counts groups kinds) ≤ length counts
+  pieces-all = omega (arith, ap length both, length-append qs rest, chains-fit s ls, many)
+
+  lines-both : linesOf (chains s ls) ≡ linesOf qs ++ linesOf rest
+  lines-both = ap linesOf both ∙ flatMap-append (λ (p : Piece). p .lines) qs rest
+
+  pub members-all : length (linesOf (leftOf s coordinates counts groups kinds)) + length (passingOf coordinates counts groups kinds) ≡ length counts
+  members-all =
+      omega (
+        arith,
+        ap length lines-both,
+        length-append (linesOf qs) (linesOf rest),
+        lone-lines rest (pieces-lone false 0 ls),
+        members-fit s ls,
+        many,
+      )
+
+  -- there are as many members as lines went in
+  pub left-listed : length (linesOf (leftOf s coordinates counts groups kinds)) ≡ length (plainOf coordinates counts groups kinds)
+  left-listed = omega (arith, members-all, pieces-both 0 ls, many)
+
+  pub left-marked : length (marksOf (leftOf s coordinates counts groups kinds)) ≡ length (linesOf (leftOf s coordinates counts groups kinds))
+  unfolding alone
+  left-marked =
+      omega (
+        arith,
+        ap (λ (l : List Piece). length (marksOf l)) both,
+        ap length (flatMap-append (λ (p : Piece). p .marks) qs rest),
+        length-append (marksOf qs) (marksOf rest),
+        ones-long (λ (p : Piece). p .marks) rest (every false (λ (p : Piece). length (p .marks) ≡ 1) 0 ls (λ i b. refl)),
+        marks-fit s ls,
+        members-fit s ls,
+        members-all,
+        many,
+      )
+
+  pub left-low : Low (length counts) (linesOf (leftOf s coordinates counts groups kinds))
+  left-low =
+      members-low (length counts) (linesOf qs)
+      (λ x b. omega (arith, no-other-line s ls x (omega (arith, many)), ap (count x) lines-both, count-append x (linesOf qs) (linesOf rest)))
+
+  pub left-size : total (map size (leftOf s coordinates counts groups kinds)) ≤ total counts
+  left-size =
+      omega (
+        arith,
+        ap (λ (l : List Piece). total (map size l)) both,
+        ap total (map-append size qs rest),
+        total-append (map size qs) (map size rest),
+        chains-size s ls,
+        lines-size (points coordinates) counts groups kinds,
+      )
+
+-- ---- what is merged
+
+-- pieces of one line add nothing to it
+pub merged-lone : (counts : List ℕ) (ps qs : List Piece) → Lone qs → laidOut counts (ps ++ qs) .merged ≡ laidOut counts ps .merged
+unfolding laidOut
+merged-lone counts ps qs a =
+    ap flat (flatMap-append copy ps qs ∙ ap (λ (l : List Point). flatMap copy ps ++ l) (lone-copies qs a) ∙ append-nil (flatMap copy ps))
+
+-- so that a call merges what its rounds leave
+pub merged-left : (s : Settings) (coordinates counts groups kinds : List ℕ)
+    → build coordinates counts groups kinds s .merged ≡ flat (flatMap copy (leftOf s coordinates counts groups kinds))
+unfolding build chains laidOut
+merged-left s coordinates counts groups kinds =
+    merged-lone counts (leftOf s coordinates counts groups kinds) (passingOf coordinates counts groups kinds)
+    (pieces-lone false 0 (lines (points coordinates) counts groups kinds))
