@@ -1,0 +1,64 @@
+-- What words that did not change decide: parts of the workspace, the ends that it holds, which of them are marked, and the first pair of a row.
+use Prim.Native.Nat.{ℕ, _+_, _*_, _-_, _≤_, _<_, min}
+use mathlib.Core.Path.{_≡_, sym, ap, _∙_, subst}
+use mathlib.Core.Bool.{Bool, true, false}
+use mathlib.Core.Logic.{_⊎_, inl, inr}
+use mathlib.Core.List.{List}
+use native.Mathlib.Omega.{arith}
+use lib.Dec.{eqb}
+use lib.Ieee.{Float}
+use lib.ListN.{length, getD, take, drop, set, length-take, length-drop, length-set}
+use lib.Seq.{slice, length-slice, getD-take, getD-drop, ext-getD, getD-set-same, getD-set-other}
+use borrow.Author.Tests.{eqb-true, eqb-false}
+use Rattle.rules.specs.Plane.{float}
+use Rattle.rules.specs.Layout.{given}
+use Rattle.rules.specs.Selecting.{End}
+use Rattle.order.specs.Key.{key}
+use Rattle.selecting.specs.Taking.{usedOf, IsFirst}
+use Rattle.selecting.specs.Ends.{nodeOf}
+use Rattle.selecting.proofs.Order.{two}
+use Rattle.ends.specs.Ends.{directionAt, endsIn}
+use Rattle.ends.proofs.Reading.{getD-slice, ends-in-kept}
+use Rattle.row.specs.declared.Held.{Held}
+use Rattle.row.specs.Row.{markAt, usedIn, pairOf, First}
+
+module _ (w w′ : List ℕ) (long : length w′ ≡ length w) where
+  pub take-same : (k : ℕ) → ((x : ℕ) → x < k → getD w′ x 0 ≡ getD w x 0) → take k w′ ≡ take k w
+  take-same k same =
+      ext-getD 0 (take k w′) (take k w) (length-take k w′ ∙ ap (λ (n : ℕ). min k n) long ∙ sym (length-take k w))
+      (λ x h. (let g : x < k = omega (arith, length-take k w′) in getD-take k w′ x 0 g ∙ same x g ∙ sym (getD-take k w x 0 g)))
+
+  pub drop-same : (k : ℕ) → ((x : ℕ) → k ≤ x → getD w′ x 0 ≡ getD w x 0) → drop k w′ ≡ drop k w
+  drop-same k same =
+      ext-getD 0 (drop k w′) (drop k w) (length-drop k w′ ∙ ap (λ (n : ℕ). n - k) long ∙ sym (length-drop k w))
+      (λ x h. getD-drop k w′ x 0 ∙ same (k + x) (omega arith) ∙ sym (getD-drop k w x 0))
+
+  pub slice-same : (a b : ℕ) → b ≤ length w → ((x : ℕ) → a ≤ x → x < b → getD w′ x 0 ≡ getD w x 0) → slice a b w′ ≡ slice a b w
+  slice-same a b h same =
+      ext-getD 0 (slice a b w′) (slice a b w) (length-slice a b w′ (omega arith) ∙ sym (length-slice a b w h))
+      (λ x k. (let g : a + x < b = omega (arith, length-slice a b w′ (omega arith)) in getD-slice a b w′ x g ∙ same (a + x) (omega arith) g ∙ sym (getD-slice a b w x g)))
+
+  module _ (d : ℕ) (room : d * 6 ≤ length w) where
+    pub used-same : ((e : ℕ) → e < d → markAt w′ d e ≡ markAt w d e) → usedIn w′ d ≡ usedIn w d
+    used-same same = ap usedOf (slice-same (d * 5) (d * 6) room (λ x g h. at x g h))
+      where
+        at : (x : ℕ) → d * 5 ≤ x → x < d * 6 → getD w′ x 0 ≡ getD w x 0
+        at x g h =
+            let e : d * 5 + (x - d * 5) ≡ x = omega arith in
+            subst (λ (y : ℕ). getD w′ y 0 ≡ getD w y 0) e (same (x - d * 5) (omega arith))
+
+    module _ (kept : (x : ℕ) → x < d * 4 → getD w′ x 0 ≡ getD w x 0) where
+      pub ends-same : endsIn w′ d ≡ endsIn w d
+      ends-same = ends-in-kept w w′ d (take-same (d * 4) kept)
+
+      pub direction-same : (e : ℕ) → e < d → directionAt w′ d e ≡ directionAt w d e
+      unfolding directionAt
+      direction-same e h = λ t. given (kept e (omega arith) t) (float (kept (d + e * 2) (omega arith) t)) (float (kept (d + e * 2 + 1) (omega arith) t))
+
+      pub first-same : (limit : Float) (i : ℕ) (held : Held) → ((e : ℕ) → e < d → markAt w′ d e ≡ markAt w d e) → First w′ d limit i held → First w d limit i held
+      first-same limit i held marks f =
+          record {
+            pair = subst (λ (u : ℕ → Bool). IsFirst (nodeOf (endsIn w d)) (key limit) u i (pairOf i held)) (used-same marks)
+                (subst (λ (l : List End). IsFirst (nodeOf l) (key limit) (usedIn w′ d) i (pairOf i held)) ends-same (f .pair));
+            none = f .none;
+          }

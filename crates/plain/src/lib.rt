@@ -1,0 +1,212 @@
+// The plain route. Each row, the pairs (i, j) of an end i with the ends j above it, holds the first free qualifying pair that was last found there. The least pair
+// held is taken; if its partner has gone meanwhile, its row is gone through again. Rows stand in blocks, and the least key of each block is kept beside them, so
+// that the least pair is found without asking every row.
+ghost use mathlib.Core.Path.{_≡_};
+ghost use mathlib.Core.Bool.{false};
+ghost use Prim.Native.Nat.{_+_, _*_, _/_, _<_, _≤_};
+ghost use lib.ListN.{length};
+ghost use Rattle.rules.specs.Refusals.{limitBad};
+ghost use Rattle.order.specs.Key.{key};
+ghost use Rattle.ends.specs.Ends.{Room, Selected};
+ghost use Rattle.row.specs.Row.{Walkable};
+ghost use Rattle.plain.specs.Lows.{lesserOf, IsLow, upperOf, blocksOf, Settled, Lows, all};
+ghost use Rattle.plain.specs.Steps.{markOf, Marked, Playable, Renewed, Rows, Levelled, takenFrom};
+
+// Where the route's regions begin in the workspace, in ends: the pairs; the marks, of the ends that are taken or have no qualifying pair; the key and the
+// partner that each row holds; the least key of each block of rows, and its row.
+const PAIRS: usize = 4;
+
+const MARKS: usize = 5;
+
+const KEYS: usize = 6;
+
+const PARTNERS: usize = 7;
+
+const LOWS: usize = 8;
+
+const TOPS: usize = 9;
+
+// How many rows a block has.
+const BLOCK: usize = 16;
+
+// The key of a row that holds no pair.
+const NONE: u64 = 0xFFFF_FFFF_FFFF_FFFF;
+
+// The least of some keys, and where it stands.
+pub struct Low {
+    pub key: u64,
+    pub place: usize,
+}
+
+// The lesser of a least key and a key that stands after it.
+fn lesser(low: Low, key: u64, place: usize) -> Low
+    ensures { λ r. ⌜ r ≡ lesserOf low key place ⌝ }
+{
+    if key < low.key {
+        return Low { key, place };
+    }
+    low
+}
+
+// The least of the keys from `from` to `to` in the region that begins at `at`, and of equals the first.
+fn least(w: &[u64], at: usize, from: usize, to: usize) -> Low
+    requires { ⌜ (from ≤ to) × (at + to ≤ length (now w)) ⌝ }
+    ensures { λ r. ⌜ IsLow (now (w .entry)) at from to r ⌝ }
+{
+    let mut low = Low {
+        key: NONE,
+        place: 0,
+    };
+    let mut x = from;
+    while x < to {
+        low = lesser(low, w[at + x], x);
+        x += 1;
+    }
+    low
+}
+
+// How many blocks d rows make.
+fn blocks(d: usize) -> usize
+    requires { ⌜ d ≤ 8192 ⌝ }
+    ensures { λ r. ⌜ r ≡ blocksOf d ⌝ }
+{
+    (d + 15) / BLOCK
+}
+
+// Where block b of d rows ends.
+fn upper(d: usize, b: usize) -> usize
+    requires { ⌜ b < 8192 ⌝ }
+    ensures { λ r. ⌜ r ≡ upperOf d b ⌝ }
+{
+    let end = b * BLOCK + BLOCK;
+    if end < d {
+        return end;
+    }
+    d
+}
+
+// The least key of block b, found anew.
+fn settle(w: &mut [u64], d: usize, b: usize)
+    requires { ⌜ Room (now w) d × (b < blocksOf d) ⌝ }
+    ensures { λ _. ⌜ Settled (now (w .entry)) d b (now (w .exit)) ⌝ }
+{
+    let low = least(w, d * KEYS, b * BLOCK, upper(d, b));
+    w[d * LOWS + b] = low.key;
+    w[d * TOPS + b] = low.place as u64;
+}
+
+// The least key of all rows, and its row.
+fn top(w: &[u64], d: usize) -> Low
+    requires { ⌜ Room (now w) d × Lows (now w) d all ⌝ }
+    ensures { λ r. ⌜ IsLow (now (w .entry)) (d * 6) 0 d r ⌝ }
+{
+    let low = least(w, d * LOWS, 0, blocks(d));
+    if low.key == NONE {
+        return low;
+    }
+    let b = low.place;
+    Low {
+        key: low.key,
+        place: w[d * TOPS + b] as usize,
+    }
+}
+
+// The mark of end e before any is taken.
+fn mark(w: &[u64], d: usize, e: usize) -> u64
+    requires { ⌜ Room (now w) d × (e < d) ⌝ }
+    ensures { λ r. ⌜ r ≡ markOf (now (w .entry)) d e ⌝ }
+{
+    if row::is_numbered(w, d, e) {
+        return 0;
+    }
+    1
+}
+
+// The marks before any end is taken.
+fn mark_all(w: &mut [u64], d: usize)
+    requires { ⌜ Room (now w) d ⌝ }
+    ensures { λ _. ⌜ Marked (now (w .entry)) d (now (w .exit)) ⌝ }
+{
+    let mut e = 0;
+    while e < d {
+        w[d * MARKS + e] = mark(w, d, e);
+        e += 1;
+    }
+}
+
+// What row i holds, found anew.
+fn renew(w: &mut [u64], d: usize, limit: f64, i: usize)
+    requires { ⌜ Walkable (now w) d limit i ⌝ }
+    ensures { λ _. ⌜ Renewed (now (w .entry)) d limit i (now (w .exit)) ⌝ }
+{
+    let held = row::first_of(w, d, limit, i);
+    w[d * KEYS + i] = held.key;
+    w[d * PARTNERS + i] = held.partner as u64;
+}
+
+// What each row holds.
+fn renew_all(w: &mut [u64], d: usize, limit: f64)
+    requires { ⌜ Playable (now w) d limit ⌝ }
+    ensures { λ _. ⌜ Rows (now (w .entry)) d limit d (now (w .exit)) ⌝ }
+{
+    let mut i = 0;
+    while i < d {
+        renew(w, d, limit, i);
+        i += 1;
+    }
+}
+
+// The least key of each block.
+fn settle_all(w: &mut [u64], d: usize)
+    requires { ⌜ Room (now w) d ⌝ }
+    ensures { λ _. ⌜ Levelled (now (w .entry)) d (now (w .exit)) ⌝ }
+{
+    let n = blocks(d);
+    let mut b = 0;
+    while b < n {
+        settle(w, d, b);
+        b += 1;
+    }
+}
+
+// Pair n is (i, j), and its two ends are taken.
+fn take(w: &mut [u64], d: usize, n: usize, i: usize, j: usize)
+    requires { ⌜ Room (now w) d × (n * 2 + 2 ≤ d) × (i < d) × (j < d) ⌝ }
+    ensures { λ _. ⌜ now (w .exit) ≡ takenFrom (now (w .entry)) d n i j ⌝ }
+{
+    w[d * PAIRS + n * 2] = i as u64;
+    w[d * PAIRS + n * 2 + 1] = j as u64;
+    w[d * MARKS + i] = 1;
+    w[d * MARKS + j] = 1;
+    w[d * KEYS + i] = NONE;
+    w[d * KEYS + j] = NONE;
+}
+
+// The selected pairs of the d ends in the workspace, listed behind the piece numbers. Returns how many there are.
+pub fn plain(w: &mut [u64], d: usize, limit: f64) -> usize
+    requires { ⌜ Room (now w) d × (limitBad limit ≡ false) ⌝ }
+    ensures { λ r. ⌜ Selected (now (w .entry)) d (key limit) r (now (w .exit)) ⌝ }
+{
+    mark_all(w, d);
+    renew_all(w, d, limit);
+    settle_all(w, d);
+    let mut n = 0;
+    loop {
+        let low = top(w, d);
+        if low.key == NONE {
+            break;
+        }
+        let i = low.place;
+        let j = w[d * PARTNERS + i] as usize;
+        if w[d * MARKS + j] != 0 {
+            renew(w, d, limit, i);
+            settle(w, d, i / BLOCK);
+            continue;
+        }
+        take(w, d, n, i, j);
+        settle(w, d, i / BLOCK);
+        settle(w, d, j / BLOCK);
+        n += 1;
+    }
+    n
+}
