@@ -23,6 +23,7 @@ use Rattle.cell.proofs.Same.{cell-same-is}
 use Rattle.pieces.specs.Held.{recordOf, coordinatesAt, Held}
 use Rattle.pieces.proofs.Reading.{recorded, members-are, members-inside, member-count, point-count, coordinates-are}
 use Rattle.leaders.specs.Group.{Words, words, sameWords}
+use Rattle.keys.specs.Tells.{Telling, Grouped}
 use Rattle.keys.specs.Keys.{groupAt, pairAt, numberAt, wordOf, wordsFor, Placed, Keyable}
 use Rattle.keys.proofs.Laws.{pair-first, pair-last}
 
@@ -141,12 +142,6 @@ module _ (w : List ℕ) (base n : ℕ) (input copies counts : List ℕ) (ps : Li
 
 -- ---- the words and the keys
 
--- what a rule's key asks of words: the groups, and the numbers by bits or by cell
-pub record Telling (rule : Rule) (exact : Bool) (tolerance : Float) : Type 0 where
-  pub tells : (g k : ℕ) (p q : Point)
-      → sameWords (words g (wordOf exact tolerance (p .x)) (wordOf exact tolerance (p .y))) (words k (wordOf exact tolerance (q .x)) (wordOf exact tolerance (q .y)))
-      ≡ sameKey (rule .keyOf g p) (rule .keyOf k q)
-
 pub exact-tells : (l : Option Float) (tolerance : Float) → Telling (record { keyOf = exactKey; limit = l }) true tolerance
 unfolding wordOf sameWords sameKey exactKey
 exact-tells l tolerance = record { tells = λ g k p q. refl }
@@ -158,12 +153,6 @@ cell-tells l tolerance =
       tells = λ g k p q.
           ap₂ (λ (x y : Bool). eqb g k && (x && y)) (sym (cell-same-is tolerance (p .x) (q .x))) (sym (cell-same-is tolerance (p .y) (q .y)));
     }
-
--- the pieces have points, and the group of a piece is that of its first line
-pub record Grouped (groups : List ℕ) (ps : List Piece) : Type 0 where
-  pub line : (q : ℕ) → q < length ps → getD (getD ps q nothing .lines) 0 0 < length groups
-  pub long : (q : ℕ) → q < length ps → 0 < length (getD ps q nothing .points)
-  pub group : (q : ℕ) → q < length ps → getD groups (getD (getD ps q nothing .lines) 0 0) 0 ≡ getD ps q nothing .group
 
 -- ---- what collecting the keys asks
 

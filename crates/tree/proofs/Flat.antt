@@ -88,6 +88,16 @@ module _ {A : Type 0} (join : A → A → A) (S : A → Type 0) where
       back : (n : ℕ) → base ≤ n → base + (n - base) ≡ n
       back n h = omega arith
 
+  -- a row that agrees on the tree's nodes
+  pub kept-agree : (N N′ : ℕ → A) (base : ℕ) (l : ℕ → A) → ((n : ℕ) → n < 2 * base → N′ n ≡ N n) → Kept join S N base 1 0 l → Kept join S N′ base 1 0 l
+  kept-agree N N′ base l f k =
+      record {
+        leaves = λ e h. f (base + e) (omega arith) ∙ k .leaves e h;
+        inner =
+            λ n a b c. f n (omega arith) ∙ k .inner n a b c ∙ ap₂ join (sym (f (2 * n) (omega arith))) (sym (f (2 * n + 1) (omega arith)));
+        sound = λ n a b. subst S (sym (f n b)) (k .sound n a b);
+      }
+
 -- ---- the turns of a loop
 
 module _ {A : Type 0} (join : A → A → A) (S : A → Type 0) (S-join : (a b : A) → S a → S b → S (join a b)) where

@@ -1,0 +1,151 @@
+use mathlib.Core.Path.{sym}
+use mathlib.Core.Bool.{true≢false}
+use borrow.Author.Tests.{ltb-true}
+use Rattle.owners.proofs.Turns.{like}
+use borrow.Author.Needs.{needs}
+use Rattle.owners.proofs.alike.Statement.{statement}
+use Rattle.owners.proofs.alike.Tie as tie
+use Rattle.owners.proofs.alike.Reads as reads
+use Rattle.owners.proofs.alike.Lts as lts
+
+-- src/lib.rt:89:8
+mul-if1 : tie.Need-mul-if1
+mul-if1 c = search needs
+
+-- src/lib.rt:89:8
+shared-slice-read-if1 : tie.Need-shared-slice-read-if1
+shared-slice-read-if1 c = search needs
+
+-- src/lib.rt:90:9
+returns : tie.Need-returns
+returns c = λ h. absurd (true≢false (sym h))
+
+-- src/lib.rt:92:8
+mul-if2 : tie.Need-mul-if2
+mul-if2 c = search needs
+
+-- src/lib.rt:92:8
+shared-slice-read-if2 : tie.Need-shared-slice-read-if2
+shared-slice-read-if2 c = search needs
+
+-- src/lib.rt:93:9
+returns-2 : tie.Need-returns-2
+returns-2 c = λ h. absurd (true≢false (sym h))
+
+-- src/lib.rt:95:14
+mul-if3 : tie.Need-mul-if3
+mul-if3 c = search needs
+
+-- src/lib.rt:95:10
+add-if3 : tie.Need-add-if3
+add-if3 c = search needs
+
+-- src/lib.rt:95:8
+mul-if3-2 : tie.Need-mul-if3-2
+mul-if3-2 c = search needs
+
+-- src/lib.rt:95:8
+shared-slice-read-if3 : tie.Need-shared-slice-read-if3
+shared-slice-read-if3 c = search needs
+
+-- src/lib.rt:95:30
+mul-if3-3 : tie.Need-mul-if3-3
+mul-if3-3 c = search needs
+
+-- src/lib.rt:95:26
+add-if3-2 : tie.Need-add-if3-2
+add-if3-2 c = search needs
+
+-- src/lib.rt:95:24
+mul-if3-4 : tie.Need-mul-if3-4
+mul-if3-4 c = search needs
+
+-- src/lib.rt:95:24
+shared-slice-read-if3-2 : tie.Need-shared-slice-read-if3-2
+shared-slice-read-if3-2 c = search needs
+
+-- src/lib.rt:96:9
+returns-3 : tie.Need-returns-3
+returns-3 c = λ h. absurd (true≢false (sym h))
+
+-- src/lib.rt:98:14
+mul-if4 : tie.Need-mul-if4
+mul-if4 c = search needs
+
+-- src/lib.rt:98:10
+add-if4 : tie.Need-add-if4
+add-if4 c = search needs
+
+-- src/lib.rt:98:10
+add-if4-2 : tie.Need-add-if4-2
+add-if4-2 c = search needs
+
+-- src/lib.rt:98:8
+mul-if4-2 : tie.Need-mul-if4-2
+mul-if4-2 c = search needs
+
+-- src/lib.rt:98:8
+shared-slice-read-if4 : tie.Need-shared-slice-read-if4
+shared-slice-read-if4 c = search needs
+
+-- src/lib.rt:98:34
+mul-if4-3 : tie.Need-mul-if4-3
+mul-if4-3 c = search needs
+
+-- src/lib.rt:98:30
+add-if4-3 : tie.Need-add-if4-3
+add-if4-3 c = search needs
+
+-- src/lib.rt:98:30
+add-if4-4 : tie.Need-add-if4-4
+add-if4-4 c = search needs
+
+-- src/lib.rt:98:28
+mul-if4-4 : tie.Need-mul-if4-4
+mul-if4-4 c = search needs
+
+-- src/lib.rt:98:28
+shared-slice-read-if4-2 : tie.Need-shared-slice-read-if4-2
+shared-slice-read-if4-2 c = search needs
+
+-- src/lib.rt:99:9
+returns-4 : tie.Need-returns-4
+returns-4 c = λ h. absurd (true≢false (sym h))
+
+-- src/lib.rt:85:1
+returns-5 : tie.Need-returns-5
+returns-5 c =
+    let a = c .before .before .before .before .before .before .before .before .before .before in
+    λ h. like (a .args .w .now) (a .args .d) (a .pre .0) (a .args .a) (a .args .e) (a .pre .1) (a .pre .2) (c .before .before .before .before .before .before .before .before .if1 .left) (c .before .before .before .before .before .before .if2 .left) (c .before .before .before .if3 .left) (c .if4 .left) (ltb-true (a .args .a) (a .args .e) h)
+
+pub alike-spec : {M : Type 1} → statement M
+alike-spec =
+    tie.close
+    (tie.spec
+    mul-if1
+    shared-slice-read-if1
+    returns
+    mul-if2
+    shared-slice-read-if2
+    returns-2
+    mul-if3
+    add-if3
+    mul-if3-2
+    shared-slice-read-if3
+    mul-if3-3
+    add-if3-2
+    mul-if3-4
+    shared-slice-read-if3-2
+    returns-3
+    mul-if4
+    add-if4
+    add-if4-2
+    mul-if4-2
+    shared-slice-read-if4
+    mul-if4-3
+    add-if4-3
+    add-if4-4
+    mul-if4-4
+    shared-slice-read-if4-2
+    returns-4
+    returns-5)

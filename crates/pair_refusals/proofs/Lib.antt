@@ -1,0 +1,4 @@
+pub mod Ladder
+pub mod Times
+pub mod Links
+pub mod Finite
