@@ -19,7 +19,7 @@ use Rattle.selecting.proofs.Ends.{ends-length, ends-at, ends-placed, given-ther
 use Rattle.ends.specs.Ends.{directionAt, pieceAt, endsIn}
 
 -- what stands at a place of a list, whatever stands for no element
-getD-in : {A : Type 0} (l : List A) (i : ℕ) (x y : A) → i < length l → getD l i x ≡ getD l i y
+pub getD-in : {A : Type 0} (l : List A) (i : ℕ) (x y : A) → i < length l → getD l i x ≡ getD l i y
 getD-in [] i x y h = absurd (omega arith)
 getD-in (a ∷ l) zero x y h = refl
 getD-in (a ∷ l) (suc i) x y h = getD-in l i x y (omega arith)
