@@ -12,14 +12,16 @@ pub mod switch;
 
 // The original imports from a crate `geo`; this crate answers to that name as well.
 extern crate self as geo;
+pub use stand_ins::geo::Geometry;
 #[allow(unused_imports)]
-use stand_ins::geo::{coords_iter, BoundingRect, Coord, Geometry, LineString};
+use stand_ins::geo::{coords_iter, BoundingRect, Coord, LineString};
 
 include!(concat!(env!("OUT_DIR"), "/modules.rs"));
 
 use answers::model::{plane::Point, Model};
 use answers::{BuildCall, Built, Pair, PairingCall, Port, Refusal, Route};
 use chains::{without_marks, Chain};
+pub use edited::coalesce::window::{RawChains, ReadyBuild, ReadyPairs};
 
 /// The way to both originals. Whoever has one may call them.
 #[derive(Clone, Copy, Debug)]
@@ -43,6 +45,26 @@ impl Oracle {
     /// The pairs of the edited original by a route.
     pub fn selected(self, route: Route, call: &PairingCall) -> Vec<Pair> {
         edited::coalesce::window::pairs(route, call, f64::from_bits(call.limit))
+    }
+
+    /// The lines of a call as the originals take them.
+    pub fn geometries(self, call: &BuildCall) -> Vec<Geometry<f64>> {
+        edited::coalesce::window::geometries(call)
+    }
+
+    /// A building call of the edited original on its geometries, ready to be timed. It is to be
+    /// run under the call's switch, by [`switch::under`].
+    pub fn ready_build<'a>(
+        self,
+        geometries: &'a [Geometry<f64>],
+        call: &BuildCall,
+    ) -> ReadyBuild<'a> {
+        ReadyBuild::new(geometries, call, f64::from_bits(call.limit))
+    }
+
+    /// A pairing call of the edited original by a route, ready to be timed.
+    pub fn ready_pairs(self, route: Route, call: &PairingCall) -> ReadyPairs {
+        ReadyPairs::new(route, call, f64::from_bits(call.limit))
     }
 
     /// The direction of an end, 0 or 1, of a line.

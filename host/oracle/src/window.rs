@@ -2,37 +2,77 @@
 //! call their private functions.
 
 use super::{build_chains, junction_pairs, lazy_junction_pairs, sorted_junction_pairs};
-use super::{continuation_deviation_deg, piece_direction, CoalesceInput, Piece};
+use super::{continuation_deviation_deg, piece_direction, CoalesceInput, Piece, RawChain};
 use crate::chains::Chain;
 use crate::stand_ins::geo::{Coord, Geometry, LineString};
 use answers::model::plane::Point;
 use answers::{BuildCall, Pair, PairingCall, Route};
 use std::borrow::Cow;
 
+/// A building call with its lines made ready: a run is the original's call and nothing else.
+pub struct ReadyBuild<'a> {
+    lines: Vec<CoalesceInput<'a>>,
+    tolerance: f64,
+    angle: f64,
+}
+
+/// The chains of a run, as the original gives them.
+pub struct RawChains(Vec<RawChain>);
+
+impl<'a> ReadyBuild<'a> {
+    /// The call on its own geometries. The angle is the limit where the original is edited.
+    pub fn new(geometries: &'a [Geometry<f64>], call: &BuildCall, angle: f64) -> Self {
+        let input = |(index, geom)| CoalesceInput {
+            index,
+            geom,
+            sort_key: None,
+            group: call.groups[index],
+        };
+        let lines = geometries.iter().enumerate().map(input).collect();
+        ReadyBuild { lines, tolerance: f64::from_bits(call.tolerance), angle }
+    }
+
+    pub fn run(&self) -> RawChains {
+        RawChains(build_chains(&self.lines, self.tolerance, self.angle))
+    }
+}
+
 /// The chains of a call. The angle is the limit where the original is edited.
 pub fn build(call: &BuildCall, angle: f64) -> Vec<Chain> {
     let geometries = geometries(call);
-    let input = |(index, geom)| CoalesceInput {
-        index,
-        geom,
-        sort_key: None,
-        group: call.groups[index],
-    };
-    let lines: Vec<_> = geometries.iter().enumerate().map(input).collect();
-    let chains = build_chains(&lines, f64::from_bits(call.tolerance), angle);
-    let chain = |raw: super::RawChain| Chain { members: raw.members, points: points(&raw.geom) };
+    let RawChains(chains) = ReadyBuild::new(&geometries, call, angle).run();
+    let chain = |raw: RawChain| Chain { members: raw.members, points: points(&raw.geom) };
     chains.into_iter().map(chain).collect()
+}
+
+/// A pairing call with its ends made ready: a run is the original's call and nothing else.
+pub struct ReadyPairs {
+    select: fn(&[Option<(f64, f64)>], &[usize], f64) -> Vec<(usize, usize)>,
+    directions: Vec<Option<(f64, f64)>>,
+    pieces: Vec<usize>,
+    angle: f64,
+}
+
+impl ReadyPairs {
+    /// The call by a route. The angle is the limit where the original is edited.
+    pub fn new(route: Route, call: &PairingCall, angle: f64) -> Self {
+        let select = match route {
+            Route::Plain => sorted_junction_pairs,
+            Route::Indexed => lazy_junction_pairs,
+            Route::Chosen => junction_pairs,
+        };
+        let pieces = call.pieces.iter().map(|&piece| piece as usize).collect();
+        ReadyPairs { select, directions: call.all_directions(), pieces, angle }
+    }
+
+    pub fn run(&self) -> Vec<(usize, usize)> {
+        (self.select)(&self.directions, &self.pieces, self.angle)
+    }
 }
 
 /// The pairs of a call by a route.
 pub fn pairs(route: Route, call: &PairingCall, angle: f64) -> Vec<Pair> {
-    let pieces: Vec<usize> = call.pieces.iter().map(|&piece| piece as usize).collect();
-    let select = match route {
-        Route::Plain => sorted_junction_pairs,
-        Route::Indexed => lazy_junction_pairs,
-        Route::Chosen => junction_pairs,
-    };
-    let pairs = select(&call.all_directions(), &pieces, angle);
+    let pairs = ReadyPairs::new(route, call, angle).run();
     pairs.into_iter().map(|(i, j)| [i as u32, j as u32]).collect()
 }
 
@@ -48,7 +88,7 @@ pub fn measure(a: (f64, f64), b: (f64, f64)) -> f64 {
 }
 
 /// The lines of a call as the original takes them.
-fn geometries(call: &BuildCall) -> Vec<Geometry<f64>> {
+pub fn geometries(call: &BuildCall) -> Vec<Geometry<f64>> {
     let geometry = |(line, first)| {
         let run = LineString(coordinates(&call.points(line, first)));
         match call.kinds[line] {

@@ -1,0 +1,41 @@
+// The door: what a C or Rust host calls. A slice passes as a pointer and a length in elements. Every call answers one 64-bit number: its result,
+// or minus the number of the refusal.
+use rules::Answer;
+ghost use mathlib.Core.Path.{_≡_};
+ghost use Rattle.door.specs.Proper.{Proper};
+ghost use mathlib.Core.Bool.{false};
+ghost use Rattle.rules.specs.Calls.{numberOf, Numbered, Paired, asked};
+
+// An answer as a host sees it.
+fn number(answer: Answer) -> u64
+    requires { ⌜ Proper answer ⌝ }
+    ensures { λ r. ⌜ r ≡ numberOf answer ⌝ }
+{
+    match answer {
+        Answer::Accepted(n) => n,
+        Answer::Refused(k) => 18446744073709551615 - k + 1,
+    }
+}
+
+// The plain route: the number of pairs.
+#[no_mangle]
+pub extern "C" fn lovasuku_pairs_plain(
+    present: &[u8],
+    directions: &[f64],
+    pieces: &[u32],
+    limit: f64,
+    pairs: &mut [u32],
+    workspace: &mut [u64],
+) -> u64
+    ensures { λ r. ⌜ Numbered (λ a. Paired false (record { present = now (present .entry); directions = now (directions .entry); pieces = now (pieces .entry); limit = limit; pairs = now (pairs .entry); workspace = now (workspace .entry) }) a (now (pairs .exit)) (now (workspace .exit))) r ⌝ }
+{
+    number(pairing::pairs_plain(present, directions, pieces, limit, pairs, workspace))
+}
+
+// The chain question: 0, or -10 where the table has no chain k in these coordinates.
+#[no_mangle]
+pub extern "C" fn lovasuku_chain(coordinates: &[u64], merged: &[u64], table: &[u32], k: u64) -> u64
+    ensures { λ r. ⌜ r ≡ numberOf (asked (now (coordinates .entry)) (now (merged .entry)) (now (table .entry)) k) ⌝ }
+{
+    number(asking::chain(coordinates, merged, table, k as usize))
+}

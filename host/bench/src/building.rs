@@ -1,0 +1,122 @@
+//! Building: the port through the door and the Rust's `build_chains` on the same lines, with what
+//! stands beside them.
+
+use crate::clock::{best, timed, Patience};
+use crate::geos::Geos;
+use crate::times::{measured, Times};
+use answers::{BuildCall, Built};
+use lovasuku_chains::door::{self, RawSettings};
+use lovasuku_chains::size::{LINE_WORKSPACE, RECORD};
+use lovasuku_chains::Lines;
+use oracle::{chains::without_marks, switch, Oracle};
+use std::hint::black_box;
+
+/// The times of a call, taken after both sides have been seen to answer alike. The error is a
+/// sentence about the first difference.
+pub fn compare(oracle: Oracle, call: &BuildCall, patience: Patience) -> Result<Times, String> {
+    let coordinates: Vec<f64> = call.coordinates.iter().map(|&bits| f64::from_bits(bits)).collect();
+    let mut rooms = Rooms::dirty(call);
+    let chains = build(call, &coordinates, &mut rooms);
+    rooms.check(chains, &without_marks(call, &oracle.chains(call)))?;
+
+    let geometries = oracle.geometries(call);
+    let ready = oracle.ready_build(&geometries, call);
+    let mut port = || timed(|| build(call, &coordinates, &mut rooms));
+    let mut rust = || timed(|| black_box(&ready).run());
+    let times = || measured(&mut [&mut port, &mut rust], patience);
+    Ok(switch::under(call.switch == 1, times))
+}
+
+/// The nanoseconds of GEOS's LineMerger on the lines of a call, which has to give as many lines as
+/// the Rust gives chains. It joins by exact ends alone and pairs no junctions.
+pub fn merging(
+    oracle: Oracle,
+    geos: &Geos,
+    call: &BuildCall,
+    patience: Patience,
+) -> Result<f64, String> {
+    let merging = geos.merging(call)?;
+    merging.check(oracle.chains(call).len())?;
+    let mut merge = || timed(|| merging.run());
+    Ok(best(&mut [&mut merge], patience)[0])
+}
+
+/// The nanoseconds of clearing the spare and the workspace of a call, below which no port that
+/// keeps the rules can come.
+pub fn zeroing(call: &BuildCall, patience: Patience) -> f64 {
+    let mut rooms = Rooms::dirty(call);
+    let mut clear = || {
+        timed(|| {
+            black_box(&mut rooms.spare).fill(0.0);
+            black_box(&mut rooms.workspace).fill(0);
+        })
+    };
+    best(&mut [&mut clear], patience)[0]
+}
+
+/// The port's call, with the rooms as the call before left them.
+fn build(call: &BuildCall, coordinates: &[f64], rooms: &mut Rooms) -> i64 {
+    let lines =
+        Lines { coordinates, counts: &call.counts, groups: &call.groups, kinds: &call.kinds };
+    let settings = RawSettings {
+        tolerance: f64::from_bits(call.tolerance),
+        switch: call.switch,
+        limit: f64::from_bits(call.limit),
+    };
+    door::build(black_box(lines), settings, rooms.lent())
+}
+
+/// The rooms of a call, each as long as the rules ask for.
+struct Rooms {
+    table: Vec<u32>,
+    members: Vec<u32>,
+    marks: Vec<u8>,
+    merged: Vec<f64>,
+    spare: Vec<f64>,
+    workspace: Vec<u64>,
+}
+
+impl Rooms {
+    /// Rooms in which no number is 0, so that it shows what a call clears.
+    fn dirty(call: &BuildCall) -> Self {
+        let (n, numbers) = (call.lines(), call.coordinates.len());
+        Rooms {
+            table: vec![u32::MAX; RECORD * n],
+            members: vec![u32::MAX; n],
+            marks: vec![u8::MAX; n],
+            merged: vec![f64::NAN; numbers],
+            spare: vec![f64::NAN; numbers],
+            workspace: vec![u64::MAX; LINE_WORKSPACE * n],
+        }
+    }
+
+    fn lent(&mut self) -> door::BuildRooms<'_> {
+        door::BuildRooms {
+            table: &mut self.table,
+            members: &mut self.members,
+            marks: &mut self.marks,
+            merged: &mut self.merged,
+            spare: &mut self.spare,
+            workspace: &mut self.workspace,
+        }
+    }
+
+    /// Tests that the rooms have the Rust's chains and are cleared where the rules say so. The
+    /// marks, which the Rust does not know, are not looked at.
+    fn check(&self, chains: i64, rust: &Built) -> Result<(), String> {
+        let merged = self.merged[..rust.merged.len()].iter().map(|number| number.to_bits());
+        let table: Vec<u32> = rust.table.iter().flatten().copied().collect();
+        let tests = [
+            (chains == rust.table.len() as i64, "the number of chains differs from the Rust's"),
+            (self.table.starts_with(&table), "the table differs from the Rust's"),
+            (self.members == rust.members, "the members differ from the Rust's"),
+            (merged.eq(rust.merged.iter().copied()), "the merged coordinates differ"),
+            (self.spare.iter().all(|number| number.to_bits() == 0), "the spare is not cleared"),
+            (self.workspace.iter().all(|&word| word == 0), "the workspace is not cleared"),
+        ];
+        match tests.iter().find(|(holds, _)| !holds) {
+            Some((_, sentence)) => Err(sentence.to_string()),
+            None => Ok(()),
+        }
+    }
+}

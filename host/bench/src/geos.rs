@@ -1,0 +1,147 @@
+//! GEOS's LineMerger, found at run time where its C library is installed.
+//!
+//! Each unsafe line calls a function of that library by the signature that `geos_c.h` declares, on
+//! pointers that the library gave out and that are given back to it once.
+#![allow(unsafe_code)]
+
+use answers::BuildCall;
+use std::ffi::{CStr, CString};
+use std::mem::{replace, size_of, transmute_copy};
+use std::os::raw::{c_char, c_double, c_int, c_uint, c_void};
+use std::ptr::null_mut;
+
+type Pointer = *mut c_void;
+
+extern "C" {
+    fn dlopen(name: *const c_char, flags: c_int) -> Pointer;
+    fn dlsym(library: Pointer, name: *const c_char) -> Pointer;
+}
+
+/// Names are bound as they are first called.
+const LAZY: c_int = 1;
+
+/// The names under which systems have the library.
+const NAMES: [&str; 3] = ["libgeos_c.so.1", "libgeos_c.so", "libgeos_c.dylib"];
+
+/// GEOS's number for a geometry of several lines.
+const MULTI_LINE: c_int = 5;
+
+/// The library, open, with what is called of it.
+pub struct Geos {
+    handle: Pointer,
+    version: String,
+    sequence: unsafe extern "C" fn(Pointer, c_uint, c_uint) -> Pointer,
+    set_x: unsafe extern "C" fn(Pointer, Pointer, c_uint, c_double) -> c_int,
+    set_y: unsafe extern "C" fn(Pointer, Pointer, c_uint, c_double) -> c_int,
+    line: unsafe extern "C" fn(Pointer, Pointer) -> Pointer,
+    collection: unsafe extern "C" fn(Pointer, c_int, *mut Pointer, c_uint) -> Pointer,
+    merge: unsafe extern "C" fn(Pointer, Pointer) -> Pointer,
+    count: unsafe extern "C" fn(Pointer, Pointer) -> c_int,
+    destroy: unsafe extern "C" fn(Pointer, Pointer),
+}
+
+impl Geos {
+    /// The library, where it is installed.
+    pub fn find() -> Option<Geos> {
+        let library = NAMES.iter().find_map(|name| library(name))?;
+        unsafe {
+            let init: unsafe extern "C" fn() -> Pointer = function(library, "GEOS_init_r")?;
+            let version: unsafe extern "C" fn() -> *const c_char =
+                function(library, "GEOSversion")?;
+            Some(Geos {
+                handle: init(),
+                version: CStr::from_ptr(version()).to_string_lossy().into_owned(),
+                sequence: function(library, "GEOSCoordSeq_create_r")?,
+                set_x: function(library, "GEOSCoordSeq_setX_r")?,
+                set_y: function(library, "GEOSCoordSeq_setY_r")?,
+                line: function(library, "GEOSGeom_createLineString_r")?,
+                collection: function(library, "GEOSGeom_createCollection_r")?,
+                merge: function(library, "GEOSLineMerge_r")?,
+                count: function(library, "GEOSGetNumGeometries_r")?,
+                destroy: function(library, "GEOSGeom_destroy_r")?,
+            })
+        }
+    }
+
+    /// The version by which the library calls itself.
+    pub fn version(&self) -> &str {
+        &self.version
+    }
+
+    /// The lines of a call, made ready to be merged.
+    pub fn merging(&self, call: &BuildCall) -> Result<Merging<'_>, String> {
+        let firsts = call.firsts();
+        let line = |line: usize| self.line(&call.points(line, firsts[line]));
+        let mut lines: Vec<Pointer> = (0..call.lines()).map(line).collect();
+        let count = lines.len() as c_uint;
+        let lines =
+            unsafe { (self.collection)(self.handle, MULTI_LINE, lines.as_mut_ptr(), count) };
+        match lines.is_null() {
+            true => Err("GEOS does not take the lines".to_string()),
+            false => Ok(Merging(Geometry { geos: self, pointer: lines })),
+        }
+    }
+
+    fn line(&self, points: &[[u64; 2]]) -> Pointer {
+        unsafe {
+            let sequence = (self.sequence)(self.handle, points.len() as c_uint, 2);
+            for (k, &[x, y]) in (0..).zip(points) {
+                (self.set_x)(self.handle, sequence, k, f64::from_bits(x));
+                (self.set_y)(self.handle, sequence, k, f64::from_bits(y));
+            }
+            (self.line)(self.handle, sequence)
+        }
+    }
+}
+
+/// The library of a name, open, where there is one.
+fn library(name: &str) -> Option<Pointer> {
+    let name = CString::new(name).ok()?;
+    let library = unsafe { dlopen(name.as_ptr(), LAZY) };
+    (!library.is_null()).then_some(library)
+}
+
+/// A function of the library by its name. F is the function's type.
+unsafe fn function<F: Copy>(library: Pointer, name: &str) -> Option<F> {
+    assert_eq!(size_of::<F>(), size_of::<Pointer>(), "a function is not as wide as a pointer");
+    let name = CString::new(name).ok()?;
+    let pointer = dlsym(library, name.as_ptr());
+    (!pointer.is_null()).then(|| transmute_copy(&pointer))
+}
+
+/// A geometry of the library's.
+pub struct Geometry<'a> {
+    geos: &'a Geos,
+    pointer: Pointer,
+}
+
+impl Drop for Geometry<'_> {
+    fn drop(&mut self) {
+        let pointer = replace(&mut self.pointer, null_mut());
+        unsafe { (self.geos.destroy)(self.geos.handle, pointer) }
+    }
+}
+
+/// Lines that are ready to be merged.
+pub struct Merging<'a>(Geometry<'a>);
+
+impl<'a> Merging<'a> {
+    /// The merged lines.
+    pub fn run(&self) -> Geometry<'a> {
+        let Geometry { geos, pointer } = &self.0;
+        Geometry { geos, pointer: unsafe { (geos.merge)(geos.handle, *pointer) } }
+    }
+
+    /// Tests that there are so many merged lines.
+    pub fn check(&self, lines: usize) -> Result<(), String> {
+        let merged = self.run();
+        let count = match merged.pointer.is_null() {
+            true => -1,
+            false => unsafe { (merged.geos.count)(merged.geos.handle, merged.pointer) },
+        };
+        match i64::from(count) == lines as i64 {
+            true => Ok(()),
+            false => Err(format!("GEOS has {count} merged lines, not {lines}")),
+        }
+    }
+}

@@ -1,0 +1,22 @@
+//! The time of the verified library as a part of the Rust original's, workload by workload.
+//!
+//! - [`workloads`] and [`ends`]: what is built, and what is paired.
+//! - [`building`] and [`pairing`]: both sides of a comparison, seen to answer alike and then timed.
+//! - [`geos`]: GEOS's LineMerger as a third side, where it is installed.
+//! - [`clock`] and [`times`]: the best of many calls, with the sides taken in turn.
+//! - [`heap`]: memory that the Rust's calls free is kept for the next.
+//! - [`table`], [`summary`], [`about`] and [`report`]: what is printed.
+
+pub mod about;
+pub mod building;
+pub mod clock;
+pub mod ends;
+pub mod geos;
+pub mod heap;
+pub mod options;
+pub mod pairing;
+pub mod report;
+pub mod summary;
+pub mod table;
+pub mod times;
+pub mod workloads;

@@ -1,0 +1,77 @@
+//! The ratios of a run taken together, and the gate.
+
+use crate::table::short;
+
+/// No ratio may be above this.
+pub const MOST_RATIO: f64 = 1.0;
+
+/// The geometric mean of building may not be above this.
+pub const MOST_MEAN: f64 = 0.5;
+
+/// Ratios of one kind, each with the name of its workload.
+#[derive(Clone, Debug, Default)]
+pub struct Ratios(Vec<(String, f64)>);
+
+impl Ratios {
+    pub fn push(&mut self, name: String, ratio: f64) {
+        self.0.push((name, ratio));
+    }
+
+    /// The geometric mean, if there is a ratio.
+    pub fn mean(&self) -> Option<f64> {
+        let logarithms: f64 = self.0.iter().map(|(_, ratio)| ratio.ln()).sum();
+        (!self.0.is_empty()).then(|| (logarithms / self.0.len() as f64).exp())
+    }
+
+    /// The greatest ratio with its name, if there is one.
+    pub fn worst(&self) -> Option<&(String, f64)> {
+        self.0.iter().max_by(|a, b| a.1.total_cmp(&b.1))
+    }
+
+    /// The ratios above the most that is allowed, the greatest first.
+    pub fn above(&self) -> Vec<&(String, f64)> {
+        let mut above: Vec<_> = self.0.iter().filter(|(_, ratio)| *ratio > MOST_RATIO).collect();
+        above.sort_by(|a, b| b.1.total_cmp(&a.1));
+        above
+    }
+
+    /// One line: how many, the geometric mean, the worst.
+    pub fn line(&self, title: &str) -> Option<String> {
+        let (name, worst) = self.worst()?;
+        let (count, mean) = (self.0.len(), short(self.mean()?));
+        let worst = short(*worst);
+        Some(format!("{title}: {count} ratios, geometric mean {mean}, worst {worst} ({name})"))
+    }
+}
+
+/// All ratios of a run.
+#[derive(Clone, Debug, Default)]
+pub struct Summary {
+    pub building: Ratios,
+    pub pairing: Ratios,
+    pub geos: Ratios,
+}
+
+impl Summary {
+    /// The lines about each kind, then one for each ratio above the most that is allowed.
+    pub fn lines(&self) -> Vec<String> {
+        let titles = [
+            ("building", &self.building),
+            ("pairing", &self.pairing),
+            ("building, of GEOS", &self.geos),
+        ];
+        let mut lines: Vec<_> =
+            titles.iter().filter_map(|(title, ratios)| ratios.line(title)).collect();
+        for (name, ratio) in [&self.building, &self.pairing].into_iter().flat_map(Ratios::above) {
+            lines.push(format!("above {}: {} ({name})", short(MOST_RATIO), short(*ratio)));
+        }
+        lines
+    }
+
+    /// True where the gate is open.
+    pub fn within(&self) -> bool {
+        let kinds = [&self.building, &self.pairing];
+        let no_ratio_above = kinds.iter().all(|ratios| ratios.above().is_empty());
+        no_ratio_above && self.building.mean().map_or(true, |mean| mean <= MOST_MEAN)
+    }
+}

@@ -1,0 +1,97 @@
+//! A building call, put to the library and held to the judge's answer.
+
+use crate::room::{more, Dirt, Room};
+use crate::{Door, Judge};
+use answers::random::Random;
+use answers::{BuildCall, Built};
+use lovasuku_chains::size::{LINE_WORKSPACE, RECORD};
+
+/// The rooms of a building call.
+pub struct BuildRooms {
+    /// The chains' records.
+    pub table: Room<u32>,
+    /// The members of all chains.
+    pub members: Room<u32>,
+    /// The members' turned marks.
+    pub marks: Room<u8>,
+    /// The coordinates of the chains of several lines.
+    pub merged: Room<f64>,
+    /// Spare coordinates.
+    pub spare: Room<f64>,
+    /// Words of workspace.
+    pub workspace: Room<u64>,
+}
+
+impl BuildRooms {
+    /// The lengths that the rooms of a call must have, in the order of the fields.
+    pub fn lengths(call: &BuildCall) -> [usize; 6] {
+        let (n, numbers) = (call.counts.len(), call.coordinates.len());
+        [RECORD * n, n, n, numbers, numbers, LINE_WORKSPACE * n]
+    }
+
+    /// Dirty rooms of exactly these lengths.
+    pub fn new(random: &mut Random, lengths: [usize; 6]) -> Self {
+        let [table, members, marks, merged, spare, workspace] = lengths;
+        BuildRooms {
+            table: Room::new(Dirt::some(random), table),
+            members: Room::new(Dirt::some(random), members),
+            marks: Room::new(Dirt::some(random), marks),
+            merged: Room::new(Dirt::some(random), merged),
+            spare: Room::new(Dirt::some(random), spare),
+            workspace: Room::new(Dirt::some(random), workspace),
+        }
+    }
+
+    /// Dirty rooms for the call, some a little longer than they must be.
+    pub fn for_call(random: &mut Random, call: &BuildCall) -> Self {
+        let lengths = Self::lengths(call).map(|length| length + more(random));
+        Self::new(random, lengths)
+    }
+
+    /// Tests that no room has changed.
+    pub fn untouched(&self) -> Result<(), String> {
+        self.table.untouched("table")?;
+        self.members.untouched("members")?;
+        self.marks.untouched("marks")?;
+        self.merged.untouched("merged")?;
+        self.spare.untouched("spare")?;
+        self.workspace.untouched("workspace")
+    }
+
+    /// Tests that every room is as an accepted call with this answer leaves it.
+    pub fn hold(&self, call: &BuildCall, built: &Built) -> Result<(), String> {
+        let merged: Vec<f64> = built.merged.iter().map(|&bits| f64::from_bits(bits)).collect();
+        self.table.begins_with("table", &built.table.concat())?;
+        self.members.begins_with("members", &built.members)?;
+        self.marks.begins_with("marks", &built.marks)?;
+        self.merged.begins_with("merged", &merged)?;
+        self.spare.cleared("spare", call.coordinates.len())?;
+        self.workspace.cleared("workspace", LINE_WORKSPACE * call.counts.len())
+    }
+}
+
+/// Puts the call to the door, in rooms that the seed determines, and holds it to the judge's
+/// answer. The error is a sentence about the first difference.
+pub fn compare_build(
+    door: &dyn Door,
+    judge: Judge,
+    call: &BuildCall,
+    seed: u64,
+) -> Result<(), String> {
+    hold_build(door, call, &judge.build(call), seed)
+}
+
+/// The same with an answer that is known already.
+pub fn hold_build(
+    door: &dyn Door,
+    call: &BuildCall,
+    wanted: &Built,
+    seed: u64,
+) -> Result<(), String> {
+    let mut rooms = BuildRooms::for_call(&mut Random::new(seed), call);
+    let answer = door.build(call, &mut rooms);
+    if answer != wanted.table.len() as i64 {
+        return Err(format!("the answer is {answer}, not {} chains", wanted.table.len()));
+    }
+    rooms.hold(call, wanted)
+}

@@ -1,0 +1,148 @@
+//! The calls of a run: every style of the recorded answers and arbitrary bits, with points put into
+//! some of the lines. The seed and the number of a call determine it.
+
+use answers::random::Random;
+use answers::styles::{junctions, Style, BUILDING, PAIRING};
+use answers::{BuildCall, PairingCall};
+use lovasuku_chains::size::{MOST_ENDS, MOST_LINES, MOST_POINTS};
+
+/// A call of either sort.
+#[derive(Clone, Debug)]
+pub enum Call {
+    /// A building call.
+    Build(BuildCall),
+    /// A pairing call.
+    Pairs(PairingCall),
+}
+
+/// A call with the name of its style, and the seed of the rooms that are lent to it.
+pub struct Numbered {
+    /// The style.
+    pub style: &'static str,
+    /// The call.
+    pub call: Call,
+    /// The seed of its rooms.
+    pub rooms: u64,
+}
+
+/// One call in so many is of real size.
+const REAL: u64 = 2_000;
+
+/// The most ends of a call with directions that are not finite, for which the Rust lists all pairs.
+const MOST_WILD_ENDS: usize = 2_048;
+
+/// Call `number` of the run with a seed.
+pub fn numbered(seed: u64, number: u64) -> Numbered {
+    let mut random = Random::new(Random::new(seed).bits() ^ Random::new(!number).bits());
+    let rooms = random.bits();
+    let real = number % REAL == REAL - 1;
+    if random.one_in(3) {
+        let (style, make) = random.pick(&PAIRING);
+        let size = size(&mut random, real, MOST_ENDS);
+        let mut call = make(&mut random, size);
+        if !call.finite() {
+            truncate(&mut call, MOST_WILD_ENDS);
+        }
+        return Numbered { style, call: Call::Pairs(call), rooms };
+    }
+    let styles: Vec<Style<BuildCall>> = BUILDING.into_iter().chain(ADDED).collect();
+    let (style, make) = random.pick(&styles);
+    let size = size(&mut random, real, MOST_LINES);
+    let call = make(&mut random, size);
+    let more = match real {
+        true => random.pick(&[0, MOST_POINTS]),
+        false => random.pick(&[0, 0, 0, 0, 0, 12]),
+    };
+    Numbered { style, call: Call::Build(stretched(&mut random, call, more)), rooms }
+}
+
+fn truncate(call: &mut PairingCall, ends: usize) {
+    call.present.truncate(ends);
+    call.directions.truncate(2 * ends);
+    call.pieces.truncate(ends);
+}
+
+/// A real size, often the most, or a small one.
+fn size(random: &mut Random, real: bool, most: usize) -> usize {
+    if real {
+        let some = most - random.below(most / 2);
+        return random.pick(&[most, most, some, most >> 3]);
+    }
+    match random.below(100) {
+        0..=2 => 41 + random.below(160),
+        3..=24 => 9 + random.below(32),
+        _ => random.below(9),
+    }
+}
+
+/// The call with up to so many points put into its lines, as long as a call may have them.
+fn stretched(random: &mut Random, call: BuildCall, more: usize) -> BuildCall {
+    let mut left = more.min(MOST_POINTS.saturating_sub(call.coordinates.len() / 2));
+    if left == 0 {
+        return call;
+    }
+    let (tolerance, switch, limit) = (call.tolerance, call.switch, call.limit);
+    let mut longer = BuildCall { tolerance, switch, limit, ..BuildCall::default() };
+    for (line, first) in call.firsts().into_iter().enumerate() {
+        let mut points = call.points(line, first);
+        let lines_left = call.lines() - line;
+        let share = if lines_left == 1 { left } else { random.below(1 + 2 * left / lines_left) };
+        if points.len() > 1 {
+            let place = 1 + random.below(points.len() - 1);
+            let run: Vec<_> = (0..share).map(|_| inner(random, points[place])).collect();
+            points.splice(place..place, run);
+            left -= share;
+        }
+        longer.push(&points, call.groups[line], call.kinds[line]);
+    }
+    longer
+}
+
+/// A point within a line: arbitrary, a repeat of its neighbour, or one near the origin.
+fn inner(random: &mut Random, neighbour: [u64; 2]) -> [u64; 2] {
+    match random.below(4) {
+        0 => [random.bits(), random.bits()],
+        1 => neighbour,
+        _ => [random.unit().to_bits(), random.unit().to_bits()],
+    }
+}
+
+/// The styles of building calls that this comparison adds.
+const ADDED: [Style<BuildCall>; 2] = [("tiny", tiny), ("any bits", any_bits)];
+
+/// Up to four lines of two or three points on a grid of four: the unit square, zeros of both signs,
+/// or places about the edge of a cell.
+fn tiny(random: &mut Random, lines: usize) -> BuildCall {
+    let grids = [
+        [(0.0, 0.0), (1.0, 0.0), (0.0, 1.0), (1.0, 1.0)],
+        [(0.0, 0.0), (-0.0, 0.0), (1.0, 0.0), (1.0, -0.0)],
+        [(0.25, 0.0), (1.25, 0.0), (1.75, 0.0), (2.0, 0.0)],
+    ];
+    let grid = random.pick(&grids);
+    let mut call = BuildCall::default();
+    for _ in 0..lines % 5 {
+        let points: Vec<_> = (0..2 + random.below(2)).map(|_| random.pick(&grid)).collect();
+        call.push_plain(&points);
+    }
+    let switch = random.one_in(2);
+    junctions(random, &mut call, switch);
+    call.tolerance = random.pick(&[0.0f64, 1.0, 2.0]).to_bits();
+    call
+}
+
+/// Lines of arbitrary coordinates whose ends are shared, with an arbitrary tolerance.
+fn any_bits(random: &mut Random, lines: usize) -> BuildCall {
+    let ends: Vec<_> = (0..1 + lines).map(|_| [random.bits(), random.bits()]).collect();
+    let mut call = BuildCall::default();
+    for _ in 0..lines {
+        let inner = random.below(4);
+        let mut line = vec![random.pick(&ends)];
+        line.extend((0..inner).map(|_| [random.bits(), random.bits()]));
+        line.push(random.pick(&ends));
+        call.push(&line, 0, 0);
+    }
+    let switch = random.one_in(2);
+    junctions(random, &mut call, switch);
+    call.tolerance = if random.one_in(2) { random.bits() } else { 0 };
+    call
+}

@@ -1,0 +1,29 @@
+//! Puts the same calls to the verified library and to the Rust original, and compares everything.
+//!
+//! `cargo run --release -p compare -- --calls N --seed S` makes N calls of every style, from empty
+//! ones to 4,096 lines, 65,536 points and 8,192 ends, and holds the library to the live oracle, or
+//! to the model where the original is not at hand. Compared are the answer and every lent room:
+//! what is written, what is cleared, and that all else is as before, guards beyond the rooms
+//! included. Rooms are dirty before the call. A difference is made small and printed as bits.
+//!
+//! - [`calls`]: the calls of a run.
+//! - [`judge`]: who says what the answer is.
+//! - [`room`]: rooms that show what was written into them.
+//! - [`building`], [`pairing`]: one call, compared.
+//! - [`shrink`]: a call that differs, made small.
+//! - [`run`]: a whole run, on all cores.
+
+#![deny(missing_docs)]
+#![forbid(unsafe_code)]
+
+pub mod building;
+pub mod calls;
+pub mod door;
+pub mod judge;
+pub mod pairing;
+pub mod room;
+pub mod run;
+pub mod shrink;
+
+pub use door::{Door, Library};
+pub use judge::Judge;

@@ -1,0 +1,171 @@
+//! A whole run, on all cores.
+
+use crate::building::compare_build;
+use crate::calls::{numbered, Call, Numbered};
+use crate::pairing::compare_pairs;
+use crate::shrink::shrink;
+use crate::{Door, Judge};
+use std::collections::BTreeMap;
+use std::fmt;
+use std::panic::resume_unwind;
+use std::sync::atomic::{AtomicU64, Ordering};
+use std::thread::{self, ScopedJoinHandle};
+
+/// What a run is asked for.
+#[derive(Clone, Copy, Debug, PartialEq, Eq)]
+pub struct Plan {
+    /// The number of the first call.
+    pub first: u64,
+    /// How many calls are made.
+    pub calls: u64,
+    /// The seed that determines them.
+    pub seed: u64,
+    /// How many are compared at a time.
+    pub jobs: usize,
+}
+
+/// How many calls of each style were compared.
+pub type Styles = BTreeMap<&'static str, u64>;
+
+/// What was compared.
+#[derive(Clone, Debug, Default)]
+pub struct Tally {
+    /// The building calls.
+    pub building: Styles,
+    /// The pairing calls.
+    pub pairing: Styles,
+    /// The most lines, points and ends of a call.
+    pub most: [usize; 3],
+}
+
+impl Tally {
+    fn add(&mut self, numbered: &Numbered) {
+        let (styles, sizes) = match &numbered.call {
+            Call::Build(call) => {
+                (&mut self.building, [call.lines(), call.coordinates.len() / 2, 0])
+            }
+            Call::Pairs(call) => (&mut self.pairing, [0, 0, call.ends()]),
+        };
+        *styles.entry(numbered.style).or_default() += 1;
+        self.grow(sizes);
+    }
+
+    fn grow(&mut self, sizes: [usize; 3]) {
+        for (most, size) in self.most.iter_mut().zip(sizes) {
+            *most = size.max(*most);
+        }
+    }
+
+    fn merge(mut self, other: Tally) -> Self {
+        for (sum, styles) in
+            [(&mut self.building, other.building), (&mut self.pairing, other.pairing)]
+        {
+            for (style, calls) in styles {
+                *sum.entry(style).or_default() += calls;
+            }
+        }
+        self.grow(other.most);
+        self
+    }
+
+    /// The number of calls.
+    pub fn calls(&self) -> u64 {
+        self.building.values().chain(self.pairing.values()).sum()
+    }
+}
+
+impl fmt::Display for Tally {
+    fn fmt(&self, f: &mut fmt::Formatter<'_>) -> fmt::Result {
+        let [lines, points, ends] = self.most;
+        let list = |styles: &Styles| {
+            let each = styles.iter().map(|(style, calls)| format!("{style} {calls}"));
+            each.collect::<Vec<_>>().join(", ")
+        };
+        writeln!(f, "building, up to {lines} lines and {points} points: {}", list(&self.building))?;
+        write!(f, "pairing, up to {ends} ends: {}", list(&self.pairing))
+    }
+}
+
+/// A call on which the library and the judge differ.
+#[derive(Clone, Debug)]
+pub struct Difference {
+    /// Its number in the run.
+    pub number: u64,
+    /// Its style.
+    pub style: &'static str,
+    /// The call made small.
+    pub call: Call,
+    /// A sentence about the first difference on the small call.
+    pub sentence: String,
+}
+
+impl fmt::Display for Difference {
+    fn fmt(&self, f: &mut fmt::Formatter<'_>) -> fmt::Result {
+        let Difference { number, style, call, sentence } = self;
+        writeln!(f, "call {number} (style {style}) differs; made small: {sentence}")?;
+        match call {
+            Call::Build(call) => write!(f, "{call}"),
+            Call::Pairs(call) => write!(f, "{call}"),
+        }
+    }
+}
+
+/// Compares all calls of the plan. Of several that differ the first is given, made small. `watch`
+/// is told the number of each call before it is made.
+pub fn run(
+    door: &dyn Door,
+    judge: Judge,
+    plan: Plan,
+    watch: &(dyn Fn(u64) + Sync),
+) -> (Tally, Option<Difference>) {
+    let next = AtomicU64::new(plan.first);
+    let end = AtomicU64::new(plan.first.saturating_add(plan.calls));
+    let work = || {
+        let mut tally = Tally::default();
+        loop {
+            let number = next.fetch_add(1, Ordering::Relaxed);
+            if number >= end.load(Ordering::Relaxed) {
+                return tally;
+            }
+            watch(number);
+            let numbered = numbered(plan.seed, number);
+            if compare(door, judge, &numbered.call, numbered.rooms).is_err() {
+                end.fetch_min(number, Ordering::Relaxed);
+            }
+            tally.add(&numbered);
+        }
+    };
+    let tally = thread::scope(|scope| {
+        let workers: Vec<_> = (0..plan.jobs.max(1)).map(|_| scope.spawn(work)).collect();
+        let joined = |worker: ScopedJoinHandle<Tally>| {
+            worker.join().unwrap_or_else(|fault| resume_unwind(fault))
+        };
+        workers.into_iter().map(joined).fold(Tally::default(), Tally::merge)
+    });
+    let stopped = end.into_inner();
+    let whole = stopped == plan.first.saturating_add(plan.calls);
+    (tally, (!whole).then(|| difference(door, judge, plan.seed, stopped)))
+}
+
+/// Compares a call. The error is a sentence about the first difference.
+pub fn compare(door: &dyn Door, judge: Judge, call: &Call, rooms: u64) -> Result<(), String> {
+    match call {
+        Call::Build(call) => compare_build(door, judge, call, rooms),
+        Call::Pairs(call) => compare_pairs(door, judge, call, rooms),
+    }
+}
+
+/// The difference on a call that is known to differ.
+fn difference(door: &dyn Door, judge: Judge, seed: u64, number: u64) -> Difference {
+    let Numbered { style, call, rooms } = numbered(seed, number);
+    let call = match call {
+        Call::Build(call) => {
+            Call::Build(shrink(call, |call| compare_build(door, judge, call, rooms).is_err()))
+        }
+        Call::Pairs(call) => {
+            Call::Pairs(shrink(call, |call| compare_pairs(door, judge, call, rooms).is_err()))
+        }
+    };
+    let sentence = compare(door, judge, &call, rooms).err().unwrap_or_default();
+    Difference { number, style, call, sentence }
+}

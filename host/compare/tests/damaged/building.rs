@@ -1,0 +1,107 @@
+//! Damaged building calls.
+
+use crate::building_damages::{accepted, damages, lengths, LentLines};
+use crate::damaged;
+use answers::random::Random;
+use answers::BuildCall;
+use compare::building::{compare_build, BuildRooms};
+use compare::{Door, Judge, Library};
+
+/// Puts a damaged call to the library: the answer is the refusal, and the rooms are as before.
+fn expect(refusal: i64, lent: &LentLines, name: &str) {
+    let mut rooms = BuildRooms::new(&mut Random::new(refusal as u64), lengths(lent));
+    let answer = Library.build(&lent.call, &mut rooms);
+    assert_eq!(answer, -refusal, "{name}");
+    rooms.untouched().unwrap_or_else(|fault| panic!("{name}: {fault}"));
+}
+
+#[test]
+fn undamaged_calls_are_accepted() {
+    for (name, call) in accepted() {
+        let compared = compare_build(&Library, Judge::Model, &call, 1);
+        assert_eq!(compared, Ok(()), "{name}");
+    }
+}
+
+#[test]
+fn each_damage_at_every_edge() {
+    for (base, call) in accepted() {
+        for damage in damages() {
+            let (refusal, lent, name) = damaged(&call, &[&damage]);
+            expect(refusal, &lent, &format!("{base}: {name}"));
+        }
+    }
+}
+
+#[test]
+fn two_damages_at_once() {
+    let all = damages();
+    for (base, call) in &accepted()[..2] {
+        for (k, one) in all.iter().enumerate() {
+            for other in all[k + 1..].iter().filter(|other| other.refusal != one.refusal) {
+                let (refusal, lent, name) = damaged(call, &[one, other]);
+                expect(refusal, &lent, &format!("{base}: {name}"));
+            }
+        }
+    }
+}
+
+#[test]
+fn many_damages_at_once() {
+    let all = damages();
+    let bases = accepted();
+    let mut random = Random::new(5);
+    for _ in 0..1_000 {
+        let mut some = Vec::new();
+        for refusal in 1..=7 {
+            let of: Vec<_> = all.iter().filter(|damage| damage.refusal == refusal).collect();
+            if random.one_in(2) {
+                some.push(random.pick(&of));
+            }
+        }
+        let (base, call) = &bases[random.below(2)];
+        if !some.is_empty() {
+            let (refusal, lent, name) = damaged(call, &some);
+            expect(refusal, &lent, &format!("{base}: {name}"));
+        }
+    }
+}
+
+#[test]
+fn a_room_may_be_longer_and_an_empty_call_needs_none() {
+    let empty = BuildCall::default();
+    let mut rooms = BuildRooms::new(&mut Random::new(1), [0; 6]);
+    assert_eq!(Library.build(&empty, &mut rooms), 0);
+    let mut rooms = BuildRooms::new(&mut Random::new(1), [3; 6]);
+    assert_eq!(Library.build(&empty, &mut rooms), 0);
+    assert_eq!(rooms.untouched(), Ok(()));
+    let passing = BuildCall { counts: vec![0], groups: vec![0], kinds: vec![0], ..empty };
+    let mut rooms = BuildRooms::new(&mut Random::new(1), [5, 1, 1, 0, 0, 192]);
+    assert_eq!(Library.build(&passing, &mut rooms), 1);
+}
+
+#[test]
+fn every_refusal_of_the_empty_call() {
+    let refused = |call: BuildCall| {
+        let mut rooms = BuildRooms::new(&mut Random::new(2), [0; 6]);
+        Library.build(&call, &mut rooms)
+    };
+    let empty = BuildCall::default;
+    assert_eq!(refused(BuildCall { groups: vec![0], ..empty() }), -2);
+    assert_eq!(refused(BuildCall { kinds: vec![2], ..empty() }), -2);
+    assert_eq!(refused(BuildCall { coordinates: vec![0], ..empty() }), -4);
+    assert_eq!(refused(BuildCall { coordinates: vec![0; 200_000], ..empty() }), -4);
+    assert_eq!(refused(BuildCall { switch: 2, ..empty() }), -6);
+    assert_eq!(refused(BuildCall { switch: 1, limit: u64::MAX, ..empty() }), -6);
+    assert_eq!(refused(BuildCall { switch: 0, limit: u64::MAX, ..empty() }), 0);
+}
+
+#[test]
+fn no_tolerance_is_refused() {
+    let mut random = Random::new(9);
+    let mut call = accepted().remove(0).1;
+    for k in 0..2_000u64 {
+        call.tolerance = if k < 64 { 1 << k } else { random.bits() };
+        assert_eq!(compare_build(&Library, Judge::Model, &call, k), Ok(()));
+    }
+}

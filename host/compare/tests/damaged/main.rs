@@ -1,0 +1,110 @@
+//! Damaged calls: the answer is the number of the first refusal that applies, and every room is as
+//! before. Each refusal is tried from states in which everything that is tested before it is at
+//! the edge of what is accepted, and beside every other damage.
+
+mod building;
+mod building_damages;
+mod pairing;
+mod pairing_damages;
+mod question;
+
+use std::cmp::Reverse;
+
+/// Whether a lent room is shorter than it must be.
+#[derive(Clone, Copy, Debug, PartialEq, Eq)]
+pub enum Shortage {
+    /// It has one number less.
+    ByOne,
+    /// It has no number.
+    Empty,
+}
+
+impl Shortage {
+    /// The length that is left of a length.
+    pub fn left(self, length: usize) -> usize {
+        match self {
+            Shortage::ByOne => length.saturating_sub(1),
+            Shortage::Empty => 0,
+        }
+    }
+}
+
+/// A call with the shortages of its rooms, in the order in which its rooms are lent.
+#[derive(Clone)]
+pub struct Lent<C, const ROOMS: usize> {
+    pub call: C,
+    pub short: [Option<Shortage>; ROOMS],
+}
+
+impl<C, const ROOMS: usize> Lent<C, ROOMS> {
+    /// What the shortages leave of the lengths that the rooms must have.
+    pub fn left(&self, mut lengths: [usize; ROOMS]) -> [usize; ROOMS] {
+        for (length, shortage) in lengths.iter_mut().zip(self.short) {
+            *length = shortage.map_or(*length, |shortage| shortage.left(*length));
+        }
+        lengths
+    }
+}
+
+/// How a damage is done.
+type Apply<C, const ROOMS: usize> = Box<dyn Fn(&mut Lent<C, ROOMS>)>;
+
+/// A damage: the refusal that it calls for, what it is, and how it is done.
+pub struct Damage<C, const ROOMS: usize> {
+    pub refusal: i64,
+    pub name: String,
+    apply: Apply<C, ROOMS>,
+}
+
+/// A damage to the call itself.
+pub fn damage<C, const ROOMS: usize>(
+    refusal: i64,
+    name: &str,
+    apply: impl Fn(&mut C) + 'static,
+) -> Damage<C, ROOMS> {
+    let apply = Box::new(move |lent: &mut Lent<C, ROOMS>| apply(&mut lent.call));
+    Damage { refusal, name: name.to_string(), apply }
+}
+
+/// Refusal 7: each of the rooms short by one, and empty.
+pub fn short_rooms<C, const ROOMS: usize>(names: [&str; ROOMS]) -> Vec<Damage<C, ROOMS>> {
+    let mut all: Vec<Damage<C, ROOMS>> = Vec::new();
+    for (room, name) in names.iter().enumerate() {
+        for shortage in [Shortage::ByOne, Shortage::Empty] {
+            let name = format!("{name} short, {shortage:?}");
+            let apply =
+                Box::new(move |lent: &mut Lent<C, ROOMS>| lent.short[room] = Some(shortage));
+            all.push(Damage { refusal: 7, name, apply });
+        }
+    }
+    all
+}
+
+/// The call with the damages, the lowest refusal's last, so that no other undoes it. Gives that
+/// refusal too, and the names of all.
+pub fn damaged<C: Clone, const ROOMS: usize>(
+    call: &C,
+    damages: &[&Damage<C, ROOMS>],
+) -> (i64, Lent<C, ROOMS>, String) {
+    let mut ordered = damages.to_vec();
+    ordered.sort_by_key(|damage| Reverse(damage.refusal));
+    let mut lent = Lent { call: call.clone(), short: [None; ROOMS] };
+    ordered.iter().for_each(|damage| (damage.apply)(&mut lent));
+    let names: Vec<_> = ordered.iter().map(|damage| damage.name.as_str()).collect();
+    (ordered[ordered.len() - 1].refusal, lent, names.join(" and "))
+}
+
+/// Floats that are no limit: NaN of both signs, the nearest beyond -1 and 1, infinities.
+pub const NO_LIMITS: [u64; 6] = [
+    0x7ff8_0000_0000_0000,
+    0xfff0_0000_0000_0001,
+    0xbff0_0000_0000_0001,
+    0x3ff0_0000_0000_0001,
+    0xfff0_0000_0000_0000,
+    0x7ff0_0000_0000_0000,
+];
+
+/// Takes the last number out of a table.
+pub fn shorter<T>(table: &mut Vec<T>) {
+    table.pop();
+}

@@ -1,0 +1,90 @@
+//! The chain question on tables of any sort.
+
+use answers::random::Random;
+use lovasuku_chains::door::chain;
+
+/// What the rules say, in numbers that cannot overflow.
+fn wanted(input: usize, merged: usize, table: &[u32], k: u64) -> i64 {
+    let numbers = table.len() as u128;
+    let first = 5 * u128::from(k);
+    if first + 5 > numbers {
+        return -10;
+    }
+    let record = &table[first as usize..];
+    let length = [input, merged].get(record[2] as usize).map(|&length| length as u128);
+    let end = 2 * (u128::from(record[3]) + u128::from(record[4]));
+    match length {
+        Some(length) if end <= length => 0,
+        _ => -10,
+    }
+}
+
+/// Asks the library about slices of these lengths.
+fn asked(input: usize, merged: usize, table: &[u32], k: u64) -> i64 {
+    chain(&vec![0.0; input], &vec![0.0; merged], table, k)
+}
+
+#[test]
+fn a_record_at_each_edge() {
+    let good = [0, 1, 0, 1, 2];
+    assert_eq!(asked(6, 0, &good, 0), 0);
+    assert_eq!(asked(5, 9, &good, 0), -10);
+    assert_eq!(asked(0, 6, &[0, 1, 1, 1, 2], 0), 0);
+    assert_eq!(asked(9, 5, &[0, 1, 1, 1, 2], 0), -10);
+    for source in [2, 3, 256, 1 << 31, u32::MAX] {
+        assert_eq!(asked(9, 9, &[0, 1, source, 0, 0], 0), -10);
+    }
+    assert_eq!(asked(0, 0, &[u32::MAX, u32::MAX, 0, 0, 0], 0), 0);
+    for length in 0..5 {
+        assert_eq!(asked(6, 6, &good[..length], 0), -10);
+    }
+    assert_eq!(asked(6, 6, &[good, good].concat()[..9], 1), -10);
+    assert_eq!(asked(6, 6, &[good, good].concat(), 1), 0);
+}
+
+#[test]
+fn sums_beyond_32_bits_are_beyond_every_slice() {
+    for (first, count) in [
+        (u32::MAX, 1),
+        (1, u32::MAX),
+        (u32::MAX, u32::MAX),
+        (1 << 31, 0),
+        (0, 1 << 31),
+        (1 << 31, 1 << 31),
+        (1 << 30, 1 << 30),
+    ] {
+        for source in [0, 1] {
+            assert_eq!(asked(4, 4, &[0, 1, source, first, count], 0), -10);
+        }
+    }
+}
+
+#[test]
+fn a_chain_number_may_be_any_number() {
+    let table = vec![0; 25];
+    let wraps = (0..64).map(|k| 1u64 << k);
+    let fifths = (0..5).map(|k| (u64::MAX / 5).wrapping_mul(k));
+    let near = fifths.flat_map(|k| [k.wrapping_sub(1), k, k.wrapping_add(1), k.wrapping_add(4)]);
+    for k in wraps.chain(near).chain([u64::MAX, 0xcccc_cccc_cccc_cccd]) {
+        assert_eq!(asked(2, 2, &table, k), if k < 5 { 0 } else { -10 }, "{k}");
+    }
+}
+
+#[test]
+fn any_table_at_all() {
+    let mut random = Random::new(77);
+    for _ in 0..50_000 {
+        let (input, merged) = (random.below(12), random.below(12));
+        let number = |random: &mut Random| match random.below(6) {
+            0 => random.bits() as u32,
+            _ => random.below(4) as u32,
+        };
+        let table: Vec<u32> = (0..random.below(16)).map(|_| number(&mut random)).collect();
+        let k = random.below(4) as u64;
+        assert_eq!(
+            asked(input, merged, &table, k),
+            wanted(input, merged, &table, k),
+            "{input} {merged} {table:?} {k}"
+        );
+    }
+}

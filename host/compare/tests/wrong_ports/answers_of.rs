@@ -1,0 +1,122 @@
+//! Right answers, and wrong ones that a port could plausibly give.
+
+use answers::model::plane::measure;
+use answers::model::Model;
+use answers::{BuildCall, Built, Pair, PairingCall, Port, Route};
+
+/// The right answer.
+pub fn right(call: &BuildCall) -> Built {
+    Model.build(call).expect("the model refuses nothing")
+}
+
+/// The right pairs.
+pub fn right_pairs(call: &PairingCall) -> Vec<Pair> {
+    Model.pairs(Route::Plain, call).expect("the model refuses nothing")
+}
+
+/// True where round two runs.
+fn snaps(call: &BuildCall) -> bool {
+    f64::from_bits(call.tolerance) > 0.0
+}
+
+/// Keeps the coordinate that two joined lines share. (Where round two runs the answer is right.)
+pub fn repeats_kept(call: &BuildCall) -> Built {
+    let mut built = right(call);
+    if snaps(call) {
+        return built;
+    }
+    let firsts = call.firsts();
+    built.merged.clear();
+    for record in built.table.iter_mut().filter(|record| record[2] == 1) {
+        let members = record[0] as usize..(record[0] + record[1]) as usize;
+        record[3] = (built.merged.len() / 2) as u32;
+        record[4] = 0;
+        for member in members {
+            let line = built.members[member] as usize;
+            let mut points = call.points(line, firsts[line]);
+            if built.marks[member] == 1 {
+                points.reverse();
+            }
+            record[4] += points.len() as u32;
+            built.merged.extend(points.iter().flatten());
+        }
+    }
+    built
+}
+
+/// Reverses the members that were turned one after another, as the coordinates are.
+pub fn members_reversed(call: &BuildCall) -> Built {
+    let mut built = right(call);
+    for record in &built.table {
+        let (mut first, count) = (record[0] as usize, record[1] as usize);
+        let marks = built.marks[first..first + count].to_vec();
+        for run in marks.split(|&mark| mark == 0) {
+            built.members[first..first + run.len()].reverse();
+            first += run.len() + 1;
+        }
+    }
+    built
+}
+
+/// Knows of no turned line.
+pub fn unturned(call: &BuildCall) -> Built {
+    let mut built = right(call);
+    built.marks.fill(0);
+    built
+}
+
+/// Does round one and skips round two.
+pub fn exact_alone(call: &BuildCall) -> Built {
+    right(&BuildCall { tolerance: 0, ..call.clone() })
+}
+
+/// Joins nothing.
+pub fn single_lines(call: &BuildCall) -> Built {
+    let groups = (0..call.lines() as u32).collect();
+    exact_alone(&BuildCall { groups, ..call.clone() })
+}
+
+/// Takes both zeros for one key.
+pub fn one_zero(call: &BuildCall) -> Built {
+    let zero = |&bits: &u64| if bits == 1 << 63 { 0 } else { bits };
+    let coordinates = call.coordinates.iter().map(zero).collect();
+    right(&BuildCall { coordinates, ..call.clone() })
+}
+
+/// Takes, of two pairs with one measure, the one whose higher end is lower.
+pub fn ties_by_partner(call: &PairingCall) -> Vec<Pair> {
+    let directions = call.all_directions();
+    let mut found = Vec::new();
+    for j in 0..call.ends() {
+        for i in 0..j {
+            if let (Some(a), Some(b)) = (directions[i], directions[j]) {
+                let measure = measure(a, b);
+                if call.pieces[i] != call.pieces[j] && measure <= f64::from_bits(call.limit) {
+                    found.push((measure, j as u32, i as u32));
+                }
+            }
+        }
+    }
+    found.sort_by(|a, b| a.partial_cmp(b).expect("no measure here is NaN"));
+    let mut taken = vec![false; call.ends()];
+    let mut pairs = Vec::new();
+    for (_, j, i) in found {
+        let ends = [i, j].map(|end| end as usize);
+        if ends.iter().all(|&end| !taken[end]) {
+            ends.iter().for_each(|&end| taken[end] = true);
+            pairs.push([i, j]);
+        }
+    }
+    pairs
+}
+
+/// Takes a direction of two zeros for none.
+pub fn zeros_absent(call: &PairingCall) -> Vec<Pair> {
+    let mut without = call.clone();
+    for (mark, way) in without.present.iter_mut().zip(call.directions.chunks(2)) {
+        if way.iter().all(|&bits| f64::from_bits(bits) == 0.0) {
+            *mark = 0;
+        }
+    }
+    right_pairs(&without)
+}

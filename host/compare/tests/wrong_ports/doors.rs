@@ -1,0 +1,70 @@
+//! The model behind a door, in whole or with something wrong.
+
+use crate::answers_of;
+use answers::{BuildCall, Built, Pair, PairingCall, Route};
+use compare::building::BuildRooms;
+use compare::pairing::PairRooms;
+use compare::Door;
+
+/// A port in which each part may be replaced by a wrong one.
+pub struct Pretended {
+    /// The answer to a building call.
+    pub build: fn(&BuildCall) -> Built,
+    /// The pairs of a pairing call.
+    pub pairs: fn(&PairingCall) -> Vec<Pair>,
+    /// What is done to the rooms behind a building call.
+    pub after_build: fn(&mut BuildRooms, &BuildCall),
+    /// What is done to the rooms behind a pairing call.
+    pub after_pairs: fn(&mut PairRooms, &PairingCall),
+    /// The number with which every call is refused.
+    pub refusal: Option<i64>,
+}
+
+impl Default for Pretended {
+    fn default() -> Self {
+        Pretended {
+            build: answers_of::right,
+            pairs: answers_of::right_pairs,
+            after_build: |_, _| (),
+            after_pairs: |_, _| (),
+            refusal: None,
+        }
+    }
+}
+
+impl Door for Pretended {
+    fn build(&self, call: &BuildCall, rooms: &mut BuildRooms) -> i64 {
+        if let Some(number) = self.refusal {
+            return -number;
+        }
+        let built = (self.build)(call);
+        let merged: Vec<f64> = built.merged.iter().map(|&bits| f64::from_bits(bits)).collect();
+        write(rooms.table.lent(), &built.table.concat());
+        write(rooms.members.lent(), &built.members);
+        write(rooms.marks.lent(), &built.marks);
+        write(rooms.merged.lent(), &merged);
+        rooms.spare.lent()[..call.coordinates.len()].fill(0.0);
+        rooms.workspace.lent()[..192 * call.lines()].fill(0);
+        (self.after_build)(rooms, call);
+        built.table.len() as i64
+    }
+
+    fn pairs(&self, route: Route, call: &PairingCall, rooms: &mut PairRooms) -> i64 {
+        if let Some(number) = self.refusal {
+            return -number;
+        }
+        if !Route::for_call(call).contains(&route) {
+            return -9;
+        }
+        let pairs = (self.pairs)(call);
+        write(rooms.pairs.lent(), &pairs.concat());
+        rooms.workspace.lent()[..64 * call.ends()].fill(0);
+        (self.after_pairs)(rooms, call);
+        pairs.len() as i64
+    }
+}
+
+/// Writes a list over the beginning of a room, as far as the room goes.
+fn write<T: Copy>(room: &mut [T], list: &[T]) {
+    room.iter_mut().zip(list).for_each(|(number, &written)| *number = written);
+}

@@ -1,0 +1,221 @@
+//! Deliberately wrong ports are caught, and what they get wrong is shown on a small call.
+
+mod answers_of;
+mod doors;
+
+use answers::{BuildCall, PairingCall};
+use compare::calls::Call;
+use compare::run::{run, Difference, Plan};
+use compare::{Judge, Library};
+use doors::Pretended;
+
+fn first_difference(door: &Pretended) -> Difference {
+    let plan = Plan { first: 0, calls: 2_000, seed: 11, jobs: 2 };
+    let (_, difference) = run(door, Judge::Model, plan, &|_| ());
+    difference.expect("the wrong port is caught")
+}
+
+/// The small building call on which a wrong port is caught, and the sentence about it.
+fn caught_building(door: Pretended) -> (BuildCall, String) {
+    match first_difference(&door) {
+        Difference { call: Call::Build(call), sentence, .. } => (call, sentence),
+        other => panic!("caught on a pairing call: {other}"),
+    }
+}
+
+/// The small pairing call on which a wrong port is caught, and the sentence about it.
+fn caught_pairing(door: Pretended) -> (PairingCall, String) {
+    match first_difference(&door) {
+        Difference { call: Call::Pairs(call), sentence, .. } => (call, sentence),
+        other => panic!("caught on a building call: {other}"),
+    }
+}
+
+#[track_caller]
+fn assert_small(call: &BuildCall, lines: usize, points: usize) {
+    assert!(call.lines() <= lines && call.coordinates.len() <= 2 * points, "not small:\n{call}");
+}
+
+#[test]
+fn the_right_port_passes() {
+    let plan = Plan { first: 0, calls: 500, seed: 3, jobs: 2 };
+    for judge in [Judge::Model, Judge::find().0] {
+        let (tally, difference) = run(&Pretended::default(), judge, plan, &|_| ());
+        assert!(difference.is_none(), "{}", difference.unwrap());
+        assert_eq!(tally.calls(), 500);
+    }
+}
+
+#[test]
+fn the_library_passes() {
+    let plan = Plan { first: 0, calls: 500, seed: 4, jobs: 2 };
+    let (_, difference) = run(&Library, Judge::find().0, plan, &|_| ());
+    assert!(difference.is_none(), "{}", difference.unwrap());
+}
+
+#[test]
+fn repeats_kept() {
+    let wrong = Pretended { build: answers_of::repeats_kept, ..Pretended::default() };
+    let (call, sentence) = caught_building(wrong);
+    assert_small(&call, 2, 4);
+    assert!(sentence.starts_with("table[4] is 0x"), "{sentence}");
+}
+
+#[test]
+fn members_reversed() {
+    let wrong = Pretended { build: answers_of::members_reversed, ..Pretended::default() };
+    let (call, sentence) = caught_building(wrong);
+    assert_small(&call, 3, 6);
+    assert!(sentence.starts_with("members["), "{sentence}");
+}
+
+#[test]
+fn marks_all_zero() {
+    let wrong = Pretended { build: answers_of::unturned, ..Pretended::default() };
+    let (call, sentence) = caught_building(wrong);
+    assert_small(&call, 2, 4);
+    assert!(sentence.starts_with("marks["), "{sentence}");
+}
+
+#[test]
+fn round_two_skipped() {
+    let wrong = Pretended { build: answers_of::exact_alone, ..Pretended::default() };
+    let (call, _) = caught_building(wrong);
+    assert_small(&call, 2, 4);
+    assert!(f64::from_bits(call.tolerance) > 0.0);
+}
+
+#[test]
+fn single_lines_alone() {
+    let wrong = Pretended { build: answers_of::single_lines, ..Pretended::default() };
+    assert_small(&caught_building(wrong).0, 2, 4);
+}
+
+#[test]
+fn one_zero_as_key() {
+    let wrong = Pretended { build: answers_of::one_zero, ..Pretended::default() };
+    assert_small(&caught_building(wrong).0, 2, 4);
+}
+
+#[test]
+fn everything_refused() {
+    let wrong = Pretended { refusal: Some(7), ..Pretended::default() };
+    let sentence = first_difference(&wrong).sentence;
+    assert!(sentence.contains("the answer is -7, not 0"), "{sentence}");
+}
+
+#[test]
+fn ties_by_partner() {
+    let wrong = Pretended { pairs: answers_of::ties_by_partner, ..Pretended::default() };
+    let (call, sentence) = caught_pairing(wrong);
+    assert!(call.ends() <= 5, "not small:\n{call}");
+    assert!(sentence.contains("pairs["), "{sentence}");
+}
+
+#[test]
+fn no_pairs_at_all() {
+    let wrong = Pretended { pairs: |_| vec![], ..Pretended::default() };
+    let (call, sentence) = caught_pairing(wrong);
+    assert_eq!(call.ends(), 2, "not small:\n{call}");
+    assert!(sentence.contains("the answer is 0, not 1 pairs"), "{sentence}");
+}
+
+#[test]
+fn a_direction_of_zeros_taken_for_absent() {
+    let wrong = Pretended { pairs: answers_of::zeros_absent, ..Pretended::default() };
+    let (call, _) = caught_pairing(wrong);
+    assert_eq!(call.ends(), 2, "not small:\n{call}");
+}
+
+#[test]
+fn workspace_left_dirty() {
+    let wrong = Pretended {
+        after_build: |rooms, call| {
+            if call.lines() > 0 {
+                rooms.workspace.lent()[192 * call.lines() - 1] = 3;
+            }
+        },
+        ..Pretended::default()
+    };
+    let (call, sentence) = caught_building(wrong);
+    assert_small(&call, 1, 0);
+    assert_eq!(sentence, "workspace[191] is 0x3, not 0x0");
+}
+
+#[test]
+fn spare_left_a_negative_zero() {
+    let wrong = Pretended {
+        after_build: |rooms, call| {
+            if !call.coordinates.is_empty() {
+                rooms.spare.lent()[0] = -0.0;
+            }
+        },
+        ..Pretended::default()
+    };
+    let (call, sentence) = caught_building(wrong);
+    assert_small(&call, 1, 1);
+    assert_eq!(sentence, "spare[0] is 0x8000000000000000, not 0x0");
+}
+
+#[test]
+fn written_beyond_the_answer() {
+    let wrong = Pretended {
+        after_build: |rooms, call| {
+            let chains = answers_of::right(call).table.len();
+            if let Some(number) = rooms.table.lent().get_mut(5 * chains) {
+                *number = 12_345;
+            }
+        },
+        ..Pretended::default()
+    };
+    let (call, sentence) = caught_building(wrong);
+    assert_small(&call, 2, 4);
+    assert!(sentence.ends_with("as before the call"), "{sentence}");
+}
+
+#[test]
+fn written_beyond_the_lent_room() {
+    let wrong = Pretended {
+        after_build: |rooms, _| {
+            let members = rooms.members.lent().len();
+            rooms.members.with_guards()[8 + members] = 12_345;
+        },
+        ..Pretended::default()
+    };
+    let (call, sentence) = caught_building(wrong);
+    assert_small(&call, 0, 0);
+    assert!(sentence.contains("which was not lent"), "{sentence}");
+}
+
+#[test]
+fn written_before_the_lent_room() {
+    let wrong = Pretended {
+        after_pairs: |rooms, _| rooms.pairs.with_guards()[7] = 12_345,
+        ..Pretended::default()
+    };
+    let (call, sentence) = caught_pairing(wrong);
+    assert_eq!(call.ends(), 0);
+    assert!(sentence.contains("pairs[-1], which was not lent,"), "{sentence}");
+}
+
+#[test]
+fn pairing_workspace_left_dirty() {
+    let wrong = Pretended {
+        after_pairs: |rooms, call| {
+            if call.ends() > 31 {
+                rooms.workspace.lent()[64 * call.ends() - 1] = 1;
+            }
+        },
+        ..Pretended::default()
+    };
+    let (call, _) = caught_pairing(wrong);
+    assert_eq!(call.ends(), 32, "not small:\n{call}");
+}
+
+#[test]
+fn a_difference_is_printed_as_bits() {
+    let wrong = Pretended { build: answers_of::unturned, ..Pretended::default() };
+    let text = first_difference(&wrong).to_string();
+    assert!(text.contains("made small: marks["), "{text}");
+    assert!(text.contains("3ff0000000000000 (1.0)"), "{text}");
+}

@@ -1,0 +1,239 @@
+/* Building calls: made of bytes, with tables and rooms of any length, and put to the library twice. */
+#include <string.h>
+
+#include "build.h"
+
+enum { MOST_LINES = LOVASUKU_MOST_LINES + 2, MOST_POINTS = LOVASUKU_MOST_POINTS + 2, FEW = 48, MEDIUM = 300 };
+enum { TABLE, MEMBERS, MARKS, MERGED, SPARE, WORKSPACE, ROOMS };
+
+static const size_t width[ROOMS] = {4, 4, 1, 8, 8, 8};
+static struct slice coordinates, counts, groups, kinds, rooms[ROOMS];
+
+/* What is lent beside the call: lengths in elements. */
+struct lengths {
+    size_t numbers, groups, kinds, rooms[ROOMS];
+};
+
+static void make_slices(void) {
+    if (kinds.capacity != 0) {
+        return;
+    }
+    const size_t most[ROOMS] = {LOVASUKU_RECORD * MEDIUM, MEDIUM,          MEDIUM,
+                                2 * MOST_POINTS,          2 * MOST_POINTS, LOVASUKU_LINE_WORKSPACE * MEDIUM};
+    make_input(&coordinates, 2 * MOST_POINTS * sizeof(double));
+    make_input(&counts, MOST_LINES * sizeof(uint32_t));
+    make_input(&groups, MOST_LINES * sizeof(uint32_t));
+    make_input(&kinds, MOST_LINES);
+    for (int room = 0; room < ROOMS; room++) {
+        make_room(&rooms[room], width[room] * (most[room] + 1));
+    }
+}
+
+static size_t next_lines(struct bytes *bytes) {
+    uint8_t size = next_byte(bytes);
+    if (size == 0xff) {
+        return LOVASUKU_MOST_LINES + 1;
+    }
+    return size == 0xfe ? next_below(bytes, MEDIUM) : size % FEW;
+}
+
+/* Writes the lines of the bytes, and beyond them a row of lines end to end. Gives the number of points. */
+static size_t fill_lines(struct bytes *bytes, size_t n, uint64_t *words, uint32_t *count, uint32_t *group,
+                         uint8_t *kind) {
+    static const uint8_t sizes[] = {2, 2, 2, 3, 3, 4, 1, 0};
+    size_t points = 0;
+    for (size_t line = 0; line < n; line++) {
+        bool made = bytes->left > 0;
+        uint8_t flags = next_byte(bytes);
+        count[line] = sizes[flags % 8];
+        group[line] = flags >> 3 & 1;
+        kind[line] = flags < 0xe0 ? 0 : flags < 0xff ? 1 : 2;
+        for (size_t k = 0; k < count[line]; k++) {
+            words[2 * points] = made ? next_word(bytes) : bits_of((double)(line + k));
+            words[2 * points + 1] = made ? next_word(bytes) : 0;
+            points++;
+        }
+    }
+    return points;
+}
+
+/* Counts that do not add up, or a line of too many points, if the bytes say so. Gives the number of points.
+ */
+static size_t damage_counts(struct bytes *bytes, size_t n, size_t points, uint64_t *words, uint32_t *count) {
+    uint8_t flags = next_byte(bytes);
+    if (n == 0) {
+        return points;
+    }
+    if (flags == 0xff) {
+        count[next_below(bytes, n)] += next_below(bytes, 4) * 0x40000000u;
+        count[next_below(bytes, n)] += next_below(bytes, 4) * 0x40000000u + next_below(bytes, 2);
+    } else if (flags == 0xfe && next_byte(bytes) == 0xff) {
+        size_t wanted = LOVASUKU_MOST_POINTS + next_below(bytes, 2);
+        memset(words + 2 * points, 0, 16 * (wanted - points));
+        count[n - 1] += (uint32_t)(wanted - points);
+        return wanted;
+    }
+    return points;
+}
+
+/* Makes a call of bytes and lends its input. */
+static struct building next_building(struct bytes *bytes, struct lengths *lengths) {
+    static uint64_t words[2 * MOST_POINTS + 2];
+    static uint32_t count[MOST_LINES + 1], group[MOST_LINES + 1];
+    static uint8_t kind[MOST_LINES + 1];
+    struct building call = {0};
+    call.n = next_lines(bytes);
+    call.tolerance = double_of(next_word(bytes));
+    call.switch_on = next_byte(bytes) % 2;
+    call.limit = next_limit(bytes);
+    size_t points = fill_lines(bytes, call.n, words, count, group, kind);
+    call.c = damage_counts(bytes, call.n, points, words, count);
+    lengths->numbers = next_length(bytes, 2 * call.c);
+    lengths->groups = next_length(bytes, call.n);
+    lengths->kinds = next_length(bytes, call.n);
+    if (next_byte(bytes) == 0xff) {
+        call.switch_on = next_byte(bytes);
+    }
+    lend_input(&coordinates, 8 * lengths->numbers);
+    lend_input(&counts, 4 * call.n);
+    lend_input(&groups, 4 * lengths->groups);
+    lend_input(&kinds, lengths->kinds);
+    memcpy(coordinates.fill, words, coordinates.bytes);
+    memcpy(counts.fill, count, counts.bytes);
+    memcpy(groups.fill, group, groups.bytes);
+    memcpy(kinds.fill, kind, kinds.bytes);
+    return call;
+}
+
+/* The rooms of a call; short ones where it has too many lines. */
+static void wanted_rooms(const struct building *call, size_t numbers, size_t *wanted) {
+    size_t n = call->n > LOVASUKU_MOST_LINES ? FEW : call->n;
+    const size_t lengths[ROOMS] = {LOVASUKU_RECORD * n, n, n, numbers, numbers, LOVASUKU_LINE_WORKSPACE * n};
+    memcpy(wanted, lengths, sizeof lengths);
+}
+
+static bool any_kind_above_one(void) {
+    for (size_t i = 0; i < kinds.bytes; i++) {
+        if (kinds.fill[i] > 1) {
+            return true;
+        }
+    }
+    return false;
+}
+
+static bool counts_add_up(const struct building *call, size_t numbers) {
+    uint64_t sum = 0;
+    for (size_t i = 0; i < call->n; i++) {
+        sum += ((const uint32_t *)counts.fill)[i];
+    }
+    return 2 * sum == numbers;
+}
+
+/* The number of the first refusal that applies, or 0. */
+static int refusal(const struct building *call, const struct lengths *lengths) {
+    size_t wanted[ROOMS];
+    if (call->n > LOVASUKU_MOST_LINES) {
+        return LOVASUKU_TOO_MANY;
+    }
+    if (lengths->groups != call->n || lengths->kinds != call->n) {
+        return LOVASUKU_TABLES_DIFFER;
+    }
+    if (any_kind_above_one()) {
+        return LOVASUKU_MARK_ABOVE_ONE;
+    }
+    if (!counts_add_up(call, lengths->numbers)) {
+        return LOVASUKU_COUNTS_DO_NOT_ADD_UP;
+    }
+    if (lengths->numbers > 2 * LOVASUKU_MOST_POINTS) {
+        return LOVASUKU_TOO_MANY_COORDINATES;
+    }
+    if (call->switch_on > 1 || (call->switch_on == 1 && limit_is_bad(call->limit))) {
+        return LOVASUKU_BAD_LIMIT;
+    }
+    wanted_rooms(call, lengths->numbers, wanted);
+    for (int room = 0; room < ROOMS; room++) {
+        if (lengths->rooms[room] < wanted[room]) {
+            return LOVASUKU_ROOM_TOO_SHORT;
+        }
+    }
+    return 0;
+}
+
+static int64_t make_call(const struct building *call, const struct lengths *lengths, unsigned char dirt) {
+    for (int room = 0; room < ROOMS; room++) {
+        lend_room(&rooms[room], width[room] * lengths->rooms[room], dirt);
+    }
+    const size_t *room = lengths->rooms;
+    return lovasuku_build(coordinates.lent, lengths->numbers, counts.lent, call->n, groups.lent,
+                          lengths->groups, kinds.lent, lengths->kinds, call->tolerance, call->switch_on,
+                          call->limit, rooms[TABLE].lent, room[TABLE], rooms[MEMBERS].lent, room[MEMBERS],
+                          rooms[MARKS].lent, room[MARKS], rooms[MERGED].lent, room[MERGED], rooms[SPARE].lent,
+                          room[SPARE], rooms[WORKSPACE].lent, room[WORKSPACE]);
+}
+
+/* Requires the rooms of an accepted call to hold the answer and to be otherwise zero or as before. */
+static void require_rooms(struct building *call, const struct lengths *lengths, size_t chains) {
+    call->coordinates = (const uint64_t *)coordinates.fill;
+    call->counts = (const uint32_t *)counts.fill;
+    call->groups = (const uint32_t *)groups.fill;
+    call->kinds = kinds.fill;
+    call->table = (const uint32_t *)rooms[TABLE].fill;
+    call->members = (const uint32_t *)rooms[MEMBERS].fill;
+    call->marks = rooms[MARKS].fill;
+    call->merged = (const uint64_t *)rooms[MERGED].fill;
+    size_t merged = require_built(call, chains);
+    require_untouched_from(&rooms[TABLE], 4 * LOVASUKU_RECORD * chains,
+                           "table is as before beyond what is written");
+    require_untouched_from(&rooms[MEMBERS], 4 * call->n, "members are as before beyond what is written");
+    require_untouched_from(&rooms[MARKS], call->n, "marks are as before beyond what is written");
+    require_untouched_from(&rooms[MERGED], 8 * merged, "merged is as before beyond what is written");
+    require_cleared(&rooms[SPARE], 8 * lengths->numbers, "spare is zero and as before beyond");
+    require_cleared(&rooms[WORKSPACE], 8 * LOVASUKU_LINE_WORKSPACE * call->n,
+                    "workspace is zero and as before beyond");
+    for (size_t k = 0; k <= chains; k++) {
+        size_t numbers = LOVASUKU_RECORD * chains;
+        int64_t answer = lovasuku_chain(coordinates.lent, lengths->numbers, rooms[MERGED].lent, merged,
+                                        rooms[TABLE].lent, numbers, k);
+        require(answer == (k < chains ? 0 : -LOVASUKU_NO_SUCH_CHAIN), "the chain question knows every chain");
+    }
+}
+
+/* A sum over the answer, to compare two calls by. */
+static uint64_t sum_of_answer(const struct building *call, size_t chains) {
+    const size_t written[] = {4 * LOVASUKU_RECORD * chains, 4 * call->n, call->n};
+    uint64_t sum = chains;
+    for (int room = TABLE; room <= MARKS; room++) {
+        for (size_t i = 0; i < written[room]; i++) {
+            sum = (sum ^ rooms[room].fill[i]) * 0x100000001b3;
+        }
+    }
+    return sum;
+}
+
+void fuzz_build(struct bytes *bytes) {
+    make_slices();
+    struct lengths lengths;
+    struct building call = next_building(bytes, &lengths);
+    wanted_rooms(&call, lengths.numbers, lengths.rooms);
+    for (int room = 0; room < ROOMS; room++) {
+        lengths.rooms[room] = next_length(bytes, lengths.rooms[room]);
+    }
+    unsigned char dirt = next_byte(bytes);
+    int64_t answer = make_call(&call, &lengths, dirt);
+    int expected = refusal(&call, &lengths);
+    require(expected == 0 ? answer >= 0 : answer == -expected, "the first refusal that applies is given");
+    seen(answer < 0 ? 256 + (unsigned)-answer : 320 + (unsigned)(answer < 63 ? answer : 63));
+    if (answer < 0) {
+        for (int room = 0; room < ROOMS; room++) {
+            require_untouched_from(&rooms[room], 0, "a refused call leaves every room as it was");
+        }
+        return;
+    }
+    require_rooms(&call, &lengths, (size_t)answer);
+    uint64_t sum = sum_of_answer(&call, (size_t)answer);
+    seen(1024 + (unsigned)(sum % 1024));
+    require(make_call(&call, &lengths, (unsigned char)~dirt) == answer, "the same call has the same answer");
+    require_rooms(&call, &lengths, (size_t)answer);
+    require(sum_of_answer(&call, (size_t)answer) == sum,
+            "the same call has the same answer, whatever stood in its rooms");
+}

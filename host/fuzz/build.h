@@ -1,0 +1,25 @@
+/* A building call, and what is required of its answer. */
+#ifndef BUILD_H
+#define BUILD_H
+
+#include "check.h"
+
+/* A call, with what is lent to it. Lengths are in elements. */
+struct building {
+    const uint64_t *coordinates;
+    const uint32_t *counts, *groups;
+    const uint8_t *kinds;
+    size_t n, c;
+    double tolerance, limit;
+    uint8_t switch_on;
+    /* The rooms as an accepted call has left them. */
+    const uint32_t *table, *members;
+    const uint8_t *marks;
+    const uint64_t *merged;
+};
+
+/* Requires the answer of an accepted call to be well formed. Gives the numbers of merged that were written.
+ */
+size_t require_built(const struct building *call, size_t chains);
+
+#endif

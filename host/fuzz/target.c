@@ -1,0 +1,119 @@
+/* The fuzz target: the first byte says which call is made, the others what of. */
+#include <stdio.h>
+#include <stdlib.h>
+#include <string.h>
+
+#include "check.h"
+
+int LLVMFuzzerTestOneInput(const uint8_t *data, size_t size);
+
+/* libFuzzer reads these beside the coverage of the harness, since the library itself is not instrumented. */
+__attribute__((section("__libfuzzer_extra_counters"))) static uint8_t counters[4096];
+
+void seen(unsigned what) {
+    counters[what % sizeof counters] = 1;
+}
+
+void fail(const char *sentence) {
+    fprintf(stderr, "does not hold: %s\n", sentence);
+    abort();
+}
+
+uint8_t next_byte(struct bytes *bytes) {
+    if (bytes->left == 0) {
+        return 0;
+    }
+    bytes->left--;
+    return *bytes->at++;
+}
+
+size_t next_below(struct bytes *bytes, size_t bound) {
+    size_t number = next_byte(bytes);
+    if (bound > 256) {
+        number = number << 8 | next_byte(bytes);
+    }
+    return number % bound;
+}
+
+double double_of(uint64_t bits) {
+    double number;
+    memcpy(&number, &bits, sizeof number);
+    return number;
+}
+
+uint64_t bits_of(double number) {
+    uint64_t bits;
+    memcpy(&bits, &number, sizeof bits);
+    return bits;
+}
+
+size_t next_length(struct bytes *bytes, size_t wanted) {
+    switch (next_byte(bytes)) {
+    case 0xff:
+        return wanted > 0 ? wanted - 1 : 0;
+    case 0xfe:
+        return 0;
+    case 0xfd:
+    case 0xfc:
+        return wanted + 1;
+    default:
+        return wanted;
+    }
+}
+
+/* NaN of several payloads, infinities, and the powers of two at which a direction's length overflows or
+ * vanishes. */
+static const uint64_t edges[] = {
+    0x7ff8000000000000, 0x7ff8000000000001, 0xfff4000000000000, 0x7ff0000000000000, 0xfff0000000000000,
+    0x0000000000000001, 0x8000000000000001, 0x0010000000000000, 0x1e50000000000000, 0x1e60000000000000,
+    0x43e0000000000000, 0xc3e0000000000000, 0x5fe0000000000000, 0x5ff0000000000000, 0x7fefffffffffffff,
+};
+
+/* Places that lie in few cells. */
+static const double places[] = {0.0, -0.0,  1.0,  -1.0, 2.0, -2.0, 3.0,  0.25,
+                                0.5, -0.25, 1.25, 1.75, 3.5, 4.5,  1e-9, 1e9};
+
+uint64_t next_word(struct bytes *bytes) {
+    uint8_t choice = next_byte(bytes);
+    if (choice < 0xc0) {
+        return bits_of(places[choice % (sizeof places / sizeof *places)]);
+    }
+    if (choice < 0xf0) {
+        return edges[choice % (sizeof edges / sizeof *edges)];
+    }
+    uint64_t word = 0;
+    for (int i = 0; i < 8; i++) {
+        word = word << 8 | next_byte(bytes);
+    }
+    return word;
+}
+
+double next_limit(struct bytes *bytes) {
+    static const double limits[] = {-1.0, -0.5, -0.0, 0.0, 0.5, 1.0, -0.70710678118654752, -0.9};
+    uint8_t choice = next_byte(bytes);
+    if (choice < 0xe0) {
+        return limits[choice % (sizeof limits / sizeof *limits)];
+    }
+    return double_of(next_word(bytes));
+}
+
+bool limit_is_bad(double limit) {
+    return !(limit >= -1.0 && limit <= 1.0);
+}
+
+int LLVMFuzzerTestOneInput(const uint8_t *data, size_t size) {
+    struct bytes bytes = {data, size};
+    switch (next_byte(&bytes) % 8) {
+    case 0:
+        fuzz_chain(&bytes);
+        break;
+    case 1:
+    case 2:
+    case 3:
+        fuzz_pairs(&bytes);
+        break;
+    default:
+        fuzz_build(&bytes);
+    }
+    return 0;
+}

@@ -1,0 +1,179 @@
+//! The chains of an accepted building call.
+
+use crate::size::{POINT, RECORD};
+use crate::two::by_two;
+use crate::Lines;
+use std::slice::ChunksExact;
+
+/// The chains of an accepted building call, borrowed from the rooms and from the caller's lines.
+///
+/// Every line stands in exactly one chain.
+#[derive(Clone, Copy, Debug)]
+pub struct Chains<'a> {
+    pub(crate) lines: Lines<'a>,
+    pub(crate) table: &'a [u32],
+    pub(crate) members: &'a [u32],
+    pub(crate) marks: &'a [u8],
+    pub(crate) merged: &'a [f64],
+}
+
+impl<'a> Chains<'a> {
+    /// The number of chains.
+    pub fn len(&self) -> usize {
+        self.table.len() / RECORD
+    }
+
+    /// True where there is no chain, which is where there was no line.
+    pub fn is_empty(&self) -> bool {
+        self.table.is_empty()
+    }
+
+    /// Chain k, if there is one.
+    pub fn get(&self, k: usize) -> Option<Chain<'a>> {
+        let first = k.checked_mul(RECORD)?;
+        let record = self.table.get(first..first.checked_add(RECORD)?)?;
+        Some(self.chain(record))
+    }
+
+    /// The chains in their order.
+    pub fn iter(&self) -> Iter<'a> {
+        Iter { chains: *self, records: self.table.chunks_exact(RECORD) }
+    }
+
+    /// The records of all chains, five numbers each: first member, member count, source (0 the
+    /// caller's coordinates, 1 the merged ones), first coordinate, coordinate count.
+    pub fn table(&self) -> &'a [u32] {
+        self.table
+    }
+
+    /// The members of all chains, one chain after another: positions of lines.
+    pub fn members(&self) -> &'a [u32] {
+        self.members
+    }
+
+    /// The turned mark of every member, in the members' order.
+    pub fn marks(&self) -> &'a [u8] {
+        self.marks
+    }
+
+    /// The coordinates of all chains of several lines, one chain after another.
+    pub fn merged(&self) -> &'a [f64] {
+        let end = |record: &[u32]| match *record {
+            [_, _, 1, first, count] => POINT * (first as usize + count as usize),
+            _ => 0,
+        };
+        let length = self.table.chunks_exact(RECORD).map(end).max().unwrap_or(0);
+        self.merged.get(..length).unwrap_or_default()
+    }
+
+    /// The lines of the call.
+    pub fn lines(&self) -> Lines<'a> {
+        self.lines
+    }
+
+    fn chain(&self, record: &[u32]) -> Chain<'a> {
+        let [member, members, source, first, count] = match *record {
+            [member, members, source, first, count] => [member, members, source, first, count],
+            _ => [0; RECORD],
+        };
+        let merged = source == 1;
+        let from = if merged { self.merged } else { self.lines.coordinates };
+        Chain {
+            members: part(self.members, member, members, 1),
+            marks: part(self.marks, member, members, 1),
+            coordinates: part(from, first, count, POINT),
+            merged,
+        }
+    }
+}
+
+/// A part of a slice, counted in units of the given width. The records of an accepted call always
+/// name a part that is there.
+pub(crate) fn part<T>(from: &[T], first: u32, count: u32, width: usize) -> &[T] {
+    let first = width * first as usize;
+    let length = width * count as usize;
+    from.get(first..).and_then(|rest| rest.get(..length)).unwrap_or_default()
+}
+
+impl<'a> IntoIterator for Chains<'a> {
+    type Item = Chain<'a>;
+    type IntoIter = Iter<'a>;
+
+    fn into_iter(self) -> Iter<'a> {
+        self.iter()
+    }
+}
+
+impl<'a> IntoIterator for &Chains<'a> {
+    type Item = Chain<'a>;
+    type IntoIter = Iter<'a>;
+
+    fn into_iter(self) -> Iter<'a> {
+        self.iter()
+    }
+}
+
+/// The chains of a call in their order.
+#[derive(Clone, Debug)]
+pub struct Iter<'a> {
+    chains: Chains<'a>,
+    records: ChunksExact<'a, u32>,
+}
+
+impl<'a> Iterator for Iter<'a> {
+    type Item = Chain<'a>;
+
+    fn next(&mut self) -> Option<Chain<'a>> {
+        self.records.next().map(|record| self.chains.chain(record))
+    }
+
+    fn size_hint(&self) -> (usize, Option<usize>) {
+        self.records.size_hint()
+    }
+}
+
+impl ExactSizeIterator for Iter<'_> {}
+
+/// One chain: its members, their turned marks and its coordinates, none of them copied.
+#[derive(Clone, Copy, Debug, PartialEq)]
+pub struct Chain<'a> {
+    members: &'a [u32],
+    marks: &'a [u8],
+    coordinates: &'a [f64],
+    merged: bool,
+}
+
+impl<'a> Chain<'a> {
+    /// The positions of its lines. Within a piece of several lines that was walked backwards they
+    /// stand in the piece's own order, not in that of the coordinates.
+    pub fn members(&self) -> &'a [u32] {
+        self.members
+    }
+
+    /// The turned mark of each member: 1 where the piece that held the line was entered at its
+    /// last coordinate in the last round that ran.
+    pub fn marks(&self) -> &'a [u8] {
+        self.marks
+    }
+
+    /// The turned marks as truths.
+    pub fn turned(&self) -> impl ExactSizeIterator<Item = bool> + 'a {
+        self.marks.iter().map(|&mark| mark == 1)
+    }
+
+    /// x, y, x, y .. of the chain: a part of the caller's coordinates for a chain of one line, and
+    /// of the merged ones for any other.
+    pub fn coordinates(&self) -> &'a [f64] {
+        self.coordinates
+    }
+
+    /// The same coordinates as points.
+    pub fn points(&self) -> &'a [[f64; POINT]] {
+        by_two(self.coordinates)
+    }
+
+    /// True where the chain has several lines, false where it is a line of the caller's, untouched.
+    pub fn is_merged(&self) -> bool {
+        self.merged
+    }
+}

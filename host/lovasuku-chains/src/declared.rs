@@ -1,0 +1,97 @@
+//! The functions of the library, as `include/lovasuku.h` declares them: each slice is a pointer
+//! and a length in elements.
+
+/// The pairing routes share this form.
+pub type PairsFunction = unsafe extern "C" fn(
+    present: *const u8,
+    present_length: usize,
+    directions: *const f64,
+    directions_length: usize,
+    pieces: *const u32,
+    pieces_length: usize,
+    limit: f64,
+    pairs: *mut u32,
+    pairs_length: usize,
+    workspace: *mut u64,
+    workspace_length: usize,
+) -> i64;
+
+extern "C" {
+    pub fn lovasuku_build(
+        coordinates: *const f64,
+        coordinates_length: usize,
+        counts: *const u32,
+        counts_length: usize,
+        groups: *const u32,
+        groups_length: usize,
+        kinds: *const u8,
+        kinds_length: usize,
+        tolerance: f64,
+        switch: u8,
+        limit: f64,
+        table: *mut u32,
+        table_length: usize,
+        members: *mut u32,
+        members_length: usize,
+        marks: *mut u8,
+        marks_length: usize,
+        merged: *mut f64,
+        merged_length: usize,
+        spare: *mut f64,
+        spare_length: usize,
+        workspace: *mut u64,
+        workspace_length: usize,
+    ) -> i64;
+
+    pub fn lovasuku_pairs_plain(
+        present: *const u8,
+        present_length: usize,
+        directions: *const f64,
+        directions_length: usize,
+        pieces: *const u32,
+        pieces_length: usize,
+        limit: f64,
+        pairs: *mut u32,
+        pairs_length: usize,
+        workspace: *mut u64,
+        workspace_length: usize,
+    ) -> i64;
+
+    pub fn lovasuku_pairs_indexed(
+        present: *const u8,
+        present_length: usize,
+        directions: *const f64,
+        directions_length: usize,
+        pieces: *const u32,
+        pieces_length: usize,
+        limit: f64,
+        pairs: *mut u32,
+        pairs_length: usize,
+        workspace: *mut u64,
+        workspace_length: usize,
+    ) -> i64;
+
+    pub fn lovasuku_pairs_chosen(
+        present: *const u8,
+        present_length: usize,
+        directions: *const f64,
+        directions_length: usize,
+        pieces: *const u32,
+        pieces_length: usize,
+        limit: f64,
+        pairs: *mut u32,
+        pairs_length: usize,
+        workspace: *mut u64,
+        workspace_length: usize,
+    ) -> i64;
+
+    pub fn lovasuku_chain(
+        coordinates: *const f64,
+        coordinates_length: usize,
+        merged: *const f64,
+        merged_length: usize,
+        table: *const u32,
+        table_length: usize,
+        k: u64,
+    ) -> i64;
+}

@@ -1,0 +1,125 @@
+//! The door itself: one function for each call of the library, on slices, with its bare answer.
+//!
+//! Most callers want [`Rooms`](crate::Rooms), which lends the rooms and names the refusals. These
+//! functions are for tests, benchmarks and hosts that lend rooms of their own. The library tests
+//! every number and every length that it is given, so any slices whatever may be lent. An answer
+//! from 0 up is a result, and an answer below 0 is minus the number of a refusal.
+//!
+//! Each unsafe line passes pointers and lengths of live slices, of which the mutable ones lie apart
+//! from all others, so the library may read and write all that it is told of.
+#![allow(unsafe_code)]
+
+use crate::declared::{self, PairsFunction};
+use crate::{Ends, Lines, Refusal, Route};
+
+/// Tolerance, switch and limit as they are lent, unchecked.
+#[derive(Clone, Copy, Debug, PartialEq)]
+pub struct RawSettings {
+    /// The snap tolerance.
+    pub tolerance: f64,
+    /// 1 where junctions are paired, 0 where they are not.
+    pub switch: u8,
+    /// The limit; not looked at where the switch is 0.
+    pub limit: f64,
+}
+
+/// The rooms of a building call, for n lines and c coordinates (pairs of x and y).
+#[derive(Debug)]
+pub struct BuildRooms<'a> {
+    /// 5 n numbers: the chains' records.
+    pub table: &'a mut [u32],
+    /// n numbers: the members of all chains.
+    pub members: &'a mut [u32],
+    /// n bytes: the members' turned marks.
+    pub marks: &'a mut [u8],
+    /// 2 c numbers: the coordinates of the chains of several lines.
+    pub merged: &'a mut [f64],
+    /// 2 c numbers, 0 after an accepted call.
+    pub spare: &'a mut [f64],
+    /// 192 n words, 0 after an accepted call.
+    pub workspace: &'a mut [u64],
+}
+
+/// The rooms of a pairing call, for d ends.
+#[derive(Debug)]
+pub struct PairRooms<'a> {
+    /// d numbers: the selected pairs, two numbers each.
+    pub pairs: &'a mut [u32],
+    /// 64 d words, 0 after an accepted call.
+    pub workspace: &'a mut [u64],
+}
+
+/// The result of an answer, or its refusal.
+pub fn result(answer: i64) -> Result<u64, Refusal> {
+    u64::try_from(answer).map_err(|_| Refusal::of_number(answer.wrapping_neg()))
+}
+
+/// Builds the chains. The result is their number.
+pub fn build(lines: Lines<'_>, settings: RawSettings, rooms: BuildRooms<'_>) -> i64 {
+    unsafe {
+        declared::lovasuku_build(
+            lines.coordinates.as_ptr(),
+            lines.coordinates.len(),
+            lines.counts.as_ptr(),
+            lines.counts.len(),
+            lines.groups.as_ptr(),
+            lines.groups.len(),
+            lines.kinds.as_ptr(),
+            lines.kinds.len(),
+            settings.tolerance,
+            settings.switch,
+            settings.limit,
+            rooms.table.as_mut_ptr(),
+            rooms.table.len(),
+            rooms.members.as_mut_ptr(),
+            rooms.members.len(),
+            rooms.marks.as_mut_ptr(),
+            rooms.marks.len(),
+            rooms.merged.as_mut_ptr(),
+            rooms.merged.len(),
+            rooms.spare.as_mut_ptr(),
+            rooms.spare.len(),
+            rooms.workspace.as_mut_ptr(),
+            rooms.workspace.len(),
+        )
+    }
+}
+
+/// Selects pairs of ends by a route. The result is their number.
+pub fn pairs(route: Route, ends: Ends<'_>, limit: f64, rooms: PairRooms<'_>) -> i64 {
+    let function: PairsFunction = match route {
+        Route::Plain => declared::lovasuku_pairs_plain,
+        Route::Indexed => declared::lovasuku_pairs_indexed,
+        Route::Chosen => declared::lovasuku_pairs_chosen,
+    };
+    unsafe {
+        function(
+            ends.present.as_ptr(),
+            ends.present.len(),
+            ends.directions.as_ptr(),
+            ends.directions.len(),
+            ends.pieces.as_ptr(),
+            ends.pieces.len(),
+            limit,
+            rooms.pairs.as_mut_ptr(),
+            rooms.pairs.len(),
+            rooms.workspace.as_mut_ptr(),
+            rooms.workspace.len(),
+        )
+    }
+}
+
+/// Asks whether record k of a table names a chain. The result is 0.
+pub fn chain(coordinates: &[f64], merged: &[f64], table: &[u32], k: u64) -> i64 {
+    unsafe {
+        declared::lovasuku_chain(
+            coordinates.as_ptr(),
+            coordinates.len(),
+            merged.as_ptr(),
+            merged.len(),
+            table.as_ptr(),
+            table.len(),
+            k,
+        )
+    }
+}

@@ -1,0 +1,62 @@
+//! Joins lines into chains by rules that are written down and proved.
+//!
+//! A building call takes lines and gives chains: each line stands in exactly one of them, and
+//! their members, order and coordinates are those of the rules, bit for bit. The work is done by
+//! the verified library behind the [`door`]; this crate lends it rooms, gives names to its numbers
+//! and adds nothing to what it decides.
+//!
+//! ```
+//! use lovasuku_chains::{LinesBuf, Rooms, Settings};
+//!
+//! # fn main() -> Result<(), lovasuku_chains::Refusal> {
+//! // Three roads, the second drawn toward the first, with a gap between 1.25 and 1.75.
+//! let mut roads = LinesBuf::default();
+//! roads.push([[0.0, 0.0], [1.25, 0.0]], 0);
+//! roads.push([[4.5, 0.0], [3.5, 0.0]], 0);
+//! roads.push([[3.5, 0.0], [1.75, 0.0]], 0);
+//!
+//! let mut rooms = Rooms::default();
+//! let settings = Settings::default().with_tolerance(1.0);
+//! for chain in rooms.build(roads.lines(), settings)? {
+//!     assert_eq!(chain.members(), [0, 1, 2]);
+//!     assert_eq!(chain.coordinates(), [0.0, 0.0, 1.25, 0.0, 1.75, 0.0, 3.5, 0.0, 4.5, 0.0]);
+//! }
+//! # Ok(())
+//! # }
+//! ```
+//!
+//! | To | use |
+//! |---|---|
+//! | join lines | [`Rooms::build`], which gives [`Chains`] |
+//! | pair the ends at one node | [`Rooms::pairs`] |
+//! | look up a chain in a stored table | [`chain_question`], [`chain_coordinates`] |
+//! | keep the chains, as tylertoo does | [`build_chains`] |
+//! | lend rooms of one's own | [`door`] |
+//!
+//! No function panics, and none asks its caller for unsafe code. Rooms are lent again and again:
+//! once they have grown, building and pairing allocate nothing.
+
+#![deny(missing_docs)]
+#![deny(unsafe_code)]
+
+mod chains;
+mod declared;
+pub mod door;
+mod lines;
+mod owned;
+mod pairing;
+mod question;
+mod refusal;
+mod rooms;
+mod settings;
+pub mod size;
+mod two;
+
+pub use chains::{Chain, Chains, Iter};
+pub use lines::{Lines, LinesBuf, PASSING, PLAIN};
+pub use owned::{build_chains, LineInput, OwnedChain};
+pub use pairing::{Ends, Route};
+pub use question::{chain_coordinates, chain_question};
+pub use refusal::Refusal;
+pub use rooms::Rooms;
+pub use settings::{limit_of_bend, Settings};

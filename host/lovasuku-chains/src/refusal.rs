@@ -1,0 +1,124 @@
+//! Why a call was turned away.
+
+use std::error::Error;
+use std::fmt;
+
+/// Why a call was turned away. A refused call reports nothing and stores nothing.
+///
+/// The refusals are tested in the order of their numbers, and the first that applies is given.
+///
+/// ```
+/// use lovasuku_chains::Refusal;
+///
+/// assert_eq!(Refusal::CountsDoNotAddUp.number(), 4);
+/// assert_eq!(
+///     Refusal::CountsDoNotAddUp.to_string(),
+///     "the counts do not add up to half the number of coordinates (refusal 4)"
+/// );
+/// ```
+#[derive(Clone, Copy, Debug, PartialEq, Eq, Hash)]
+pub enum Refusal {
+    /// 1: more than 4,096 lines, or, for pairing, more than 8,192 ends.
+    TooMany,
+    /// 2: the tables differ in length: one number of each per line, or per end one presence mark
+    /// and two direction numbers.
+    TablesDiffer,
+    /// 3: a kind or a presence mark is above 1.
+    MarkAboveOne,
+    /// 4: the counts do not add up to half the number of coordinates.
+    CountsDoNotAddUp,
+    /// 5: more than 65,536 coordinates, counted in pairs.
+    TooManyCoordinates,
+    /// 6: the limit is NaN, below -1 or above 1. At the [`door`](crate::door) also: the switch is
+    /// above 1.
+    BadLimit,
+    /// 7: a room is too short. [`Rooms`](crate::Rooms) never lends one that is.
+    RoomTooShort,
+    /// 8: a piece number occurs more than twice.
+    PieceTooOften,
+    /// 9: the indexed route was given a present direction that is not finite.
+    NotFinite,
+    /// 10: there is no such chain.
+    NoSuchChain,
+    /// A number that this crate does not know: the library is of another version.
+    Unknown(i64),
+}
+
+impl Refusal {
+    /// The refusal of a number.
+    pub fn of_number(number: i64) -> Self {
+        match number {
+            1 => Refusal::TooMany,
+            2 => Refusal::TablesDiffer,
+            3 => Refusal::MarkAboveOne,
+            4 => Refusal::CountsDoNotAddUp,
+            5 => Refusal::TooManyCoordinates,
+            6 => Refusal::BadLimit,
+            7 => Refusal::RoomTooShort,
+            8 => Refusal::PieceTooOften,
+            9 => Refusal::NotFinite,
+            10 => Refusal::NoSuchChain,
+            unknown => Refusal::Unknown(unknown),
+        }
+    }
+
+    /// Its number in the rules.
+    pub fn number(self) -> i64 {
+        match self {
+            Refusal::TooMany => 1,
+            Refusal::TablesDiffer => 2,
+            Refusal::MarkAboveOne => 3,
+            Refusal::CountsDoNotAddUp => 4,
+            Refusal::TooManyCoordinates => 5,
+            Refusal::BadLimit => 6,
+            Refusal::RoomTooShort => 7,
+            Refusal::PieceTooOften => 8,
+            Refusal::NotFinite => 9,
+            Refusal::NoSuchChain => 10,
+            Refusal::Unknown(unknown) => unknown,
+        }
+    }
+
+    /// What is wrong with the call, as a sentence without its number.
+    pub fn sentence(self) -> &'static str {
+        match self {
+            Refusal::TooMany => "there are more than 4,096 lines or more than 8,192 ends",
+            Refusal::TablesDiffer => "the tables of the lines or ends differ in length",
+            Refusal::MarkAboveOne => "a kind or a presence mark is neither 0 nor 1",
+            Refusal::CountsDoNotAddUp => {
+                "the counts do not add up to half the number of coordinates"
+            }
+            Refusal::TooManyCoordinates => "there are more than 65,536 coordinates",
+            Refusal::BadLimit => "the limit is not a number from -1 to 1",
+            Refusal::RoomTooShort => "a room is too short",
+            Refusal::PieceTooOften => "a piece number occurs more than twice",
+            Refusal::NotFinite => {
+                "a direction is not finite, which the indexed route does not take"
+            }
+            Refusal::NoSuchChain => "there is no such chain",
+            Refusal::Unknown(_) => "the library refused the call for a reason unknown here",
+        }
+    }
+}
+
+impl fmt::Display for Refusal {
+    fn fmt(&self, f: &mut fmt::Formatter<'_>) -> fmt::Result {
+        write!(f, "{} (refusal {})", self.sentence(), self.number())
+    }
+}
+
+impl Error for Refusal {}
+
+#[cfg(test)]
+mod tests {
+    use super::Refusal;
+
+    #[test]
+    fn numbers_go_there_and_back() {
+        for number in 1..=30 {
+            let refusal = Refusal::of_number(number);
+            assert_eq!(refusal.number(), number);
+            assert_eq!(number > 10, matches!(refusal, Refusal::Unknown(_)));
+        }
+    }
+}

@@ -1,0 +1,175 @@
+//! The rooms that are lent to every call.
+
+use crate::chains::Chains;
+use crate::door::{self, BuildRooms, PairRooms, RawSettings};
+use crate::size::{
+    END_WORKSPACE, LINE_WORKSPACE, MOST_ENDS, MOST_LINES, MOST_POINTS, POINT, RECORD,
+};
+use crate::two::by_two;
+use crate::{Ends, Lines, Refusal, Route, Settings};
+
+/// The rooms that are lent to every call, again and again.
+///
+/// They grow where a call needs more than any before it, and never shrink, so that a run of calls
+/// soon allocates nothing: 1,561 bytes for each line and 32 for each coordinate of the largest
+/// call, at most 8.5 megabytes.
+///
+/// ```
+/// use lovasuku_chains::{Lines, Rooms, Settings};
+///
+/// # fn main() -> Result<(), lovasuku_chains::Refusal> {
+/// let lines = Lines {
+///     coordinates: &[1.0, 0.0, 0.0, 0.0, 1.0, 0.0, 2.0, 0.0],
+///     counts: &[2, 2],
+///     groups: &[0, 0],
+///     kinds: &[0, 0],
+/// };
+/// let mut rooms = Rooms::default();
+/// let chains = rooms.build(lines, Settings::default())?;
+/// let chain = chains.get(0).unwrap();
+/// assert_eq!(chain.members(), [1, 0]);
+/// assert_eq!(chain.marks(), [1, 0]);
+/// assert_eq!(chain.points(), [[2.0, 0.0], [1.0, 0.0], [0.0, 0.0]]);
+/// # Ok(())
+/// # }
+/// ```
+#[derive(Clone, Debug, Default)]
+pub struct Rooms {
+    table: Vec<u32>,
+    members: Vec<u32>,
+    marks: Vec<u8>,
+    merged: Vec<f64>,
+    spare: Vec<f64>,
+    pairs: Vec<u32>,
+    workspace: Vec<u64>,
+}
+
+impl Rooms {
+    /// Rooms without length, which the first call makes grow.
+    pub fn new() -> Self {
+        Rooms::default()
+    }
+
+    /// Rooms for building calls of up to so many lines and coordinates.
+    pub fn for_building(lines: usize, points: usize) -> Self {
+        let mut rooms = Rooms::default();
+        rooms.grow_for_building(lines.min(MOST_LINES), POINT * points.min(MOST_POINTS));
+        rooms
+    }
+
+    /// Rooms for pairing calls of up to so many ends.
+    pub fn for_pairing(ends: usize) -> Self {
+        let mut rooms = Rooms::default();
+        rooms.grow_for_pairing(ends.min(MOST_ENDS));
+        rooms
+    }
+
+    /// Joins lines into chains.
+    ///
+    /// Round one joins ends that agree bit for bit in x, y and group. Round two, where the
+    /// tolerance is above 0, joins the ends of what round one left that lie in one cell. Two ends
+    /// that meet are joined at any angle; of three or more the straightest pairs are, if a limit
+    /// is set. The chains borrow from the lines and from these rooms.
+    ///
+    /// # Errors
+    ///
+    /// The first of these that applies: [`Refusal::TooMany`], [`Refusal::TablesDiffer`],
+    /// [`Refusal::MarkAboveOne`], [`Refusal::CountsDoNotAddUp`], [`Refusal::TooManyCoordinates`],
+    /// [`Refusal::BadLimit`].
+    pub fn build<'a>(
+        &'a mut self,
+        lines: Lines<'a>,
+        settings: Settings,
+    ) -> Result<Chains<'a>, Refusal> {
+        lines.test_lengths()?;
+        let (n, numbers) = (lines.len(), lines.coordinates.len());
+        // Beyond this many numbers the call is refused by its counts or its coordinates, which
+        // are tested before the rooms.
+        self.grow_for_building(n, numbers.min(POINT * MOST_POINTS));
+        let (switch, limit) = settings.switch_and_limit();
+        let raw = RawSettings { tolerance: settings.tolerance, switch, limit };
+        let rooms = BuildRooms {
+            table: &mut self.table,
+            members: &mut self.members,
+            marks: &mut self.marks,
+            merged: &mut self.merged,
+            spare: &mut self.spare,
+            workspace: &mut self.workspace,
+        };
+        let chains = door::result(door::build(lines, raw, rooms))? as usize;
+        Ok(Chains {
+            lines,
+            table: first(&self.table, RECORD * chains),
+            members: first(&self.members, n),
+            marks: first(&self.marks, n),
+            merged: &self.merged,
+        })
+    }
+
+    /// Selects, of the ends at one node, the pairs that continue each other best.
+    ///
+    /// A pair's measure is the dot product of its two directions, held within -1 to 1. Over all
+    /// ends of different pieces that have a direction, the pairs with a measure at or below the
+    /// limit are taken in order of measure, then of the lower end, then of the higher one, each if
+    /// neither of its ends is taken. Each pair has its lower end first.
+    ///
+    /// ```
+    /// use lovasuku_chains::{Ends, Rooms, Route};
+    ///
+    /// # fn main() -> Result<(), lovasuku_chains::Refusal> {
+    /// let ends = Ends {
+    ///     present: &[1, 1, 1, 1],
+    ///     directions: &[1.0, 0.0, -1.0, 0.0, 0.0, 1.0, 1.0, 0.0],
+    ///     pieces: &[0, 1, 2, 3],
+    /// };
+    /// let mut rooms = Rooms::default();
+    /// assert_eq!(rooms.pairs(Route::Chosen, ends, -1.0)?, [[0, 1]]);
+    /// assert_eq!(rooms.pairs(Route::Chosen, ends, 0.0)?, [[0, 1], [2, 3]]);
+    /// # Ok(())
+    /// # }
+    /// ```
+    ///
+    /// # Errors
+    ///
+    /// The first of these that applies: [`Refusal::TooMany`], [`Refusal::TablesDiffer`],
+    /// [`Refusal::MarkAboveOne`], [`Refusal::BadLimit`], [`Refusal::PieceTooOften`], and for the
+    /// indexed route [`Refusal::NotFinite`].
+    pub fn pairs(
+        &mut self,
+        route: Route,
+        ends: Ends<'_>,
+        limit: f64,
+    ) -> Result<&[[u32; 2]], Refusal> {
+        ends.test_lengths()?;
+        self.grow_for_pairing(ends.len());
+        let rooms = PairRooms { pairs: &mut self.pairs, workspace: &mut self.workspace };
+        let pairs = door::result(door::pairs(route, ends, limit, rooms))? as usize;
+        Ok(first(by_two(&self.pairs), pairs))
+    }
+
+    fn grow_for_building(&mut self, lines: usize, numbers: usize) {
+        grow(&mut self.table, RECORD * lines);
+        grow(&mut self.members, lines);
+        grow(&mut self.marks, lines);
+        grow(&mut self.merged, numbers);
+        grow(&mut self.spare, numbers);
+        grow(&mut self.workspace, LINE_WORKSPACE * lines);
+    }
+
+    fn grow_for_pairing(&mut self, ends: usize) {
+        grow(&mut self.pairs, ends);
+        grow(&mut self.workspace, END_WORKSPACE * ends);
+    }
+}
+
+/// Makes a room at least so long.
+fn grow<T: Clone + Default>(room: &mut Vec<T>, length: usize) {
+    if room.len() < length {
+        room.resize(length, T::default());
+    }
+}
+
+/// The first so many of a slice, all where it has fewer.
+fn first<T>(of: &[T], count: usize) -> &[T] {
+    of.get(..count).unwrap_or(of)
+}

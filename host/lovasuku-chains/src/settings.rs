@@ -1,0 +1,72 @@
+//! What a building call is asked for beside its lines.
+
+/// The snap tolerance, and whether and how far junctions are paired.
+///
+/// ```
+/// use lovasuku_chains::Settings;
+///
+/// let exact = Settings::default();
+/// let coarse = exact.with_tolerance(25.0).with_limit(-0.5);
+/// assert_eq!(exact, Settings { tolerance: 0.0, limit: None });
+/// assert_eq!(coarse, Settings { tolerance: 25.0, limit: Some(-0.5) });
+/// ```
+#[derive(Clone, Copy, Debug, Default, PartialEq)]
+pub struct Settings {
+    /// The side of the square cells within which ends meet in round two. Round two runs only
+    /// where this is above 0; no tolerance is refused, NaN and infinities included.
+    pub tolerance: f64,
+    /// Where given, ends at junctions of three or more are paired, straightest first, as long as
+    /// the dot product of their two unit directions is at or below it: -1 takes only a straight
+    /// continuation, 0 a right angle too, 1 any turn. Refused where it is not from -1 to 1.
+    pub limit: Option<f64>,
+}
+
+impl Settings {
+    /// The same with another tolerance.
+    pub fn with_tolerance(self, tolerance: f64) -> Self {
+        Settings { tolerance, ..self }
+    }
+
+    /// The same with junctions paired up to a limit.
+    pub fn with_limit(self, limit: f64) -> Self {
+        Settings { limit: Some(limit), ..self }
+    }
+
+    /// The same with junctions paired up to a bend in degrees, by [`limit_of_bend`].
+    pub fn with_bend(self, degrees: f64) -> Self {
+        Settings { limit: limit_of_bend(degrees), ..self }
+    }
+
+    /// The switch and the limit as the door takes them.
+    pub(crate) fn switch_and_limit(self) -> (u8, f64) {
+        match self.limit {
+            Some(limit) => (1, limit),
+            None => (0, 0.0),
+        }
+    }
+}
+
+/// The limit that a bend in degrees stands for: 0 and below, and NaN, pair no junction, 90 is
+/// limit 0, 180 and above is limit 1.
+///
+/// Between these the limit comes from the sine of the platform's library, whose last bit no
+/// standard fixes. A caller for whom that bit matters states the limit itself.
+///
+/// ```
+/// use lovasuku_chains::limit_of_bend;
+///
+/// assert_eq!(limit_of_bend(0.0), None);
+/// assert_eq!(limit_of_bend(f64::NAN), None);
+/// assert_eq!(limit_of_bend(90.0), Some(0.0));
+/// assert_eq!(limit_of_bend(180.0), Some(1.0));
+/// assert!((limit_of_bend(60.0).unwrap() + 0.5).abs() < 1e-15);
+/// ```
+pub fn limit_of_bend(degrees: f64) -> Option<f64> {
+    if degrees >= 180.0 {
+        Some(1.0)
+    } else if degrees > 0.0 {
+        Some((degrees - 90.0).to_radians().sin().clamp(-1.0, 1.0))
+    } else {
+        None
+    }
+}

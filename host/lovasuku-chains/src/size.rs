@@ -1,0 +1,23 @@
+//! How much a call takes, and the room that it asks for.
+
+/// The most lines of a building call.
+pub const MOST_LINES: usize = 4_096;
+
+/// The most coordinates of a building call, counted in pairs of x and y.
+pub const MOST_POINTS: usize = 65_536;
+
+/// The most ends of a pairing call.
+pub const MOST_ENDS: usize = 8_192;
+
+/// The numbers of a chain's record: first member, member count, source, first coordinate,
+/// coordinate count.
+pub const RECORD: usize = 5;
+
+/// The numbers of a coordinate: x and y.
+pub const POINT: usize = 2;
+
+/// The words of workspace for each line.
+pub const LINE_WORKSPACE: usize = 192;
+
+/// The words of workspace for each end.
+pub const END_WORKSPACE: usize = 64;

@@ -1,0 +1,109 @@
+//! Once the rooms have grown, building, pairing and asking allocate nothing.
+
+use lovasuku_chains::{chain_coordinates, Ends, LinesBuf, Rooms, Route, Settings};
+use std::alloc::{GlobalAlloc, Layout, System};
+use std::cell::Cell;
+
+/// The system's allocator, which counts what this thread asks of it.
+struct Counting;
+
+thread_local! {
+    static ASKED: Cell<usize> = const { Cell::new(0) };
+}
+
+#[allow(unsafe_code)]
+unsafe impl GlobalAlloc for Counting {
+    unsafe fn alloc(&self, layout: Layout) -> *mut u8 {
+        let _ = ASKED.try_with(|asked| asked.set(asked.get() + 1));
+        System.alloc(layout)
+    }
+
+    unsafe fn dealloc(&self, memory: *mut u8, layout: Layout) {
+        System.dealloc(memory, layout);
+    }
+}
+
+#[global_allocator]
+static COUNTING: Counting = Counting;
+
+/// How often the work asks for memory.
+fn asked(mut work: impl FnMut()) -> usize {
+    let before = ASKED.with(Cell::get);
+    work();
+    ASKED.with(Cell::get) - before
+}
+
+/// A zigzag road in so many lines, drawn either way by turns.
+fn road(lines: usize) -> LinesBuf {
+    let mut road = LinesBuf::default();
+    for k in 0..lines {
+        let (here, there) = ([k as f64, (k % 2) as f64], [k as f64 + 1.0, ((k + 1) % 2) as f64]);
+        road.push(if k % 3 == 0 { [there, here] } else { [here, there] }, 0);
+    }
+    road
+}
+
+#[test]
+fn building_in_grown_rooms_allocates_nothing() {
+    let (large, small) = (road(300), road(7));
+    let settings = Settings::default().with_tolerance(0.5).with_limit(0.25);
+    let mut rooms = Rooms::new();
+    let mut total = 0;
+    let mut build = |lines: &LinesBuf| {
+        let chains = rooms.build(lines.lines(), settings).expect("the call is accepted");
+        let table = chains.table();
+        for (k, chain) in chains.iter().enumerate() {
+            let named =
+                chain_coordinates(lines.lines().coordinates, chains.merged(), table, k as u64);
+            assert_eq!(named, Ok(chain.coordinates()));
+            total += chain.members().len() + chain.points().len();
+        }
+    };
+    assert!(asked(|| build(&large)) > 0);
+    assert_eq!(asked(|| build(&large)), 0);
+    assert_eq!(asked(|| build(&small)), 0);
+    assert_eq!(asked(|| (0..20).for_each(|_| build(&large))), 0);
+    assert_eq!(total, 22 * (300 + 301) + 7 + 8);
+}
+
+#[test]
+fn rooms_made_for_a_size_never_grow_within_it() {
+    let lines = road(100);
+    let mut rooms = Rooms::for_building(100, 200);
+    let build = || {
+        assert!(rooms.build(lines.lines(), Settings::default()).is_ok());
+    };
+    assert_eq!(asked(build), 0);
+}
+
+#[test]
+fn pairing_in_grown_rooms_allocates_nothing() {
+    let d = 64;
+    let present = vec![1; d];
+    let directions: Vec<f64> = (0..2 * d).map(|k| (k % 5) as f64 - 2.0).collect();
+    let pieces: Vec<u32> = (0..d as u32).map(|end| end / 2).collect();
+    let ends = Ends { present: &present, directions: &directions, pieces: &pieces };
+    let mut rooms = Rooms::for_pairing(d);
+    for route in [Route::Plain, Route::Indexed, Route::Chosen] {
+        let pair = || {
+            assert!(matches!(rooms.pairs(route, ends, 0.5), Ok([_, ..])));
+        };
+        assert_eq!(asked(pair), 0);
+    }
+}
+
+#[test]
+fn a_refused_call_allocates_nothing() {
+    let coordinates = vec![0.0; 200_000];
+    let mut rooms = Rooms::for_building(1, 65_536);
+    let lines = lovasuku_chains::Lines {
+        coordinates: &coordinates,
+        counts: &[100_000],
+        groups: &[0],
+        kinds: &[0],
+    };
+    let build = || {
+        assert_eq!(rooms.build(lines, Settings::default()).err().map(|r| r.number()), Some(5));
+    };
+    assert_eq!(asked(build), 0);
+}

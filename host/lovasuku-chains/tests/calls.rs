@@ -1,0 +1,174 @@
+//! What the safe calls promise beside the rules: borrowed coordinates, bits kept, rooms lent again,
+//! every refusal by its name.
+
+use lovasuku_chains::size::{MOST_ENDS, MOST_LINES, MOST_POINTS};
+use lovasuku_chains::{
+    build_chains, chain_coordinates, chain_question, door, Ends, LineInput, Lines, LinesBuf,
+    OwnedChain, Refusal, Rooms, Route, Settings,
+};
+
+/// A line that joins the next but one, and between them one that passes through.
+fn three_lines() -> LinesBuf {
+    let mut lines = LinesBuf::default();
+    lines.push([[0.0, 0.0], [1.0, 0.0]], 0);
+    lines.push_passing([[1.0, 0.0], [1.0, 9.0], [5.0, 9.0]], 0);
+    lines.push([[1.0, 0.0], [2.0, 0.0]], 0);
+    lines
+}
+
+/// True where a slice is a part of another, not a copy.
+fn within(part: &[f64], whole: &[f64]) -> bool {
+    let whole = whole.as_ptr_range();
+    let part = part.as_ptr_range();
+    whole.start <= part.start && part.end <= whole.end
+}
+
+#[test]
+fn coordinates_are_borrowed_from_the_lines_or_the_rooms() {
+    let lines = three_lines();
+    let mut rooms = Rooms::default();
+    let chains = rooms.build(lines.lines(), Settings::default()).unwrap();
+    let [joined, passed] = [chains.get(0).unwrap(), chains.get(1).unwrap()];
+    assert_eq!((joined.members(), passed.members()), (&[0, 2][..], &[1][..]));
+    assert!(joined.is_merged() && within(joined.coordinates(), chains.merged()));
+    assert!(!passed.is_merged() && within(passed.coordinates(), lines.lines().coordinates));
+    assert_eq!(passed.coordinates(), &lines.lines().coordinates[4..10]);
+    assert_eq!(chains.merged().len(), 6);
+    assert_eq!((chains.iter().len(), chains.get(2)), (2, None));
+    assert_eq!(chains.get(usize::MAX), None);
+}
+
+#[test]
+fn every_bit_of_a_coordinate_comes_back() {
+    let [quiet, signalling] = [0x7ff8_0000_0000_0123, 0xfff4_0000_0000_0001].map(f64::from_bits);
+    let mut lines = LinesBuf::default();
+    lines.push([[5.0, signalling], [quiet, -0.0]], 0);
+    lines.push([[quiet, -0.0], [6.0, 7.0]], 0);
+    let mut rooms = Rooms::default();
+    let chains = rooms.build(lines.lines(), Settings::default()).unwrap();
+    let bits: Vec<u64> = chains.merged().iter().map(|x| x.to_bits()).collect();
+    // A NaN equals nothing, so the coordinate that both lines end in is not dropped.
+    let there: Vec<u64> = lines.lines().coordinates.iter().map(|x| x.to_bits()).collect();
+    assert_eq!(bits, there);
+}
+
+#[test]
+fn rooms_lent_again_give_the_same() {
+    let lines = three_lines();
+    let mut used = Rooms::default();
+    let owned = |rooms: &mut Rooms, lines: &LinesBuf| -> Vec<OwnedChain> {
+        let chains = rooms.build(lines.lines(), Settings::default()).unwrap();
+        chains.into_iter().map(OwnedChain::from).collect()
+    };
+    let first = owned(&mut used, &lines);
+    let mut many = LinesBuf::default();
+    (0..500).for_each(|k| many.push([[f64::from(k), 0.0], [f64::from(k + 1), 0.0]], 0));
+    assert_eq!(owned(&mut used, &many).len(), 1);
+    assert_eq!(owned(&mut used, &lines), first);
+    many.clear();
+    assert!(many.is_empty() && owned(&mut used, &many).is_empty());
+}
+
+#[test]
+fn the_largest_call_is_accepted_and_one_more_is_not() {
+    let counts = vec![16; MOST_LINES];
+    let (groups, kinds) = (vec![0; MOST_LINES + 1], vec![0; MOST_LINES + 1]);
+    let coordinates: Vec<f64> = (0..2 * MOST_POINTS).map(|k| k as f64).collect();
+    let lines = Lines {
+        coordinates: &coordinates,
+        counts: &counts,
+        groups: &groups[1..],
+        kinds: &kinds[1..],
+    };
+    let mut rooms = Rooms::default();
+    assert_eq!(rooms.build(lines, Settings::default()).unwrap().len(), MOST_LINES);
+    let counts = vec![0; MOST_LINES + 1];
+    let more = Lines { coordinates: &[], counts: &counts, groups: &groups, kinds: &kinds };
+    assert_eq!(rooms.build(more, Settings::default()).err(), Some(Refusal::TooMany));
+    let coordinates = vec![0.0; 2 * MOST_POINTS + 2];
+    let counts = [MOST_POINTS as u32 + 1];
+    let long = Lines { coordinates: &coordinates, counts: &counts, groups: &[0], kinds: &[0] };
+    assert_eq!(rooms.build(long, Settings::default()).err(), Some(Refusal::TooManyCoordinates));
+}
+
+#[test]
+fn building_names_its_refusals() {
+    let good = Lines { coordinates: &[0.0; 4], counts: &[2], groups: &[0], kinds: &[0] };
+    let plain = Settings::default();
+    let mut rooms = Rooms::default();
+    let mut refused = |lines, settings| rooms.build(lines, settings).err();
+    assert_eq!(refused(good, plain), None);
+    assert_eq!(refused(Lines { groups: &[], ..good }, plain), Some(Refusal::TablesDiffer));
+    assert_eq!(refused(Lines { kinds: &[0, 0], ..good }, plain), Some(Refusal::TablesDiffer));
+    assert_eq!(refused(Lines { kinds: &[2], ..good }, plain), Some(Refusal::MarkAboveOne));
+    assert_eq!(refused(Lines { counts: &[1], ..good }, plain), Some(Refusal::CountsDoNotAddUp));
+    assert_eq!(
+        refused(Lines { coordinates: &[0.0; 5], ..good }, plain),
+        Some(Refusal::CountsDoNotAddUp)
+    );
+    assert_eq!(refused(good, plain.with_limit(1.5)), Some(Refusal::BadLimit));
+    assert_eq!(refused(good, plain.with_tolerance(f64::NAN)), None);
+}
+
+#[test]
+fn pairing_names_its_refusals() {
+    let good = Ends { present: &[1, 1], directions: &[1.0, 0.0, -1.0, 0.0], pieces: &[0, 1] };
+    let mut rooms = Rooms::default();
+    let mut refused = |route, ends, limit| rooms.pairs(route, ends, limit).err();
+    let many = vec![0; MOST_ENDS + 1];
+    for route in [Route::Plain, Route::Indexed, Route::Chosen] {
+        assert_eq!(refused(route, good, 0.0), None);
+        assert_eq!(refused(route, Ends { pieces: &many, ..good }, 0.0), Some(Refusal::TooMany));
+        assert_eq!(
+            refused(route, Ends { present: &[1], ..good }, 0.0),
+            Some(Refusal::TablesDiffer)
+        );
+        assert_eq!(
+            refused(route, Ends { directions: &[1.0; 3], ..good }, 0.0),
+            Some(Refusal::TablesDiffer)
+        );
+        assert_eq!(
+            refused(route, Ends { present: &[1, 2], ..good }, 0.0),
+            Some(Refusal::MarkAboveOne)
+        );
+        assert_eq!(refused(route, good, f64::NAN), Some(Refusal::BadLimit));
+        let often = Ends { present: &[0; 3], directions: &[0.0; 6], pieces: &[5; 3] };
+        assert_eq!(refused(route, often, 0.0), Some(Refusal::PieceTooOften));
+        let wild = Ends { directions: &[1.0, f64::INFINITY, -1.0, 0.0], ..good };
+        let alone = (route == Route::Indexed).then_some(Refusal::NotFinite);
+        assert_eq!(refused(route, wild, 0.0), alone);
+    }
+}
+
+#[test]
+fn the_chain_question_is_about_the_named_slice() {
+    let (input, merged) = ([0.0; 6], [1.0; 4]);
+    let table = [0, 1, 0, 1, 2, 1, 2, 1, 0, 2, 3, 1, 2, 0, 0, 4, 1, 1, u32::MAX, u32::MAX];
+    let question = |k| chain_question(&input, &merged, &table, k).map_err(Refusal::number);
+    assert_eq!([0, 1, 2, 3, 4].map(question), [Ok(()), Ok(()), Err(10), Err(10), Err(10)]);
+    assert_eq!(question(u64::MAX / 5), Err(10));
+    assert_eq!(question(u64::MAX), Err(10));
+    assert_eq!(chain_coordinates(&input, &merged, &table, 0), Ok(&[0.0; 4][..]));
+    assert_eq!(chain_coordinates(&input, &merged, &table, 1), Ok(&[1.0; 4][..]));
+    assert_eq!(chain_coordinates(&input, &merged, &table, 4), Err(Refusal::NoSuchChain));
+}
+
+#[test]
+fn answers_below_zero_are_refusals() {
+    assert_eq!(door::result(0), Ok(0));
+    assert_eq!(door::result(i64::MAX), Ok(i64::MAX as u64));
+    assert_eq!(door::result(-7), Err(Refusal::RoomTooShort));
+    assert_eq!(door::result(-30), Err(Refusal::Unknown(30)));
+    assert!(door::result(i64::MIN).is_err());
+}
+
+#[test]
+fn the_adapter_reads_angles_as_the_rust_does() {
+    let cross = [(-1.0, 0.0), (1.0, 0.0), (0.0, 1.0), (0.0, -1.0)];
+    let chains = |degrees: f64| {
+        let line = |end| LineInput { points: Some([(0.0, 0.0), end]), group: 0 };
+        build_chains(cross.map(line), 0.0, degrees).unwrap().len()
+    };
+    assert_eq!([-5.0, 0.0, f64::NAN].map(chains), [4, 4, 4]);
+    assert_eq!([1.0, 90.0, 180.0, 500.0].map(chains), [2, 2, 2, 2]);
+}

@@ -1,0 +1,171 @@
+//! One feature of a delivery.
+
+use super::object::Object;
+use super::positions::Run;
+use super::Point;
+
+/// A feature: a line, or other line geometry, with what the delivery tells about it.
+#[derive(Debug)]
+pub struct Feature<'a> {
+    /// Its id as it is written, a text in quotes or a number.
+    pub id: Option<&'a str>,
+    /// The object of its properties as it is written.
+    pub properties: Option<&'a str>,
+    pub geometry: Geometry,
+}
+
+/// The geometry of a feature.
+#[derive(Clone, Debug, PartialEq)]
+pub enum Geometry {
+    /// A LineString, which may be joined.
+    Line(Vec<Point>),
+    /// A MultiLineString, which passes through.
+    Lines(Vec<Vec<Point>>),
+}
+
+/// What becomes of heights.
+#[derive(Clone, Copy, Debug, PartialEq)]
+pub enum Heights {
+    /// A position with a height is a fault.
+    Refused,
+    /// Heights are left out.
+    Dropped,
+}
+
+impl Geometry {
+    /// The runs of points that it is drawn by.
+    pub fn runs(&self) -> Box<dyn Iterator<Item = &[Point]> + '_> {
+        match self {
+            Geometry::Line(points) => Box::new(std::iter::once(&points[..])),
+            Geometry::Lines(parts) => Box::new(parts.iter().map(|part| &part[..])),
+        }
+    }
+}
+
+impl<'a> Feature<'a> {
+    /// The feature that a text holds, or what is wrong with it.
+    pub fn of(text: &'a str, heights: Heights) -> Result<Self, String> {
+        let object = Object::of(text).ok_or("it is not an object with readable names")?;
+        match object.get("type").and_then(words).as_deref() {
+            Some("Feature") => (),
+            Some(other) => return Err(format!("its type is {other:?}, not \"Feature\"")),
+            None => return Err("it has no type".into()),
+        }
+        Ok(Feature {
+            id: id(&object)?,
+            properties: properties(&object)?,
+            geometry: geometry(&object, heights)?,
+        })
+    }
+
+    /// The value of a property as it is written; a null is no value.
+    pub fn property(&self, name: &str) -> Option<&'a str> {
+        self.object().get(name).filter(|&value| value != "null")
+    }
+
+    /// All its properties.
+    pub fn object(&self) -> Object<'a> {
+        self.properties.and_then(Object::of).unwrap_or_default()
+    }
+}
+
+/// The words of a JSON text, if it is one.
+fn words(text: &str) -> Option<String> {
+    serde_json::from_str(text).ok()
+}
+
+fn id<'a>(feature: &Object<'a>) -> Result<Option<&'a str>, String> {
+    match feature.get("id") {
+        None | Some("null") => Ok(None),
+        Some(id) if id.starts_with(['"', '-']) || id.starts_with(|c: char| c.is_ascii_digit()) => {
+            Ok(Some(id))
+        }
+        Some(_) => Err("its id is neither a text nor a number".into()),
+    }
+}
+
+fn properties<'a>(feature: &Object<'a>) -> Result<Option<&'a str>, String> {
+    match feature.get("properties") {
+        None | Some("null") => Ok(None),
+        Some(text) if Object::of(text).is_some() => Ok(Some(text)),
+        Some(_) => Err("its properties are not an object with readable names".into()),
+    }
+}
+
+fn geometry(feature: &Object, heights: Heights) -> Result<Geometry, String> {
+    let text = feature.get("geometry").ok_or("it has no geometry")?;
+    if text == "null" {
+        return Err("its geometry is null".into());
+    }
+    let object = Object::of(text).ok_or("its geometry is not an object")?;
+    let coordinates = object.get("coordinates").unwrap_or("null");
+    match object.get("type").and_then(words).as_deref() {
+        Some("LineString") => line(coordinates, heights),
+        Some("MultiLineString") => lines(coordinates, heights),
+        Some(other) => Err(format!("its geometry is a {other}, not a line")),
+        None => Err("its geometry has no type".into()),
+    }
+}
+
+const NO_POSITIONS: &str = "its coordinates are not positions of finite numbers";
+
+fn line(coordinates: &str, heights: Heights) -> Result<Geometry, String> {
+    let run: Run = serde_json::from_str(coordinates).map_err(|_| NO_POSITIONS)?;
+    match (run.high, heights) {
+        (Some(k), Heights::Refused) => Err(high(k, "")),
+        _ => Ok(Geometry::Line(run.points)),
+    }
+}
+
+fn lines(coordinates: &str, heights: Heights) -> Result<Geometry, String> {
+    let runs: Vec<Run> = serde_json::from_str(coordinates).map_err(|_| NO_POSITIONS)?;
+    for (part, run) in runs.iter().enumerate() {
+        if let (Some(k), Heights::Refused) = (run.high, heights) {
+            return Err(high(k, &format!(" of part {part}")));
+        }
+    }
+    Ok(Geometry::Lines(runs.into_iter().map(|run| run.points).collect()))
+}
+
+fn high(k: usize, of: &str) -> String {
+    format!("its position {k}{of} has a height (--drop-heights leaves heights out)")
+}
+
+#[cfg(test)]
+mod tests {
+    use super::{Feature, Geometry, Heights};
+
+    fn fault(geometry: &str) -> String {
+        let text = format!(r#"{{"type": "Feature", "geometry": {geometry}}}"#);
+        Feature::of(&text, Heights::Refused).map(|_| ()).unwrap_err()
+    }
+
+    #[test]
+    fn a_line_with_all_that_is_told_about_it() {
+        let text = r#"{"geometry": {"coordinates": [[1, 2], [3, 4]], "type": "LineString"},
+            "id": "a", "properties": {"kind": "spur", "width": null}, "type": "Feature"}"#;
+        let feature = Feature::of(text, Heights::Refused).unwrap();
+        assert_eq!(feature.id, Some("\"a\""));
+        assert_eq!(feature.property("kind"), Some("\"spur\""));
+        assert_eq!(feature.property("width"), None);
+        assert_eq!(feature.geometry, Geometry::Line(vec![[1.0, 2.0], [3.0, 4.0]]));
+    }
+
+    #[test]
+    fn heights_are_refused_or_dropped() {
+        let geometry = r#"{"type": "MultiLineString", "coordinates": [[[1, 2]], [[1, 2, 3]]]}"#;
+        assert!(fault(geometry).starts_with("its position 0 of part 1 has a height"));
+        let text = format!(r#"{{"type": "Feature", "geometry": {geometry}}}"#);
+        let feature = Feature::of(&text, Heights::Dropped).unwrap();
+        assert_eq!(feature.geometry, Geometry::Lines(vec![vec![[1.0, 2.0]], vec![[1.0, 2.0]]]));
+    }
+
+    #[test]
+    fn what_is_no_line() {
+        assert_eq!(fault("null"), "its geometry is null");
+        assert_eq!(fault("{}"), "its geometry has no type");
+        assert_eq!(fault(r#"{"type": "Polygon"}"#), "its geometry is a Polygon, not a line");
+        assert_eq!(fault(r#"{"type": "LineString"}"#), super::NO_POSITIONS);
+        assert_eq!(fault(r#"{"type": "LineString", "coordinates": [[1]]}"#), super::NO_POSITIONS);
+    }
+}

@@ -1,0 +1,122 @@
+//! The calls of one batch.
+//!
+//! The members of a chain stand in the order in which its pieces were appended, and a piece that
+//! round two walked backwards keeps its own order. So the way of a chain through its lines takes
+//! the pieces of round one, which a call without a tolerance gives.
+
+use super::joints::{end_counts, joints, EndCounts, Step};
+use super::{Chain, Line};
+use anyhow::{ensure, Result};
+use lovasuku_chains::{self as library, LinesBuf, Rooms, Settings};
+
+/// Lends batches to the library, one after another, in the same rooms.
+pub struct Caller {
+    settings: Settings,
+    rooms: Rooms,
+    lent: LinesBuf,
+}
+
+/// A piece of round one: its lines in the order of its points, each with its turned mark.
+type Piece = Vec<(u32, bool)>;
+
+impl Caller {
+    pub fn new(settings: Settings) -> Self {
+        Caller { settings, rooms: Rooms::default(), lent: LinesBuf::default() }
+    }
+
+    /// The chains of a batch, with the positions of the whole input.
+    pub fn build(&mut self, lines: &[Line], batch: &[u32]) -> Result<Vec<Chain>> {
+        self.lend(lines, batch);
+        let pieces = match self.settings.tolerance > 0.0 {
+            true => Some(self.pieces()?),
+            false => None,
+        };
+        let counts = end_counts(batch.iter().map(|&line| &lines[line as usize]));
+        let chains = self.rooms.build(self.lent.lines(), self.settings)?;
+        let chain = |chain: library::Chain| {
+            let way = match &pieces {
+                Some(pieces) => pieces.way(&chain)?,
+                None => way_of_round_one(&chain),
+            };
+            Ok(owned(lines, batch, &chain, &way, &counts))
+        };
+        chains.iter().map(chain).collect()
+    }
+
+    fn lend(&mut self, lines: &[Line], batch: &[u32]) {
+        self.lent.clear();
+        for line in batch.iter().map(|&line| &lines[line as usize]) {
+            match line.points {
+                Some(points) => self.lent.push(points.iter().copied(), line.group),
+                None => self.lent.push_passing([], line.group),
+            }
+        }
+    }
+
+    /// The pieces of round one.
+    fn pieces(&mut self) -> Result<Pieces> {
+        let settings = self.settings.with_tolerance(0.0);
+        let chains = self.rooms.build(self.lent.lines(), settings)?;
+        let mut pieces = Pieces { all: Vec::new(), of_line: vec![0; self.lent.len()] };
+        for chain in &chains {
+            for &line in chain.members() {
+                pieces.of_line[line as usize] = pieces.all.len();
+            }
+            pieces.all.push(chain.members().iter().copied().zip(chain.turned()).collect());
+        }
+        Ok(pieces)
+    }
+}
+
+/// The pieces of round one, and which of them holds a line.
+struct Pieces {
+    all: Vec<Piece>,
+    of_line: Vec<usize>,
+}
+
+impl Pieces {
+    /// The way of a chain: its pieces in their order, each forward or, if turned, backward.
+    fn way(&self, chain: &library::Chain) -> Result<Vec<Step>> {
+        let mut way = Vec::with_capacity(chain.members().len());
+        while let Some(&first) = chain.members().get(way.len()) {
+            let number = self.of_line[first as usize];
+            let piece = &self.all[number];
+            let members = chain.members()[way.len()..].iter();
+            let whole = piece.iter().map(|(line, _)| line).eq(members.take(piece.len()));
+            ensure!(whole, "the library has parted a piece of round one");
+            let turned = chain.marks()[way.len()] == 1;
+            let step =
+                |&(line, back): &(u32, bool)| Step { line, back: back != turned, piece: number };
+            match turned {
+                true => way.extend(piece.iter().rev().map(step)),
+                false => way.extend(piece.iter().map(step)),
+            }
+        }
+        Ok(way)
+    }
+}
+
+/// The way of a chain that round one made.
+fn way_of_round_one(chain: &library::Chain) -> Vec<Step> {
+    let steps = chain.members().iter().zip(chain.turned());
+    steps.map(|(&line, back)| Step { line, back, piece: 0 }).collect()
+}
+
+/// The chain with the positions of the whole input, and with its joints.
+fn owned(
+    lines: &[Line],
+    batch: &[u32],
+    chain: &library::Chain,
+    way: &[Step],
+    counts: &EndCounts,
+) -> Chain {
+    let position = |line: u32| batch[line as usize];
+    let way: Vec<Step> =
+        way.iter().map(|&step| Step { line: position(step.line), ..step }).collect();
+    Chain {
+        members: chain.members().iter().map(|&line| position(line)).collect(),
+        turned: chain.turned().collect(),
+        points: chain.is_merged().then(|| chain.points().to_vec()),
+        joints: joints(lines, &way, counts),
+    }
+}

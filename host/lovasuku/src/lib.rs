@@ -1,0 +1,15 @@
+//! The command `lovasuku`: joins the lines of a delivery, draws the chains, and shows what was
+//! bridged. The joining itself is done by the verified library, by way of `lovasuku-chains`.
+
+pub mod arguments;
+mod classes;
+pub mod command;
+pub mod delivery;
+pub mod joining;
+mod map;
+mod numbers;
+mod parallel;
+pub mod progress;
+mod summary;
+mod tally;
+mod writing;

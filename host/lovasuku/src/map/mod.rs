@@ -1,0 +1,99 @@
+//! The map: an SVG of the input, the chains, the junctions and the bridges.
+
+mod colours;
+mod drawing;
+mod legend;
+mod page;
+mod svg;
+
+use crate::delivery::Delivery;
+use crate::joining::Chain;
+use crate::tally::Tally;
+use page::{fineness, Page, FEW_BRIDGES, FEW_LINES, HEAD, MARGIN, WIDTH};
+use std::fmt::{Error, Write};
+
+/// What is drawn.
+#[derive(Debug)]
+pub struct Sheet<'a> {
+    /// The name over the map.
+    pub name: &'a str,
+    /// The settings in words.
+    pub settings: &'a str,
+    pub delivery: &'a Delivery<'a>,
+    pub chains: &'a [Chain],
+    /// The length of each chain.
+    pub lengths: &'a [f64],
+    pub tally: &'a Tally,
+}
+
+const STYLE: &str = "\
+text{font:14px system-ui,'Segoe UI',Helvetica,Arial,sans-serif;fill:#2b2b2b}\
+.name{font-size:24px;font-weight:600}\
+.words{fill:#4a4a4a}\
+.heading{font-weight:600;font-size:15px}\
+.frame{fill:#fff;stroke:#d9d5cc}\
+.chains path,.chain path,.alone path{fill:none;stroke-linecap:round;stroke-linejoin:round}\
+.alone path{stroke-opacity:.8}\
+.input path{fill:none;stroke:#555;stroke-linejoin:round}\
+.input,.ends{pointer-events:none}\
+.ends circle{fill:#fff;stroke:#555;stroke-width:1}\
+.junctions path{fill:#fff;stroke:#222;stroke-width:1.7;stroke-linejoin:round}\
+.bridges path{fill:none;stroke:#e0001b;stroke-linecap:round}\
+.bridges circle{fill:#e0001b;fill-opacity:.1;stroke:#e0001b}\
+.bridges text{fill:#c80018;font-weight:600;paint-order:stroke;stroke:#fff;stroke-width:4px;stroke-linejoin:round}\
+path.scale{fill:none;stroke:#2b2b2b;stroke-width:1.5}\
+text.scale{font-size:13px;text-anchor:middle}";
+
+/// The widths of strokes, finer where there are many. The legend has them in full.
+fn widths(tally: &Tally) -> String {
+    let fine = fineness(tally.lines, FEW_LINES);
+    let bridges = fineness(tally.bridges, FEW_BRIDGES);
+    let of = |place: &str, fine: f64, bridges: f64| {
+        format!(
+            "{place}.chain path{{stroke-width:{:.1}}}{place}.alone path{{stroke-width:{:.1}}}\
+             {place}.input path{{stroke-width:{fine:.1}}}{place}.bridges path{{stroke-width:{:.1}}}\
+             {place}.bridges circle{{stroke-width:{:.1}}}",
+            6.0 * fine,
+            3.4 * fine,
+            5.0 * bridges,
+            2.2 * bridges,
+        )
+    };
+    let hover = 5.0 + 6.0 * fine;
+    let hover = format!(".chains g:hover path{{stroke-width:{hover:.1};stroke-opacity:1}}");
+    of("", fine, bridges) + &hover + &of(".legend ", 1.0, 1.0)
+}
+
+/// Draws the map.
+pub fn map(sheet: &Sheet) -> Vec<u8> {
+    let mut out = String::new();
+    // Writing to a text never fails.
+    draw(&mut out, sheet).unwrap_or_default();
+    out.into_bytes()
+}
+
+fn draw(out: &mut String, sheet: &Sheet) -> Result<(), Error> {
+    let page = Page::of(sheet.delivery);
+    let height = page.height();
+    writeln!(
+        out,
+        "<svg xmlns=\"http://www.w3.org/2000/svg\" width=\"{WIDTH}\" height=\"{height}\" \
+         viewBox=\"0 0 {WIDTH} {height}\">"
+    )?;
+    writeln!(out, "<style>{STYLE}{}</style>", widths(sheet.tally))?;
+    writeln!(out, "<rect width=\"{WIDTH}\" height=\"{height}\" fill=\"#f7f5f0\"/>")?;
+    legend::head(out, sheet)?;
+    writeln!(
+        out,
+        "<rect class=\"frame\" x=\"{MARGIN}\" y=\"{HEAD}\" width=\"{}\" height=\"{}\" rx=\"6\"/>",
+        page.frame_width(),
+        page.frame_height
+    )?;
+    let colours = drawing::chains(out, sheet, &page)?;
+    drawing::lines(out, sheet, &page)?;
+    drawing::junctions(out, sheet, &page)?;
+    drawing::bridges(out, sheet, &page)?;
+    legend::legend(out, sheet, &page, &colours)?;
+    legend::scale(out, &page)?;
+    writeln!(out, "</svg>")
+}

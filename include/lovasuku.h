@@ -1,0 +1,146 @@
+/* Lovasuku: verified line joining. Lines in, chains out, by rules that are written down and proved.
+ *
+ * Every call lends its input and its rooms and gets back one number: a result from 0 up, or, below 0, minus
+ * the number of a refusal. Nothing is allocated and nothing is kept between calls, so calls may run on
+ * several threads at once, each with rooms of its own.
+ *
+ * A slice is a pointer and a length in elements. A slice of length 0 is not looked at, so its pointer may be
+ * anything. Rooms (the slices without const) must not overlap one another or the input. They need not be
+ * cleared before a call and may be longer than asked for. A refused call stores nothing. After an accepted
+ * call spare and workspace are 0 over the length named below, each output begins with what was written, and
+ * whatever lies beyond is as before.
+ *
+ * Coordinates may be any doubles, NaN and infinities included, and come back bit for bit.
+ *
+ * Link libdoor.a, which `rt staticlib door` writes for x86-64 Linux.
+ */
+#ifndef LOVASUKU_H
+#define LOVASUKU_H
+
+#include <stddef.h>
+#include <stdint.h>
+
+#ifdef __cplusplus
+extern "C" {
+#endif
+
+/* How much a call takes. */
+#define LOVASUKU_MOST_LINES 4096
+#define LOVASUKU_MOST_POINTS 65536
+#define LOVASUKU_MOST_ENDS 8192
+
+/* Numbers of a chain's record; words of workspace for each line and for each end. */
+#define LOVASUKU_RECORD 5
+#define LOVASUKU_LINE_WORKSPACE 192
+#define LOVASUKU_END_WORKSPACE 64
+
+/* The refusals, in order of checking. An answer is minus one of these, and the first that applies is given. */
+enum lovasuku_refusal {
+    LOVASUKU_TOO_MANY = 1,             /* More than 4,096 lines, or for pairing more than 8,192 ends. */
+    LOVASUKU_TABLES_DIFFER = 2,        /* The tables of the lines, or of the ends, differ in length. */
+    LOVASUKU_MARK_ABOVE_ONE = 3,       /* A kind or a presence mark is above 1. */
+    LOVASUKU_COUNTS_DO_NOT_ADD_UP = 4, /* The counts do not add up to half the coordinates' length. */
+    LOVASUKU_TOO_MANY_COORDINATES = 5, /* More than 65,536 coordinates, counted in pairs. */
+    LOVASUKU_BAD_LIMIT = 6,            /* The switch is above 1, or the limit is not a number from -1 to 1. */
+    LOVASUKU_ROOM_TOO_SHORT = 7,       /* A lent room is shorter than the call needs. */
+    LOVASUKU_PIECE_TOO_OFTEN = 8,      /* A piece number occurs more than twice. */
+    LOVASUKU_NOT_FINITE = 9,           /* The indexed route was given a present direction that is not finite. */
+    LOVASUKU_NO_SUCH_CHAIN = 10        /* The table has no such chain. */
+};
+
+/* Joins lines into chains. The result is the number of chains.
+ *
+ * Lent are, for n lines of c coordinates in all: coordinates, 2c numbers x, y, x, y .., one line behind
+ * another; counts, groups and kinds, n numbers each: how many coordinates a line has, its group (lines of
+ * different groups are never joined) and its kind (0 plain, 1 passes through unjoined; a line of fewer than two
+ * coordinates passes through as well). Round one joins ends that agree bit for bit in x and y; round two, which
+ * runs where tolerance is above 0, joins the ends of what round one left that lie in one cell of that size. Two
+ * ends that meet are joined at any angle. Of three or more the straightest pairs are joined if switch_on is 1,
+ * as long as the dot product of their directions is at or below limit (-1 straight on, 0 a right angle, 1
+ * any turn); with switch_on 0 none are, and limit is not looked at.
+ *
+ * Written are, with k chains: table, 5k numbers, for each chain its first member, its number of members, its source
+ * (0 the caller's coordinates, 1 merged), its first coordinate and its number of coordinates, both counted in
+ * pairs; members, n positions of lines, chain by chain; marks, n bytes in the members' order, 1 where the piece
+ * that held the line was entered at its last coordinate in the last round that ran; merged, the coordinates of
+ * the chains of several lines, one chain behind another, without repeats. A chain of one line names the line's
+ * own coordinates and is not copied. Chains come in the order of their starts, lines that pass through last.
+ *
+ * Rooms: table 5n, members n, marks n, merged 2c, spare 2c, workspace 192n.
+ *
+ * Refusals: 1 n is above 4,096. 2 groups or kinds are not n numbers. 3 a kind is above 1. 4 the counts do not
+ * add up to half the coordinates' length. 5 c is above 65,536. 6 switch_on is above 1, or it is 1 and limit is
+ * NaN, below -1 or above 1. 7 a room is too short. No tolerance is refused. */
+int64_t lovasuku_build(const double *coordinates, size_t coordinates_length,
+                       const uint32_t *counts, size_t counts_length,
+                       const uint32_t *groups, size_t groups_length,
+                       const uint8_t *kinds, size_t kinds_length,
+                       double tolerance, uint8_t switch_on, double limit,
+                       uint32_t *table, size_t table_length,
+                       uint32_t *members, size_t members_length,
+                       uint8_t *marks, size_t marks_length,
+                       double *merged, size_t merged_length,
+                       double *spare, size_t spare_length,
+                       uint64_t *workspace, size_t workspace_length);
+
+/* Selects, of the ends at one node, the pairs that continue each other best. The result is the number of pairs.
+ *
+ * Lent are, for d ends: present, d marks, 1 where the end has a direction, else 0; directions, 2d numbers x, y,
+ * of which those of an absent end are not looked at; pieces, d numbers, the piece of each end. The measure of two
+ * ends is the dot product of their directions, held within -1 to 1. Over all ends i below j of different pieces,
+ * both present, the pairs with a measure at or below limit are taken in order of measure, then i, then j, each
+ * if neither end is taken. A NaN is never at or below.
+ *
+ * Written are pairs, two numbers for each pair, the lower end first, in the order of selection.
+ *
+ * Rooms: pairs d, workspace 64d.
+ *
+ * This is the plain route, over all pairs of ends.
+ *
+ * Refusals: 1 d is above 8,192. 2 present is not d marks, or directions are not 2d numbers. 3 a presence mark is
+ * above 1. 6 limit is NaN, below -1 or above 1. 7 a room is too short. 8 a piece number occurs more than twice. */
+int64_t lovasuku_pairs_plain(const uint8_t *present, size_t present_length,
+                             const double *directions, size_t directions_length,
+                             const uint32_t *pieces, size_t pieces_length,
+                             double limit,
+                             uint32_t *pairs, size_t pairs_length,
+                             uint64_t *workspace, size_t workspace_length);
+
+/* The same pairs by the indexed route: an index over the directions, fast where many ends meet.
+ *
+ * Rooms and refusals are those of the plain route, and then: 9 a present direction is not finite. */
+int64_t lovasuku_pairs_indexed(const uint8_t *present, size_t present_length,
+                               const double *directions, size_t directions_length,
+                               const uint32_t *pieces, size_t pieces_length,
+                               double limit,
+                               uint32_t *pairs, size_t pairs_length,
+                               uint64_t *workspace, size_t workspace_length);
+
+/* The same pairs by the chosen route: the plain one below 32 ends or where a present direction is not finite,
+ * else the indexed one.
+ *
+ * Rooms and refusals are those of the plain route. */
+int64_t lovasuku_pairs_chosen(const uint8_t *present, size_t present_length,
+                              const double *directions, size_t directions_length,
+                              const uint32_t *pieces, size_t pieces_length,
+                              double limit,
+                              uint32_t *pairs, size_t pairs_length,
+                              uint64_t *workspace, size_t workspace_length);
+
+/* The chain question: does record k of a table name a chain? The result is 0, which says yes.
+ *
+ * Lent are the coordinates and the merged coordinates that the table speaks of, and the table, of which any may
+ * come from anywhere. Nothing is written and no room is needed.
+ *
+ * Refusals: 10 record k is not wholly in the table, its source is above 1, or twice the sum of its first coordinate and
+ * its number of coordinates is above the length of the slice that its source names. */
+int64_t lovasuku_chain(const double *coordinates, size_t coordinates_length,
+                       const double *merged, size_t merged_length,
+                       const uint32_t *table, size_t table_length,
+                       uint64_t k);
+
+#ifdef __cplusplus
+}
+#endif
+
+#endif
