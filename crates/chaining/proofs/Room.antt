@@ -63,7 +63,7 @@ module _ (rule : Rule) (ps : List Piece) where
   unfolding join
   join-size = omega (arith, merges-size (walks (partner rule ps) (length ps)), spread rule ps size)
 
-pieces-size : (k : ℕ) (ls : List Line)
+pub pieces-size : (k : ℕ) (ls : List Line)
     → total (map size (pieces true k ls)) + total (map size (pieces false k ls)) ≡ total (map (λ l. length (l .points)) ls)
 unfolding pieces total alone
 pieces-size k [] = refl
@@ -143,7 +143,7 @@ unfolding lines
 lines-length ps [] gs ks = refl
 lines-length ps (c ∷ cs) gs ks = ap suc (lines-length (drop c ps) cs (drop 1 gs) (drop 1 ks))
 
-lines-size : (ps : List Point) (cs gs ks : List ℕ) → total (map (λ l. length (l .points)) (lines ps cs gs ks)) ≤ total cs
+pub lines-size : (ps : List Point) (cs gs ks : List ℕ) → total (map (λ l. length (l .points)) (lines ps cs gs ks)) ≤ total cs
 unfolding lines total
 lines-size ps [] gs ks = zero-le
 lines-size ps (c ∷ cs) gs ks = omega (arith, length-take c ps, lines-size (drop c ps) cs (drop 1 gs) (drop 1 ks))

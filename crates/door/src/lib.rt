@@ -4,7 +4,7 @@ use rules::Answer;
 ghost use mathlib.Core.Path.{_≡_};
 ghost use Rattle.door.specs.Proper.{Proper};
 ghost use mathlib.Core.Bool.{false};
-ghost use Rattle.rules.specs.Calls.{numberOf, Numbered, Paired, asked};
+ghost use Rattle.rules.specs.Calls.{numberOf, Numbered, Built, Paired, asked};
 
 // An answer as a host sees it.
 fn number(answer: Answer) -> u64
@@ -15,6 +15,42 @@ fn number(answer: Answer) -> u64
         Answer::Accepted(n) => n,
         Answer::Refused(k) => 18446744073709551615 - k + 1,
     }
+}
+
+// Building: the number of chains.
+#[no_mangle]
+pub extern "C" fn lovasuku_build(
+    coordinates: &[u64],
+    counts: &[u32],
+    groups: &[u32],
+    kinds: &[u8],
+    tolerance: f64,
+    switch: u8,
+    limit: f64,
+    table: &mut [u32],
+    members: &mut [u32],
+    marks: &mut [u8],
+    merged: &mut [u64],
+    spare: &mut [u64],
+    workspace: &mut [u64],
+) -> u64
+    ensures { λ r. ⌜ Numbered (λ a. Built (record { coordinates = now (coordinates .entry); counts = now (counts .entry); groups = now (groups .entry); kinds = now (kinds .entry); tolerance = tolerance; switch = switch; limit = limit; table = now (table .entry); members = now (members .entry); marks = now (marks .entry); merged = now (merged .entry); spare = now (spare .entry); workspace = now (workspace .entry) }) a (now (table .exit)) (now (members .exit)) (now (marks .exit)) (now (merged .exit)) (now (spare .exit)) (now (workspace .exit))) r ⌝ }
+{
+    number(building::build(
+        coordinates,
+        counts,
+        groups,
+        kinds,
+        tolerance,
+        switch,
+        limit,
+        table,
+        members,
+        marks,
+        merged,
+        spare,
+        workspace,
+    ))
 }
 
 // The plain route: the number of pairs.

@@ -2,7 +2,7 @@
 -- decide them, and they are the ends of a call where those words are what the call lent.
 use Prim.Native.Nat.{ℕ, zero, suc, _+_, _*_, _-_, _≤_, _<_}
 use mathlib.Core.Path.{_≡_, refl, sym, _∙_, ap}
-use mathlib.Core.Bool.{Bool, not, _&&_}
+use mathlib.Core.Bool.{not, _&&_}
 use mathlib.Core.List.{List, [], _∷_, map}
 use native.Mathlib.Omega.{arith}
 use lib.Dec.{eqb}
@@ -12,7 +12,6 @@ use lib.Seq.{slice, length-slice, getD-take, getD-drop, take-take}
 use borrow.Author.Tests.{ne-eqb}
 use Rattle.rules.specs.declared.Direction.the-variants.{Absent, Toward}
 use Rattle.rules.specs.Plane.{float}
-use Rattle.rules.specs.Selecting.{End}
 use Rattle.rules.specs.Layout.{given, ends}
 use Rattle.selecting.specs.Ends.{endAt, there, keyOf, nodeOf, ByPlace}
 use Rattle.selecting.proofs.Ends.{ends-length, ends-at, ends-placed, given-there}

@@ -4,10 +4,9 @@ use mathlib.Core.Path.{_≡_, refl, sym, ap, _∙_}
 use mathlib.Core.Logic.{_≢_}
 use mathlib.Core.List.{List, [], _∷_, map}
 use native.Mathlib.Omega.{arith}
-use lib.ListN.{length, getD}
+use lib.ListN.{getD}
 use borrow.Author.Tests.{eq-eqb, ne-eqb}
 use Rattle.rules.specs.Selecting.{Pair}
-use Rattle.rules.specs.Walking.{pieceOf}
 use Rattle.rules.specs.Chaining.{Piece, Rule, chosen, joined}
 use Rattle.leaders.specs.Group.{follow, Nodes}
 use Rattle.leaders.proofs.Nodes.{follow-stop, follow-next}

@@ -1,13 +1,13 @@
 -- A node written out, end by end: what is written, followed by the list from the present end on, is the node.
-use Prim.Native.Nat.{ℕ, zero, suc, _+_, _-_, _*_, _≤_, _<_}
-use mathlib.Core.Path.{_≡_, refl, sym, ap, _∙_, subst}
+use Prim.Native.Nat.{ℕ, _+_, _-_, _*_, _≤_, _<_}
+use mathlib.Core.Path.{_≡_, sym, ap, _∙_, subst}
 use mathlib.Core.List.{List, [], _∷_, _++_, append-nil}
 use native.Mathlib.Omega.{arith}
-use lib.ListN.{length, getD, set, drop, length-set}
+use lib.ListN.{length, getD, set, drop}
 use lib.Seq.{append-snoc, getD-drop, getD-set-other}
 use Rattle.slices.specs.Holds.{HoldsFrom}
-use Rattle.slices.proofs.Laws.{from-start, from-set, from-length, from-beyond}
-use Rattle.leaders.specs.Group.{follow, Nodes}
+use Rattle.slices.proofs.Laws.{from-start, from-set, from-beyond}
+use Rattle.leaders.specs.Group.{follow}
 use Rattle.leaders.proofs.Nodes.{follow-stop, follow-next}
 use Rattle.joining.specs.Node.{nodeOf, Listable}
 
@@ -31,9 +31,6 @@ module _ {w₀ : List ℕ} {list at m e : ℕ} (L : Listable w₀ list at m e) w
   module _ {w : List ℕ} {f d : ℕ} (Y : Way w f d) (h : d < m) where
     room : list + d < length w₀
     room = let a = L .below in let b = L .room in omega arith
-
-    pub way-size : length w ≡ length w₀
-    way-size = from-length (Y .holds) (let r = room in omega arith)
 
     -- the next word is read after f is written
     pub way-next : getD (set w (list + d) f) (at + m * 2 + f) 0 ≡ next f

@@ -1,14 +1,13 @@
 -- Joins put into the table, pair by pair: the table so far, filled with the pairs that are left, is the table filled with all.
-use Prim.Native.Nat.{ℕ, zero, suc, _+_, _-_, _*_, _≤_, _<_}
-use mathlib.Core.Path.{_≡_, refl, sym, ap, _∙_, subst}
-use mathlib.Core.List.{List, [], _∷_}
+use Prim.Native.Nat.{ℕ, suc, _+_, _-_, _*_, _≤_, _<_}
+use mathlib.Core.Path.{_≡_, sym, ap, _∙_, subst}
+use mathlib.Core.List.{List, _∷_}
 use native.Mathlib.Omega.{arith}
-use native.Mathlib.Numerals.{add-one}
 use lib.ListN.{length, getD, set}
 use lib.Seq.{slice}
 use Rattle.chaining.specs.Table.{put, fill}
 use Rattle.slices.specs.Holds.{HoldsFrom}
-use Rattle.slices.proofs.Laws.{from-length, from-beyond, from-part}
+use Rattle.slices.proofs.Laws.{from-beyond, from-part}
 use Rattle.joining.specs.Node.{namedPairs, Puttable}
 use Rattle.joining.proofs.Regions.{from-own, from-in, from-over}
 
@@ -51,9 +50,6 @@ module _ {w₀ : List ℕ} {joins m list d pairs r : ℕ} (P : Puttable w₀ joi
       record { table = slice joins (joins + m) w₀; holds = from-own w₀ joins m fits; goes = rw (p, q) }
 
   module _ {w : List ℕ} {k : ℕ} (Y : Putting w k) (h : k < r) where
-    pub putting-size : length w ≡ length w₀
-    putting-size = from-length (Y .holds) fits
-
     -- what stands beyond the table is as it was
     pub past : (j : ℕ) → joins + m ≤ j → getD w j 0 ≡ getD w₀ j 0
     past j b = from-beyond (Y .holds) fits j b

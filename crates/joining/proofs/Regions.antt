@@ -1,10 +1,10 @@
 -- A region of fixed length as a list of its own: what it holds, and one number of it changed.
-use Prim.Native.Nat.{ℕ, zero, suc, _+_, _-_, _*_, _≤_, _<_}
-use mathlib.Core.Path.{_≡_, refl, sym, ap, ap₂, _∙_}
+use Prim.Native.Nat.{ℕ, zero, suc, _+_, _-_, _≤_, _<_}
+use mathlib.Core.Path.{_≡_, sym, ap, ap₂, _∙_}
 use mathlib.Core.List.{List, [], _∷_, _++_}
 use native.Mathlib.Omega.{arith}
 use lib.ListN.{length, getD, set, take, drop, length-set, length-drop, take-append-drop}
-use lib.Seq.{slice, length-slice, length-take-le, set-append-left, drop-drop, getD-take, getD-drop, ext-getD}
+use lib.Seq.{slice, length-take-le, set-append-left, drop-drop, getD-take, getD-drop, ext-getD}
 use Rattle.slices.specs.Holds.{HoldsFrom}
 use Rattle.slices.proofs.Laws.{slice-part, part-length, from-front, from-back}
 

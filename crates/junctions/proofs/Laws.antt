@@ -1,19 +1,19 @@
 -- One end put into a pairing's part, and one end more of a list.
-use Prim.Native.Nat.{ℕ, zero, suc, _+_, _-_, _*_, _/_, _%_, _≤_, _<_}
+use Prim.Native.Nat.{ℕ, _+_, _-_, _*_, _/_, _%_, _≤_, _<_}
 use mathlib.Core.Path.{_≡_, refl, sym, ap, ap₂, subst, _∙_}
 use mathlib.Core.Logic.{_≢_}
-use mathlib.Core.List.{List, _++_}
+use mathlib.Core.List.{List}
 use native.Mathlib.Omega.{arith}
 use native.Mathlib.Decide.{ℕ-discrete}
-use lib.Ieee.{Float, binary64, ofBits}
-use lib.ListN.{length, getD, set, take, drop, length-set, length-append, length-take, length-drop, List·getD-append}
-use lib.Seq.{getD-set-same, getD-set-other, length-take-le, drop-at, getD-take, getD-drop, getD-append-add}
+use lib.Ieee.{Float}
+use lib.ListN.{length, getD, set, take, drop, length-set, length-append, length-drop, List·getD-append}
+use lib.Seq.{getD-set-same, getD-set-other, length-take-le, drop-at, getD-take, getD-drop}
 use borrow.Rule.Slice.PartMut.{midOf, putMid}
 use Rattle.rules.specs.declared.Direction.{Direction}
 use Rattle.rules.specs.declared.Direction.the-variants.{Absent, Toward}
 use Rattle.rules.specs.Plane.{float, points, directionOf}
 use Rattle.rules.specs.Layout.{given}
-use Rattle.rules.specs.Refusals.{mostEnds, endRoom, recordSize, sourceOf}
+use Rattle.rules.specs.Refusals.{recordSize, sourceOf}
 use Rattle.direction.specs.Seen.{seen}
 use Rattle.pieces.specs.Held.{recordOf, coordinatesAt, Recorded}
 use Rattle.slices.proofs.Laws.{mid-rest, put-rest}

@@ -1,20 +1,19 @@
 -- The words of one end in the workspace, and those of one end more.
-use Prim.Native.Nat.{ℕ, zero, suc, _+_, _-_, _*_, _/_, _%_, _≤_, _<_}
+use Prim.Native.Nat.{ℕ, _+_, _-_, _*_, _/_, _%_, _≤_, _<_}
 use mathlib.Core.Path.{_≡_, refl, sym, ap, subst, _∙_}
 use mathlib.Core.Logic.{_≢_}
-use mathlib.Core.Bool.{Bool, true, false, cond}
+use mathlib.Core.Bool.{Bool}
 use mathlib.Core.List.{List}
 use native.Mathlib.Omega.{arith}
 use native.Mathlib.Decide.{ℕ-discrete}
-use borrow.Author.Tests.{eq-eqb, ne-eqb, eqb-true, eqb-false}
-use lib.Dec.{eqb}
+use borrow.Author.Tests.{eq-eqb, ne-eqb}
 use lib.Ieee.{Float}
 use lib.ListN.{length, getD, set, length-set}
-use lib.Seq.{getD-set-same, getD-set-other, lt-length-set}
+use lib.Seq.{getD-set-same, getD-set-other}
 use Rattle.rules.specs.Refusals.{sourceOf}
-use Rattle.pieces.specs.Held.{recordOf, Recorded}
+use Rattle.pieces.specs.Held.{recordOf}
 use Rattle.keys.proofs.Source.{source-input, source-spare, within-input, within-spare}
-use Rattle.leaders.specs.Group.{Words, words, wordsAt}
+use Rattle.leaders.specs.Group.{words, wordsAt}
 use Rattle.keys.specs.Keys.{groupAt, pairAt, numberAt, wordOf, wordsFor, keyed, Placed, Grouping, Keyable, Keyed}
 
 -- ---- a pair of a record

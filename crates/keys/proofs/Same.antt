@@ -3,28 +3,25 @@
 use Prim.Native.Nat.{ℕ, zero, suc, _+_, _-_, _*_, _/_, _%_, _≤_, _<_}
 use mathlib.Core.Path.{_≡_, refl, sym, ap, ap₂, _∙_}
 use mathlib.Core.Bool.{Bool, true, false, _&&_, cond}
-use mathlib.Core.List.{List, [], _∷_, _++_, reverse, reverse-append}
+use mathlib.Core.List.{List, [], _∷_, reverse, reverse-append}
 use mathlib.Core.Option.{Option}
 use native.Mathlib.Omega.{arith}
 use native.Mathlib.Decide.{ℕ-discrete}
 use borrow.Author.Tests.{eq-eqb, ne-eqb}
 use lib.Dec.{eqb}
-use lib.IntN.{pos}
 use lib.Ieee.{Float}
-use lib.ListN.{length, getD, take, drop, length-take}
-use lib.Seq.{slice, getD-take, getD-drop, take-suc, take-length}
+use lib.ListN.{length, getD, take, drop}
+use lib.Seq.{getD-take, getD-drop, take-suc, take-length}
 use Rattle.rules.specs.Cell.{cell}
-use Rattle.rules.specs.Plane.{Point, point, flat, Key, key, sameInt, sameKey, exactKey, cellKey}
-use Rattle.rules.specs.Walking.{pieceOf, sideOf}
+use Rattle.rules.specs.Plane.{Point, point, flat, key, sameKey, exactKey, cellKey}
 use Rattle.rules.specs.Chaining.{Piece, Rule, nothing, pieceAt, run, keyAt}
-use Rattle.rules.specs.Refusals.{recordSize, sourceOf}
-use Rattle.cell.specs.Lifted.{lifted}
+use Rattle.rules.specs.Refusals.{sourceOf}
 use Rattle.cell.proofs.Same.{cell-same-is}
 use Rattle.pieces.specs.Held.{recordOf, coordinatesAt, Held}
 use Rattle.pieces.proofs.Reading.{recorded, members-are, members-inside, member-count, point-count, coordinates-are}
-use Rattle.leaders.specs.Group.{Words, words, sameWords}
+use Rattle.leaders.specs.Group.{words, sameWords}
 use Rattle.keys.specs.Tells.{Telling, Grouped}
-use Rattle.keys.specs.Keys.{groupAt, pairAt, numberAt, wordOf, wordsFor, Placed, Keyable}
+use Rattle.keys.specs.Keys.{groupAt, pairAt, numberAt, wordOf, wordsFor, Keyable}
 use Rattle.keys.proofs.Laws.{pair-first, pair-last}
 
 -- ---- numbers of points

@@ -1,10 +1,10 @@
 -- The pieces that the rounds leave, beside the lines that pass through: together they are the chains, so that what is known of all chains bounds both.
-use Prim.Native.Nat.{ℕ, suc, _+_, _≤_, zero-le}
+use Prim.Native.Nat.{ℕ, suc, _+_, _≤_}
 use mathlib.Core.Path.{_≡_, refl, ap, _∙_}
 use mathlib.Core.Bool.{Bool, true, false, Bool·beq}
 use mathlib.Core.List.{List, [], _∷_, _++_, map, flatMap, map-append, append-nil}
 use native.Mathlib.Omega.{arith}
-use lib.ListN.{length, drop, length-append, length-take}
+use lib.ListN.{length, length-append}
 use Rattle.rules.specs.Lists.{count, total}
 use Rattle.rules.specs.Plane.{Point, points, flat}
 use Rattle.rules.specs.Chaining.{Piece, Line, Settings, plain, alone, pieces, chains}
@@ -12,7 +12,7 @@ use Rattle.rules.specs.Layout.{lines, copy, laidOut, build}
 use Rattle.chaining.proofs.Counts.{count-append}
 use Rattle.chaining.proofs.Totals.{total-append}
 use Rattle.chaining.proofs.Lines.{flatMap-append, pieces-take, pieces-leave, no-other-line}
-use Rattle.chaining.proofs.Room.{lines-length, size, chains-size, members-fit, chains-fit, marks-fit}
+use Rattle.chaining.proofs.Room.{lines-length, lines-size, size, chains-size, members-fit, chains-fit, marks-fit}
 use Rattle.pieces.specs.Held.{linesOf, marksOf}
 use Rattle.intake.specs.Taken.{plainOf}
 use Rattle.intake.proofs.Passing.{every, ones-long, Lone, pieces-lone, lone-lines, lone-copies}
@@ -29,11 +29,6 @@ pieces-both k (l ∷ ls) = go (plain l) refl (pieces-both (suc k) ls)
         → length (pieces true k (l ∷ ls)) + length (pieces false k (l ∷ ls)) ≡ length (l ∷ ls)
     go true e ih = rw (pieces-take true k l ls (ap (Bool·beq true) e), pieces-leave false k l ls (ap (Bool·beq false) e)) (omega arith)
     go false e ih = rw (pieces-leave true k l ls (ap (Bool·beq true) e), pieces-take false k l ls (ap (Bool·beq false) e)) (omega arith)
-
-lines-size : (ps : List Point) (cs gs ks : List ℕ) → total (map (λ l. length (l .points)) (lines ps cs gs ks)) ≤ total cs
-unfolding lines total
-lines-size ps [] gs ks = zero-le
-lines-size ps (c ∷ cs) gs ks = omega (arith, length-take c ps, lines-size (drop c ps) cs (drop 1 gs) (drop 1 ks))
 
 module _ (s : Settings) (coordinates counts groups kinds : List ℕ) where
   abbrev ls : List Line

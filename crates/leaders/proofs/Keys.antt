@@ -1,5 +1,5 @@
 -- The words of keys told apart, and the bucket of a key.
-use Prim.Native.Nat.{ℕ, zero, suc, _+_, _*_, _/_, _%_, _≤_, _<_}
+use Prim.Native.Nat.{ℕ, _+_, _*_, _/_, _≤_, _<_}
 use mathlib.Core.Path.{_≡_, refl, sym, ap, _∙_}
 use mathlib.Core.Bool.{Bool, true, false, _&&_, and-eq-true-iff}
 use mathlib.Core.List.{List}
@@ -7,8 +7,8 @@ use native.Mathlib.Omega.{arith}
 use native.Mathlib.Nat.{div-lt-iff-lt-mul, mul-lt-mul-of-pos-right, mul-le-mul-right}
 use lib.Dec.{eqb}
 use lib.ListN.{getD}
-use borrow.Author.Tests.{eqb-true, eqb-false, eq-eqb, ne-eqb}
-use Rattle.leaders.specs.Group.{Words, words, sameWords, wordsAt, half, foldOf, bucketOf}
+use borrow.Author.Tests.{eqb-true, eq-eqb, ne-eqb}
+use Rattle.leaders.specs.Group.{Words, words, sameWords, wordsAt}
 
 pub same-true : (a b : Words) → sameWords a b ≡ true → a ≡ b
 unfolding sameWords

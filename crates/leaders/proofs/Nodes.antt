@@ -1,17 +1,15 @@
 -- The lists behind the leaders are the nodes.
 use Prim.Native.Nat.{ℕ, zero, suc, _+_, _-_, _*_, _≤_, _<_}
-use mathlib.Core.Path.{_≡_, refl, sym, ap, _∙_, subst}
-use mathlib.Core.Logic.{_≢_}
-use mathlib.Core.Bool.{Bool, true, false}
+use mathlib.Core.Path.{_≡_, refl, sym, ap, _∙_}
+use mathlib.Core.Bool.{Bool, false}
 use mathlib.Core.List.{List, [], _∷_}
 use native.Mathlib.Omega.{arith}
-use native.Mathlib.Decide.{ℕ-discrete, decLt}
-use lib.ListN.{length, getD}
+use lib.ListN.{getD}
 use Rattle.rules.specs.Lists.{keep, from, upto}
 use Rattle.chaining.proofs.Kept.{keep-yes, keep-no}
-use Rattle.leaders.specs.Group.{Words, sameWords, wordsOf, wordsAt, bucketOf, follow, Grouped, GroupedIn, Placed, Nodes}
+use Rattle.leaders.specs.Group.{Words, sameWords, wordsOf, bucketOf, follow, Grouped, Placed, Nodes}
 use Rattle.leaders.proofs.Space.{keys-kept}
-use Rattle.leaders.proofs.Keys.{same-true, same-refl, same-of, same-false, other-false}
+use Rattle.leaders.proofs.Keys.{same-of, other-false}
 
 from-cons : (a n : ℕ) → 0 < n → from a n ≡ a ∷ from (suc a) (n - 1)
 unfolding from

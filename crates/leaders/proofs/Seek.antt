@@ -1,12 +1,11 @@
 -- The search along a bucket's leaders.
 use Prim.Native.Nat.{ℕ, zero, suc, _+_, _-_, _*_, _≤_, _<_}
 use mathlib.Core.Path.{_≡_, refl, sym, ap, _∙_}
-use mathlib.Core.Logic.{_≢_}
 use mathlib.Core.List.{List}
 use native.Mathlib.Omega.{arith}
 use native.Mathlib.Decide.{ℕ-discrete}
-use lib.ListN.{length, getD}
-use Rattle.leaders.specs.Group.{Words, Grouped, GroupedIn, Found, wordsOf, bucketOf}
+use lib.ListN.{getD}
+use Rattle.leaders.specs.Group.{GroupedIn, Found, wordsOf, bucketOf}
 
 -- c is 1 more than a leader in the bucket, or 0, and a leader of e's words is below c
 pub record Seek (w : List ℕ) (m e b c : ℕ) : Type 0 where

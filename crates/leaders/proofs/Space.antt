@@ -1,10 +1,10 @@
 -- One more end in the workspace.
-use Prim.Native.Nat.{ℕ, zero, suc, _+_, _-_, _*_, _≤_, _<_}
-use mathlib.Core.Path.{_≡_, refl, sym, ap, _∙_, subst}
+use Prim.Native.Nat.{ℕ, _+_, _-_, _*_, _≤_, _<_}
+use mathlib.Core.Path.{_≡_, sym, ap, _∙_, subst}
 use mathlib.Core.Logic.{_≢_}
 use mathlib.Core.List.{List, _++_}
 use native.Mathlib.Omega.{arith}
-use lib.ListN.{length, getD, set, drop, replicate, length-set, length-replicate, getD-replicate, List·getD-append}
+use lib.ListN.{length, getD, set, drop, replicate, length-replicate, getD-replicate, List·getD-append}
 use lib.Seq.{getD-set-same, getD-set-other, lt-length-set, getD-append-add, getD-drop}
 use Rattle.rules.specs.Calls.{cleared}
 use Rattle.leaders.specs.Group.{Words, words, wordsAt, wordsOf, bucketOf, Grouped, GroupedIn, Room, Placed}

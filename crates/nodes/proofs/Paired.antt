@@ -1,27 +1,26 @@
 -- A junction: its ends are listed, put before the pairing, paired, and the pairs joined. Each step leaves the pieces, the groups and the other joins as they
 -- were, and the pairs are those that the book selects.
 use Prim.Native.Nat.{ℕ, zero, suc, _+_, _-_, _*_, _/_, _%_, _≤_, _<_, zero-le}
-use mathlib.Core.Path.{_≡_, refl, sym, ap, ap₂, _∙_, subst}
+use mathlib.Core.Path.{_≡_, refl, sym, ap, ap₂, _∙_}
 use mathlib.Core.Bool.{Bool, true, false, not, cond}
-use mathlib.Core.List.{List, [], _∷_, map}
+use mathlib.Core.List.{List, _∷_, map}
 use mathlib.Core.Option.{Option, none, some}
 use native.Mathlib.Omega.{arith}
-use lib.Dec.{T, eqb}
+use lib.Dec.{T}
 use lib.Ieee.{Float, binary64, isNan, fits}
-use lib.ListN.{length, getD, take, drop, length-drop}
-use lib.Seq.{slice, getD-take, getD-drop}
+use lib.ListN.{length, getD, drop, length-drop}
+use lib.Seq.{slice, getD-drop}
 use borrow.Rule.Slice.PartMut.{midOf, putMid}
 use Rattle.rules.specs.Lists.{keep, from, upto}
 use Rattle.rules.specs.Plane.{Point, points, directionOf}
 use Rattle.rules.specs.Selecting.{Pair, select}
-use Rattle.rules.specs.Walking.{pieceOf, sideOf}
 use Rattle.rules.specs.Chaining.{Piece, Rule, nothing, pieceAt, run, endAt, chosen, joined}
-use Rattle.rules.specs.Refusals.{mostEnds, endRoom, recordSize, limitBad}
+use Rattle.rules.specs.Refusals.{endRoom}
 use Rattle.order.specs.Key.{key}
 use Rattle.selecting.specs.Ranked as ranked
 use Rattle.selecting.specs.Ranked.{Node}
 use Rattle.selecting.specs.Taking.{listed}
-use Rattle.selecting.specs.Ends.{endAt as at, nodeOf as rankedOf, sidesBy}
+use Rattle.selecting.specs.Ends.{nodeOf as rankedOf}
 use Rattle.selecting.proofs.Room.{ranked-room}
 use Rattle.selecting.proofs.Refusals.{limit-number}
 use Rattle.chaining.specs.Table.{fill}
@@ -30,8 +29,8 @@ use Rattle.direction.specs.Seen.{seen}
 use Rattle.slices.specs.Holds.{HoldsFrom}
 use Rattle.slices.proofs.Laws.{mid-rest, from-length, from-below, from-beyond, from-part}
 use Rattle.slices.proofs.Runs.{points-flat}
-use Rattle.pieces.specs.Held.{recordOf, coordinatesAt, Recorded, Held}
-use Rattle.pieces.proofs.Reading.{recorded, coordinates-are, record-inside, getD-part}
+use Rattle.pieces.specs.Held.{Held}
+use Rattle.pieces.proofs.Reading.{recorded, coordinates-are, getD-part}
 use Rattle.ends.specs.Ends.{Room, directionAt, endsIn, Selected}
 use Rattle.ends.specs.Ends as paired
 use Rattle.ends.proofs.Reading.{ends-in-length, ends-in-at}
@@ -43,7 +42,7 @@ use Rattle.joining.specs.Node.{nodeOf, namedPairs, Listable, Puttable}
 use Rattle.joining.proofs.Cases.{node-many, joined-many}
 use Rattle.joining.proofs.Regions.{slice-same}
 use Rattle.nodes.specs.Noded.{Noded, Junction, Joined}
-use Rattle.nodes.proofs.Frames.{held-same, ends-few, joins-room, joined-put, joined-then}
+use Rattle.nodes.proofs.Frames.{held-same, ends-few, joined-put}
 use Rattle.nodes.proofs.Steps.{word}
 use Rattle.nodes.proofs.Named.{node-same, places-below, pairs-named, inside, selected-named}
 

@@ -2,15 +2,14 @@
 use Prim.Native.Nat.{ℕ, _+_, _*_, _/_, _≤_, _<_}
 use mathlib.Core.Path.{_≡_, refl, sym, ap, _∙_, subst}
 use mathlib.Core.Logic.{_≢_}
-use mathlib.Core.Bool.{Bool, true, false, cond}
+use mathlib.Core.Bool.{Bool}
 use mathlib.Core.List.{List, [], _∷_, _++_, map, flatMap, append-nil, append-assoc}
-use mathlib.Core.Option.{Option, none, some}
+use mathlib.Core.Option.{Option, none}
 use native.Mathlib.Omega.{arith}
 use native.Mathlib.Decide.{decLt}
 use borrow.Author.Tests.{le-leb, lt-leb}
-use lib.Dec.{leb}
 use lib.Ieee.{Float}
-use lib.ListN.{length, getD, drop}
+use lib.ListN.{getD, drop}
 use lib.Seq.{slice}
 use Rattle.rules.specs.Selecting.{Pair}
 use Rattle.rules.specs.Chaining.{Piece, Rule, chosen, joined}
@@ -21,7 +20,7 @@ use Rattle.joining.specs.Node.{nodeOf, leading, runsTo}
 use Rattle.joining.proofs.Cases.{node-alone, node-pair, node-many, joined-alone, joined-own, joined-two, joined-many}
 use Rattle.joining.proofs.Runs.{runs-on, runs-off}
 use Rattle.nodes.specs.Noded.{Noded, Joined, joinsAt}
-use Rattle.nodes.proofs.Frames.{joined-same, joined-then, noded-same, groups-same}
+use Rattle.nodes.proofs.Frames.{joined-same, joined-then, groups-same}
 
 pub fill-none : (t : List ℕ) (l : List (ℕ × ℕ)) → l ≡ [] → t ≡ fill t l
 unfolding fill

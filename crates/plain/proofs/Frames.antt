@@ -1,26 +1,23 @@
 -- What words that did not change decide: parts of the workspace, the ends that it holds, which of them are marked, and the first pair of a row.
 use Prim.Native.Nat.{ℕ, _+_, _*_, _-_, _≤_, _<_, min}
 use mathlib.Core.Path.{_≡_, sym, ap, _∙_, subst}
-use mathlib.Core.Bool.{Bool, true, false}
-use mathlib.Core.Logic.{_⊎_, inl, inr}
+use mathlib.Core.Bool.{Bool}
 use mathlib.Core.List.{List}
 use native.Mathlib.Omega.{arith}
-use lib.Dec.{eqb}
 use lib.Ieee.{Float}
 use lib.ListN.{length, getD, take, drop, set, length-take, length-drop, length-set}
 use lib.Seq.{slice, length-slice, getD-take, getD-drop, ext-getD, getD-set-same, getD-set-other}
-use borrow.Author.Tests.{eqb-true, eqb-false}
 use Rattle.rules.specs.Plane.{float}
 use Rattle.rules.specs.Layout.{given}
 use Rattle.rules.specs.Selecting.{End}
 use Rattle.order.specs.Key.{key}
 use Rattle.selecting.specs.Taking.{usedOf, IsFirst}
 use Rattle.selecting.specs.Ends.{nodeOf}
-use Rattle.selecting.proofs.Order.{two}
 use Rattle.ends.specs.Ends.{directionAt, endsIn}
 use Rattle.ends.proofs.Reading.{getD-slice, ends-in-kept}
 use Rattle.row.specs.declared.Held.{Held}
 use Rattle.row.specs.Row.{markAt, usedIn, pairOf, First}
+use Rattle.plain.specs.Steps.{heldAt, Renewed}
 
 module _ (w w′ : List ℕ) (long : length w′ ≡ length w) where
   pub take-same : (k : ℕ) → ((x : ℕ) → x < k → getD w′ x 0 ≡ getD w x 0) → take k w′ ≡ take k w
@@ -62,3 +59,37 @@ module _ (w w′ : List ℕ) (long : length w′ ≡ length w) where
                 (subst (λ (l : List End). IsFirst (nodeOf l) (key limit) (usedIn w′ d) i (pairOf i held)) ends-same (f .pair));
             none = f .none;
           }
+
+-- ---- what a row holds was stored
+
+module _ (w w′ : List ℕ) (d : ℕ) (limit : Float) (i : ℕ) (r : Renewed w d limit i w′) where
+  pub renewed-long : length w′ ≡ length w
+  renewed-long = ap length (r .list) ∙ simp length-set
+
+  pub renewed-other : (x : ℕ) → (x ≡ d * 6 + i → ⊥) → (x ≡ d * 7 + i → ⊥) → getD w′ x 0 ≡ getD w x 0
+  renewed-other x f g =
+      ap (λ (l : List ℕ). getD l x 0) (r .list)
+      ∙ getD-set-other (set w (d * 6 + i) (r .held .key)) (d * 7 + i) x (r .held .partner) 0 g
+      ∙ getD-set-other w (d * 6 + i) x (r .held .key) 0 f
+
+  pub renewed-row : d * 8 ≤ length w → i < d → heldAt w′ d i ≡ r .held
+  renewed-row room i<d = λ t. record { key = key-here t; partner = partner-here t }
+    where
+      key-here : getD w′ (d * 6 + i) 0 ≡ r .held .key
+      key-here =
+          ap (λ (l : List ℕ). getD l (d * 6 + i) 0) (r .list)
+          ∙ getD-set-other (set w (d * 6 + i) (r .held .key)) (d * 7 + i) (d * 6 + i) (r .held .partner) 0 (λ e. omega arith)
+          ∙ getD-set-same w (d * 6 + i) (r .held .key) 0 (omega arith)
+
+      partner-here : getD w′ (d * 7 + i) 0 ≡ r .held .partner
+      partner-here =
+          ap (λ (l : List ℕ). getD l (d * 7 + i) 0) (r .list)
+          ∙ getD-set-same (set w (d * 6 + i) (r .held .key)) (d * 7 + i) (r .held .partner) 0 (simp length-set (omega arith))
+
+  -- other rows hold what they held
+  pub renewed-rows : i < d → (x : ℕ) → x < d → (x ≡ i → ⊥) → heldAt w′ d x ≡ heldAt w d x
+  renewed-rows i<d x h f =
+      λ t. record {
+        key = renewed-other (d * 6 + x) (λ e. f (omega arith)) (λ e. omega arith) t;
+        partner = renewed-other (d * 7 + x) (λ e. omega arith) (λ e. f (omega arith)) t;
+      }

@@ -1,14 +1,12 @@
 -- What a row holds: no pair, and then none of its pairs is free; or a qualifying pair that is at or before each of them. It stays so while ends are taken.
 -- The least pair held, if it is free, is the least free pair of all.
-use Prim.Native.Nat.{ℕ, _+_, _*_, _≤_, _<_}
+use Prim.Native.Nat.{ℕ, _≤_, _<_}
 use mathlib.Core.Path.{_≡_, refl, sym, ap, _∙_, subst}
-use mathlib.Core.Bool.{Bool, true, false, not, _||_}
+use mathlib.Core.Bool.{Bool, true, false}
 use mathlib.Core.Logic.{_⊎_, inl, inr, ⊎-elim}
 use mathlib.Core.List.{List, [], _∷_}
 use native.Mathlib.Omega.{arith}
 use lib.Dec.{eqb, leb}
-use lib.Ieee.{Float}
-use lib.ListN.{getD}
 use borrow.Author.Tests.{eqb-true, eqb-false, leb-true}
 use Rattle.order.specs.Key.{key-nan, key}
 use Rattle.selecting.specs.Ranked.{Pair, Node, candidates, qualifies, busy, before, mark, sort, greedy, none, selectFrom, select}
@@ -19,7 +17,6 @@ use Rattle.selecting.proofs.Greedy.{or-false-left, free-less, greedy-nil, greed
 use Rattle.selecting.proofs.Sort.{in-sort}
 use Rattle.selecting.proofs.Laws.{in-candidates}
 use Rattle.selecting.proofs.Rows.{row-taken}
-use Rattle.row.specs.declared.Held.{Held}
 
 pub record Holding (n : Node) (limit : ℕ) (used : ℕ → Bool) (i : ℕ) (p : Pair) : Type 0 where
   pub nothing : key-nan ≤ p .key → (q : Pair) → In q (candidates n limit) → busy used q ≡ false → q .i ≡ i → ⊥

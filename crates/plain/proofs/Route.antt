@@ -1,13 +1,12 @@
 -- The whole route: what holds between turns, with every block settled, holds before the first turn and is kept by each.
 use Prim.Native.Nat.{ℕ, _+_, _*_, _/_, _≤_, _<_}
 use mathlib.Core.Path.{_≡_, refl, sym, ap, _∙_, subst}
-use mathlib.Core.Bool.{true, false}
+use mathlib.Core.Bool.{false}
 use mathlib.Core.Logic.{_⊎_, inl, inr}
 use mathlib.Core.List.{List, _++_}
 use native.Mathlib.Omega.{arith}
 use lib.Ieee.{Float}
-use lib.ListN.{length, getD, set, length-set}
-use lib.Seq.{getD-set-other}
+use lib.ListN.{length, getD}
 use Rattle.rules.specs.Refusals.{limitBad}
 use Rattle.order.specs.Key.{key-nan, key}
 use Rattle.rules.specs.Selecting.{End}
@@ -21,10 +20,10 @@ use Rattle.plain.specs.declared.Low.{Low}
 use Rattle.plain.specs.Lows.{IsLow, blocksOf, Settled, Lows, all}
 use Rattle.plain.specs.Steps.{Outside, Marked, Renewed, Rows, Levelled, takenFrom}
 use Rattle.plain.proofs.Blockwise.{block-below, lows-kept, lows-more, settled-outside}
-use Rattle.plain.proofs.Frames.{take-same, drop-same, ends-same, direction-same}
+use Rattle.plain.proofs.Frames.{take-same, drop-same, ends-same, direction-same, renewed-long, renewed-other}
 use Rattle.plain.proofs.Holding.{Holding}
 use Rattle.plain.proofs.Turns.{Core, row, core-start, core-same, core-renew}
-use Rattle.plain.proofs.Taking.{taken-long, taken-other, take-fits, top-below, top-partner, core-take}
+use Rattle.plain.proofs.Taking.{taken-long, taken-other, take-fits, top-partner, core-take}
 
 -- The same, counted from the workspace as it stands at a turn: its ends are those at entry.
 pub core-from : (w₀ : List ℕ) (d : ℕ) (limit : Float) (w : List ℕ) (n : ℕ) → d * 6 ≤ length w₀ → Core w₀ d limit w n → Core w d limit w n
@@ -103,17 +102,14 @@ module _ (w₀ : List ℕ) (d : ℕ) (limit : Float) (room : Room w₀ d) (below
 
     -- row i is gone through again
     module _ (i : ℕ) (i<d : i < d) (w₁ w₂ : List ℕ) (r : Renewed w d limit i w₁) (f : length w₂ ≡ length w₁) (t : Settled w₁ d (i / 16) w₂) where
-      pub renewed-long : length w₁ ≡ length w
-      renewed-long = ap length (r .list) ∙ simp length-set
+      now-long : length w₁ ≡ length w
+      now-long = renewed-long w w₁ d limit i r
 
       pub settled-same : (x : ℕ) → x < d * 8 → getD w₂ x 0 ≡ getD w₁ x 0
-      settled-same x h = settled-outside w₁ w₂ d (i / 16) (omega (arith, ten, renewed-long)) (block-below d i i<d) t x (inl h)
+      settled-same x h = settled-outside w₁ w₂ d (i / 16) (omega (arith, ten, now-long)) (block-below d i i<d) t x (inl h)
 
       other : (x : ℕ) → (x ≡ d * 6 + i → ⊥) → (x ≡ d * 7 + i → ⊥) → getD w₁ x 0 ≡ getD w x 0
-      other x a b =
-          ap (λ (l : List ℕ). getD l x 0) (r .list)
-          ∙ getD-set-other (set w (d * 6 + i) (r .held .key)) (d * 7 + i) x (r .held .partner) 0 b
-          ∙ getD-set-other w (d * 6 + i) x (r .held .key) 0 a
+      other = renewed-other w w₁ d limit i r
 
       outside : Outside (d * 4) (d * 8) w w₁
       outside x (inl o) = other x (λ e. omega arith) (λ e. omega arith)
@@ -122,8 +118,8 @@ module _ (w₀ : List ℕ) (d : ℕ) (limit : Float) (room : Room w₀ d) (below
       pub going-renew : Going w₀ d limit w₂ n
       going-renew =
           record {
-            core = settled-core w₁ w₂ n (i / 16) (renewed-long ∙ s .core .long) f (block-below d i i<d) t (core-renew w₀ d limit room below w w₁ n i i<d r (s .core));
-            lows = λ b h _. lows-more w₁ w₂ d (i / 16) (omega (arith, ten, renewed-long)) (block-below d i i<d) t (λ x. x ≡ i / 16 → ⊥)
+            core = settled-core w₁ w₂ n (i / 16) (now-long ∙ s .core .long) f (block-below d i i<d) t (core-renew w₀ d limit room below w w₁ n i i<d r (s .core));
+            lows = λ b h _. lows-more w₁ w₂ d (i / 16) (omega (arith, ten, now-long)) (block-below d i i<d) t (λ x. x ≡ i / 16 → ⊥)
                 (lows-kept w w₁ d all (λ x. x ≡ i / 16 → ⊥) (s .lows) (λ x _. tt) (λ x h p. other (d * 6 + x) (λ e. p (ap (λ (y : ℕ). y / 16) (same e))) (λ e. omega arith)) outside)
                 b h (λ p. p);
           }

@@ -1,25 +1,25 @@
 -- Why the turns end. A row is stale if the partner that it holds is marked. Each turn takes a pair, of which there are at most d, or makes a stale row one that isn't.
 use Prim.Native.Nat.{ℕ, zero, suc, _+_, _*_, _-_, _≤_, _<_}
 use mathlib.Core.Path.{_≡_, refl, sym, ap, ap₂, _∙_}
-use mathlib.Core.Bool.{Bool, true, false, _&&_, _||_, and-false}
+use mathlib.Core.Bool.{Bool, true, false, _&&_, and-false}
 use mathlib.Core.Logic.{_⊎_, inl, inr}
 use mathlib.Core.List.{List}
 use native.Mathlib.Omega.{arith}
 use native.Mathlib.Nat.{add-mul}
 use lib.Dec.{eqb, ltb}
 use lib.Ieee.{Float}
-use lib.ListN.{length, getD, set, length-set}
-use lib.Seq.{getD-set-same, getD-set-other}
+use lib.ListN.{length, getD}
 use borrow.Author.Tests.{eqb-true, eqb-false, ltb-true, lt-ltb}
 use Rattle.rules.specs.Lists.{one}
 use Rattle.order.specs.Key.{key-nan}
 use Rattle.selecting.specs.Ranked.{busy}
 use Rattle.selecting.proofs.Order.{two, Three, three}
 use Rattle.selecting.proofs.Greedy.{or-false-right}
+use Rattle.row.specs.declared.Held.{Held}
 use Rattle.row.specs.Row.{markAt, usedIn}
 use Rattle.row.proofs.Walk.{used-marked}
-use Rattle.plain.specs.Steps.{Renewed}
-use Rattle.plain.proofs.Frames.{used-same}
+use Rattle.plain.specs.Steps.{heldAt, Renewed}
+use Rattle.plain.proofs.Frames.{used-same, renewed-long, renewed-other, renewed-row, renewed-rows}
 
 -- how many numbers below d pass a test
 tally : (ℕ → Bool) → ℕ → ℕ
@@ -79,32 +79,15 @@ take-less w w′ d n h =
     omega (arith, tally-le (staleAt w′ d) d, ap (λ (k : ℕ). k * (d + 1)) e, add-mul (d - (n + 1)) 1 (d + 1))
 
 module _ (w w′ : List ℕ) (d : ℕ) (limit : Float) (i : ℕ) (room : d * 8 ≤ length w) (i<d : i < d) (r : Renewed w d limit i w′) where
-  long : length w′ ≡ length w
-  long = ap length (r .list) ∙ simp length-set
-
-  other : (x : ℕ) → (x ≡ d * 6 + i → ⊥) → (x ≡ d * 7 + i → ⊥) → getD w′ x 0 ≡ getD w x 0
-  other x f g =
-      ap (λ (l : List ℕ). getD l x 0) (r .list)
-      ∙ getD-set-other (set w (d * 6 + i) (r .held .key)) (d * 7 + i) x (r .held .partner) 0 g
-      ∙ getD-set-other w (d * 6 + i) x (r .held .key) 0 f
-
   used : usedIn w′ d ≡ usedIn w d
-  used = used-same w w′ long d (omega arith) (λ e h. other (d * 5 + e) (λ q. omega arith) (λ q. omega arith))
+  used = used-same w w′ (renewed-long w w′ d limit i r) d (omega arith) (λ e h. renewed-other w w′ d limit i r (d * 5 + e) (λ q. omega arith) (λ q. omega arith))
 
   fresh : staleAt w′ d i ≡ false
   unfolding staleAt busy
-  fresh = level key-here partner-here used ∙ go (two (ltb (r .held .key) key-nan))
+  fresh = level (ap (λ (p : Held). p .key) here) (ap (λ (p : Held). p .partner) here) used ∙ go (two (ltb (r .held .key) key-nan))
     where
-      key-here : getD w′ (d * 6 + i) 0 ≡ r .held .key
-      key-here =
-          ap (λ (l : List ℕ). getD l (d * 6 + i) 0) (r .list)
-          ∙ getD-set-other (set w (d * 6 + i) (r .held .key)) (d * 7 + i) (d * 6 + i) (r .held .partner) 0 (λ e. omega arith)
-          ∙ getD-set-same w (d * 6 + i) (r .held .key) 0 (omega arith)
-
-      partner-here : getD w′ (d * 7 + i) 0 ≡ r .held .partner
-      partner-here =
-          ap (λ (l : List ℕ). getD l (d * 7 + i) 0) (r .list)
-          ∙ getD-set-same (set w (d * 6 + i) (r .held .key)) (d * 7 + i) (r .held .partner) 0 (simp length-set (omega arith))
+      here : heldAt w′ d i ≡ r .held
+      here = renewed-row w w′ d limit i r room i<d
 
       met : r .held .key < key-nan → 0 < r .held .partner
       met h = some (two (eqb (r .held .partner) 0))
@@ -127,9 +110,9 @@ module _ (w w′ : List ℕ) (d : ℕ) (limit : Float) (i : ℕ) (room : d * 8 �
   renew-less w″ n long″ same k j m =
       omega (
         arith,
-        stale-same w′ w″ d long″ (omega (arith, long)) same,
+        stale-same w′ w″ d long″ (omega (arith, renewed-long w w′ d limit i r)) same,
         tally-less (staleAt w d) (staleAt w′ d) i d i<d
             (rw (lt-ltb (getD w (d * 6 + i) 0) key-nan k) (used-marked w d (getD w (d * 7 + i) 0) j m))
             fresh
-            (λ x h f. level (other (d * 6 + x) (λ q. f (omega arith)) (λ q. omega arith)) (other (d * 7 + x) (λ q. omega arith) (λ q. f (omega arith))) used),
+            (λ x h f. (let e = renewed-rows w w′ d limit i r i<d x h f in level (ap (λ (p : Held). p .key) e) (ap (λ (p : Held). p .partner) e) used)),
       )

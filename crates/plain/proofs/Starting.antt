@@ -2,26 +2,23 @@
 use Prim.Native.Nat.{ℕ, _+_, _*_, _≤_, _<_}
 use mathlib.Core.Path.{_≡_, refl, sym, ap, _∙_, subst}
 use mathlib.Core.Bool.{Bool, true, false, not}
-use mathlib.Core.Logic.{_⊎_, inl, inr}
+use mathlib.Core.Logic.{inl, inr}
 use mathlib.Core.List.{List}
 use native.Mathlib.Omega.{arith}
-use lib.Dec.{eqb}
 use lib.Ieee.{Float}
-use lib.ListN.{length, getD, set, length-set}
+use lib.ListN.{length, getD, set}
 use lib.Seq.{getD-set-same, getD-set-other}
-use borrow.Author.Tests.{eqb-true, eqb-false}
 use Rattle.rules.specs.declared.Direction.{Direction}
 use Rattle.rules.specs.Lists.{one}
 use Rattle.rules.specs.Refusals.{limitBad}
-use Rattle.selecting.proofs.Order.{two, Three, three}
+use Rattle.selecting.proofs.Order.{Three, three}
 use Rattle.ends.specs.Ends.{Room, directionAt}
-use Rattle.row.specs.declared.Held.{Held}
 use Rattle.row.specs.Near.{numbered}
 use Rattle.row.specs.Row.{markAt, Walkable, First}
 use Rattle.plain.specs.Lows.{blocksOf, Settled, Lows}
 use Rattle.plain.specs.Steps.{Outside, heldAt, markOf, Marked, Playable, Renewed, Rows}
 use Rattle.plain.proofs.Blockwise.{settled-outside, lows-more}
-use Rattle.plain.proofs.Frames.{direction-same, first-same}
+use Rattle.plain.proofs.Frames.{direction-same, first-same, renewed-other, renewed-row, renewed-rows}
 
 -- what is below k + 1 is below k or is k
 pub last : (P : ℕ → Type 0) (k x : ℕ) → x < k + 1 → (x < k → P x) → P k → P x
@@ -79,35 +76,14 @@ module _ (w w′ : List ℕ) (d : ℕ) (limit : Float) (long : length w′ ≡ l
   pub rows-step : (k : ℕ) (w″ : List ℕ) → k < d → Rows w d limit k w′ → Renewed w′ d limit k w″ → Rows w d limit (k + 1) w″
   rows-step k w″ h s r =
       record {
-        first = λ x g. last (λ x. First w d limit x (heldAt w″ d x)) k x g (λ a. rw (same x a) (s .first x a)) (rw here (first-same w w′ long d room kept limit k (r .held) marks (r .first)));
+        first = λ x g. last (λ x. First w d limit x (heldAt w″ d x)) k x g
+            (λ a. rw (renewed-rows w′ w″ d limit k r h x (omega arith) (λ e. omega arith)) (s .first x a))
+            (rw (renewed-row w′ w″ d limit k r (omega (arith, ok .room .long)) h) (first-same w w′ long d room kept limit k (r .held) marks (r .first)));
         others = others;
       }
     where
       other : (x : ℕ) → (x ≡ d * 6 + k → ⊥) → (x ≡ d * 7 + k → ⊥) → getD w″ x 0 ≡ getD w′ x 0
-      other x f g =
-          ap (λ (l : List ℕ). getD l x 0) (r .list)
-          ∙ getD-set-other (set w′ (d * 6 + k) (r .held .key)) (d * 7 + k) x (r .held .partner) 0 g
-          ∙ getD-set-other w′ (d * 6 + k) x (r .held .key) 0 f
-
-      same : (x : ℕ) → x < k → heldAt w″ d x ≡ heldAt w′ d x
-      same x a = λ t. record {
-        key = other (d * 6 + x) (λ e. omega arith) (λ e. omega arith) t;
-        partner = other (d * 7 + x) (λ e. omega arith) (λ e. omega arith) t;
-      }
-
-      here : heldAt w″ d k ≡ r .held
-      here = λ t. record { key = a t; partner = b t }
-        where
-          a : getD w″ (d * 6 + k) 0 ≡ r .held .key
-          a =
-              ap (λ (l : List ℕ). getD l (d * 6 + k) 0) (r .list)
-              ∙ getD-set-other (set w′ (d * 6 + k) (r .held .key)) (d * 7 + k) (d * 6 + k) (r .held .partner) 0 (λ e. omega arith)
-              ∙ getD-set-same w′ (d * 6 + k) (r .held .key) 0 (omega (arith, ok .room .long))
-
-          b : getD w″ (d * 7 + k) 0 ≡ r .held .partner
-          b =
-              ap (λ (l : List ℕ). getD l (d * 7 + k) 0) (r .list)
-              ∙ getD-set-same (set w′ (d * 6 + k) (r .held .key)) (d * 7 + k) (r .held .partner) 0 (simp length-set (omega (arith, ok .room .long)))
+      other = renewed-other w′ w″ d limit k r
 
       others : Outside (d * 6) (d * 8) w w″
       others x (inl o) = other x (λ e. omega arith) (λ e. omega arith) ∙ s .others x (inl o)

@@ -10,7 +10,7 @@ use lib.Dec.{eqb}
 use lib.Ieee.{Float}
 use lib.ListN.{length, getD, set, take, drop, length-set, length-append, List·getD-append}
 use lib.Seq.{slice, length-slice, ext-getD, getD-set-same, getD-set-other, getD-append-add, take-set-le, take-set-lt, drop-set-lt, drop-set-add}
-use borrow.Author.Tests.{eqb-true, eqb-false, eq-eqb, ne-eqb}
+use borrow.Author.Tests.{eqb-true, eqb-false}
 use Rattle.order.specs.Key.{key-nan, key}
 use Rattle.selecting.specs.Ranked.{Pair, candidates, busy, mark, selectFrom, select}
 use Rattle.selecting.specs.Sets.{In, Least}

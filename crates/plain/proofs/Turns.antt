@@ -1,41 +1,35 @@
 -- The turns of the plain route: what holds between them, that going through a row again and taking the least pair held keep it, and that the selection is listed
 -- when no row holds a pair.
-use Prim.Native.Nat.{ℕ, _+_, _*_, _/_, _≤_, _<_}
+use Prim.Native.Nat.{ℕ, _+_, _*_, _≤_, _<_}
 use mathlib.Core.Path.{_≡_, refl, sym, ap, _∙_, subst}
-use mathlib.Core.Bool.{Bool, true, false, not, _||_}
+use mathlib.Core.Bool.{Bool, true, false, not}
 use mathlib.Core.Logic.{_⊎_, inl, inr}
-use mathlib.Core.List.{List, [], _∷_, _++_, append-nil, append-assoc}
+use mathlib.Core.List.{List, [], _++_}
 use native.Mathlib.Omega.{arith}
-use lib.Dec.{T, eqb}
-use lib.Ieee.{Float, binary64, fits}
-use lib.ListN.{length, getD, set, take, drop, length-set, length-append, List·getD-append}
-use lib.Seq.{slice, length-slice, ext-getD, getD-set-same, getD-set-other, getD-append-add, take-set-le, take-set-lt, drop-set-add}
-use borrow.Author.Tests.{eqb-true, eqb-false, eq-eqb, ne-eqb}
+use lib.Dec.{eqb}
+use lib.Ieee.{Float}
+use lib.ListN.{length, getD, length-append}
+use borrow.Author.Tests.{eqb-true, eqb-false}
 use Rattle.rules.specs.Lists.{one}
 use Rattle.rules.specs.Selecting.{End}
-use Rattle.rules.specs.Refusals.{limitBad}
 use Rattle.order.specs.Key.{key-nan, key}
-use Rattle.selecting.specs.Ranked.{Pair, Node, candidates, busy, before, mark, selectFrom, select}
-use Rattle.selecting.specs.Sets.{In, Least}
-use Rattle.selecting.specs.Taking.{usedOf, listed, IsFirst}
-use Rattle.selecting.specs.Ends.{keyOf, nodeOf}
-use Rattle.selecting.proofs.Order.{two, tf, Three, three}
-use Rattle.selecting.proofs.Laws.{in-candidates, select-step, select-stop}
-use Rattle.selecting.proofs.Taking.{used-mark, length-listed, listed-append}
+use Rattle.selecting.specs.Ranked.{Pair, Node, candidates, selectFrom, select}
+use Rattle.selecting.specs.Sets.{In}
+use Rattle.selecting.specs.Taking.{listed, IsFirst}
+use Rattle.selecting.specs.Ends.{nodeOf}
+use Rattle.selecting.proofs.Order.{two}
+use Rattle.selecting.proofs.Laws.{in-candidates}
 use Rattle.selecting.proofs.Room.{ranked-room}
-use Rattle.selecting.proofs.Refusals.{limit-under}
-use Rattle.ends.specs.Ends.{Room, Selected, directionAt, endsIn}
-use Rattle.ends.proofs.Reading.{getD-slice, ends-in-length, key-in}
+use Rattle.ends.specs.Ends.{Room, directionAt, endsIn}
+use Rattle.ends.proofs.Reading.{ends-in-length, key-in}
 use Rattle.row.specs.declared.Held.{Held}
 use Rattle.row.specs.Near.{numbered}
 use Rattle.row.specs.Row.{markAt, usedIn, pairOf, First}
 use Rattle.row.proofs.Measures.{low-numbered}
 use Rattle.row.proofs.Walk.{used-marked, used-free}
-use Rattle.plain.specs.declared.Low.{Low}
-use Rattle.plain.specs.Lows.{IsLow}
-use Rattle.plain.specs.Steps.{Outside, heldAt, markOf, Marked, Renewed, Rows, takenFrom}
-use Rattle.plain.proofs.Frames.{take-same, drop-same, used-same, ends-same, direction-same, first-same}
-use Rattle.plain.proofs.Holding.{Holding, holding-first, holding-mark, holding-none, idle-first, none-free, least-held, candidate-low, select-out}
+use Rattle.plain.specs.Steps.{heldAt, Marked, Renewed, Rows}
+use Rattle.plain.proofs.Frames.{used-same, ends-same, renewed-long, renewed-other, renewed-row, renewed-rows}
+use Rattle.plain.proofs.Holding.{Holding, holding-first, idle-first, candidate-low, select-out}
 
 abbrev pub node : List ℕ → ℕ → Node
 node w d = nodeOf (endsIn w d)
@@ -191,13 +185,10 @@ module _ (w₀ : List ℕ) (d : ℕ) (limit : Float) (room : Room w₀ d) (low :
       }
     where
       long : length w′ ≡ length w
-      long = ap length (r .list) ∙ simp length-set
+      long = renewed-long w w′ d limit i r
 
       other : (x : ℕ) → (x ≡ d * 6 + i → ⊥) → (x ≡ d * 7 + i → ⊥) → getD w′ x 0 ≡ getD w x 0
-      other x f g =
-          ap (λ (l : List ℕ). getD l x 0) (r .list)
-          ∙ getD-set-other (set w (d * 6 + i) (r .held .key)) (d * 7 + i) x (r .held .partner) 0 g
-          ∙ getD-set-other w (d * 6 + i) x (r .held .key) 0 f
+      other = renewed-other w w′ d limit i r
 
       marks : (e : ℕ) → e < d → markAt w′ d e ≡ markAt w d e
       marks e h = other (d * 5 + e) (λ q. omega arith) (λ q. omega arith)
@@ -205,25 +196,8 @@ module _ (w₀ : List ℕ) (d : ℕ) (limit : Float) (room : Room w₀ d) (low :
       used : usedIn w′ d ≡ usedIn w d
       used = used-same w w′ long d (omega (arith, six, c .long)) marks
 
-      key-here : getD w′ (d * 6 + i) 0 ≡ r .held .key
-      key-here =
-          ap (λ (l : List ℕ). getD l (d * 6 + i) 0) (r .list)
-          ∙ getD-set-other (set w (d * 6 + i) (r .held .key)) (d * 7 + i) (d * 6 + i) (r .held .partner) 0 (λ e. omega arith)
-          ∙ getD-set-same w (d * 6 + i) (r .held .key) 0 (omega (arith, room .long, c .long))
-
-      partner-here : getD w′ (d * 7 + i) 0 ≡ r .held .partner
-      partner-here =
-          ap (λ (l : List ℕ). getD l (d * 7 + i) 0) (r .list)
-          ∙ getD-set-same (set w (d * 6 + i) (r .held .key)) (d * 7 + i) (r .held .partner) 0 (simp length-set (omega (arith, room .long, c .long)))
-
-      here : r .held ≡ heldAt w′ d i
-      here = λ t. record { key = sym key-here t; partner = sym partner-here t }
-
-      there : (x : ℕ) → (x ≡ i → ⊥) → x < d → heldAt w d x ≡ heldAt w′ d x
-      there x f h = λ t. record {
-        key = sym (other (d * 6 + x) (λ e. f (omega arith)) (λ e. omega arith)) t;
-        partner = sym (other (d * 7 + x) (λ e. omega arith) (λ e. f (omega arith))) t;
-      }
+      here : heldAt w′ d i ≡ r .held
+      here = renewed-row w w′ d limit i r (omega (arith, room .long, c .long)) i<d
 
       first : IsFirst (node w₀ d) (key limit) (usedIn w d) i (pairOf i (r .held))
       first = first-of-w₀ w n i (r .held) c (r .first)
@@ -231,13 +205,13 @@ module _ (w₀ : List ℕ) (d : ℕ) (limit : Float) (room : Room w₀ d) (low :
       rows : (x : ℕ) → x < d → (eqb x i ≡ true) ⊎ (eqb x i ≡ false) → Holding (node w₀ d) (key limit) (usedIn w d) x (row w′ d x)
       rows x h (inl e) =
           subst (λ (y : ℕ). Holding (node w₀ d) (key limit) (usedIn w d) y (row w′ d y)) (sym (eqb-true x i e))
-          (subst (λ (p : Held). Holding (node w₀ d) (key limit) (usedIn w d) i (pairOf i p)) here
+          (subst (λ (p : Held). Holding (node w₀ d) (key limit) (usedIn w d) i (pairOf i p)) (sym here)
           (holding-first (node w₀ d) (key limit) low (usedIn w d) i (pairOf i (r .held)) first (r .first .none)))
-      rows x h (inr e) = subst (λ (p : Held). Holding (node w₀ d) (key limit) (usedIn w d) x (pairOf x p)) (there x (eqb-false x i e) h) (c .rows x h)
+      rows x h (inr e) = subst (λ (p : Held). Holding (node w₀ d) (key limit) (usedIn w d) x (pairOf x p)) (sym (renewed-rows w w′ d limit i r i<d x h (eqb-false x i e))) (c .rows x h)
 
       idle : (e : ℕ) → e < d → (markAt w d e ≡ 0 → ⊥) → (eqb e i ≡ true) ⊎ (eqb e i ≡ false) → getD w′ (d * 6 + e) 0 ≡ key-nan
       idle e h m (inl a) =
           let f = eqb-true e i a in
-          ap (λ (y : ℕ). getD w′ (d * 6 + y) 0) f ∙ key-here
+          ap (λ (y : ℕ). getD w′ (d * 6 + y) 0) f ∙ ap (λ (p : Held). p .key) here
           ∙ idle-first (node w₀ d) (key limit) (usedIn w d) i (pairOf i (r .held)) first (r .first .none) (used-marked w d i i<d (λ z. m (ap (markAt w d) f ∙ z)))
       idle e h m (inr a) = other (d * 6 + e) (λ q. eqb-false e i a (omega arith)) (λ q. omega arith) ∙ c .idle e h m

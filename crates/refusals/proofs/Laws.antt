@@ -2,7 +2,7 @@
 use mathlib.Core.Path.{_≡_, refl, sym, _∙_}
 use mathlib.Core.Bool.{Bool, true, false, not, _||_, true≢false}
 use mathlib.Core.List.{List, [], _∷_}
-use Prim.Native.Nat.{ℕ, zero, suc, _+_, _*_, _≤_, _<_}
+use Prim.Native.Nat.{ℕ, suc, _+_, _*_, _≤_, _<_}
 use native.Mathlib.Nat.{add-assoc}
 use native.Mathlib.Numerals.{add-one}
 use native.Mathlib.Omega.{arith}
@@ -11,7 +11,8 @@ use lib.Seq.{drop-cons}
 use lib.Dec.{ltb, eqb}
 use borrow.Author.Tests.{lt-ltb, le-ltb, ltb-false, eqb-true, not-false}
 use Rattle.rules.specs.Lists.{total}
-use Rattle.rules.specs.Refusals.{Lent, anyAbove, switchBad, roomShort, firstOf, refusalOf, mostLines, mostPoints, recordSize, lineRoom}
+use Rattle.refusals.specs.Admitted.{Admitted}
+use Rattle.rules.specs.Refusals.{Lent, anyAbove, switchBad, roomShort, firstOf, refusalOf, mostLines, mostPoints}
 
 -- ---- sums and kinds
 
@@ -94,20 +95,6 @@ pub sums : (t s numbers : ℕ) {b : Bool} → s ≡ t → eqb (s * 2) numbers �
 sums t s numbers e f = rw (← e, f)
 
 -- ---- what an accepted call has
-
-pub record Admitted (i : Lent) : Type 0 where
-  pub few : length (i .counts) ≤ 4096
-  pub groups-long : length (i .groups) ≡ length (i .counts)
-  pub kinds-long : length (i .kinds) ≡ length (i .counts)
-  pub adds : total (i .counts) * 2 ≡ length (i .coordinates)
-  pub small : length (i .coordinates) ≤ 131072
-  pub switched : switchBad (i .switch) (i .limit) ≡ false
-  pub table-long : length (i .counts) * 5 ≤ length (i .table)
-  pub members-long : length (i .counts) ≤ length (i .members)
-  pub marks-long : length (i .counts) ≤ length (i .marks)
-  pub merged-long : length (i .coordinates) ≤ length (i .merged)
-  pub spare-long : length (i .coordinates) ≤ length (i .spare)
-  pub workspace-long : length (i .counts) * 192 ≤ length (i .workspace)
 
 off-first : (k : ℕ) (b : Bool) (l : List (ℕ × Bool)) → 0 ≡ firstOf ((suc k, b) ∷ l) → (b ≡ false) × Left 0 l
 unfolding firstOf

@@ -1,7 +1,7 @@
 -- The ends grouped by key: the keys are collected beyond the pieces, the groups are made in the part beyond them all, and the words tell ends apart as
 -- the book's keys do.
 use Prim.Native.Nat.{ℕ, _+_, _-_, _*_, _/_, _%_, _≤_, _<_}
-use mathlib.Core.Path.{_≡_, refl, sym, ap, ap₂, _∙_, subst}
+use mathlib.Core.Path.{_≡_, sym, ap, ap₂, _∙_, subst}
 use mathlib.Core.Bool.{Bool}
 use mathlib.Core.List.{List}
 use native.Mathlib.Omega.{arith}
@@ -10,9 +10,9 @@ use lib.ListN.{length, getD, drop, length-drop}
 use lib.Seq.{getD-drop}
 use borrow.Rule.Slice.PartMut.{midOf, putMid}
 use Rattle.rules.specs.Plane.{sameKey}
-use Rattle.rules.specs.Chaining.{Piece, Rule, keyAt}
+use Rattle.rules.specs.Chaining.{keyAt}
 use Rattle.slices.proofs.Laws.{mid-rest}
-use Rattle.pieces.specs.Held.{recordOf, Held}
+use Rattle.pieces.specs.Held.{recordOf}
 use Rattle.leaders.specs.Group.{Words, words, sameWords, wordsAt, wordsOf, Room, Nodes}
 use Rattle.leaders.proofs.Space.{keys-kept}
 use Rattle.leaders.proofs.Nodes.{nodes-own}

@@ -1,6 +1,6 @@
 -- From grouped ends to walks: a table of zeros, filled node by node, is that of the partners, and the walks over it are the book's.
 use Prim.Native.Nat.{ℕ, _+_, _-_, _*_, _≤_, _<_}
-use mathlib.Core.Path.{_≡_, refl, sym, ap, _∙_, subst}
+use mathlib.Core.Path.{_≡_, sym, ap, _∙_, subst}
 use mathlib.Core.Bool.{Bool}
 use mathlib.Core.Option.{Option}
 use mathlib.Core.List.{List, map, flatten, flatMap}
@@ -12,7 +12,6 @@ use lib.Seq.{slice, getD-drop, ext-getD, drop-drop}
 use borrow.Rule.Slice.PartMut.{midOf, putMid}
 use Rattle.rules.specs.Walking.{walks}
 use Rattle.rules.specs.Chaining.{Piece, Rule, joined, partner}
-use Rattle.rules.specs.Refusals.{mostLines}
 use Rattle.rules.specs.Calls.{cleared}
 use Rattle.chaining.specs.Joins.{Joins}
 use Rattle.chaining.specs.Table.{tableOf, fromTable, Table, fill}
@@ -25,7 +24,7 @@ use Rattle.pieces.proofs.Reading.{getD-part}
 use Rattle.joining.specs.Node.{runsTo}
 use Rattle.joining.proofs.Regions.{drop-same}
 use Rattle.joining.proofs.Runs.{runs-table}
-use Rattle.junctions.proofs.Laws.{back-drop, back-front, back-length}
+use Rattle.junctions.proofs.Laws.{back-drop, back-length}
 use Rattle.nodes.specs.Noded.{Noded, Joined}
 use Rattle.nodes.proofs.Frames.{held-same, noded-kept}
 use Rattle.tours.specs.Tour.{joinsOf, marksOf, toursOf, Ready, Toured}

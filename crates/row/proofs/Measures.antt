@@ -6,7 +6,7 @@ use mathlib.Core.Logic.{_⊎_, inl, inr}
 use mathlib.Core.List.{List}
 use Prim.Native.Nat.{ℕ, _+_, _*_, _≤_, _<_}
 use native.Mathlib.Omega.{arith}
-use lib.Dec.{T, leb, eqb, leb→le}
+use lib.Dec.{T, eqb}
 use lib.Ieee.{Float, nan, inf, fin, binary64, add, mul, div, ofBits, lt, eq, le, isNan, fits, nanBits}
 use lib.Ieee.Bits.{nanBits-is}
 use lib.ListN.{getD}
@@ -15,9 +15,8 @@ use Rattle.rules.specs.declared.Direction.{Direction}
 use Rattle.rules.specs.declared.Direction.the-variants.{Absent, Toward}
 use Rattle.rules.specs.Plane.{float, unity, minus-unity, clamp, dot, measure}
 use Rattle.rules.specs.Layout.{given}
-use Rattle.rules.specs.Refusals.{limitBad}
 use Rattle.order.specs.Key.{key-nan, key}
-use Rattle.order.proofs.Order.{le-num-l, le-num-r, lt→le, trans, antisymm, bottom, nlt→le}
+use Rattle.order.proofs.Order.{lt→le, trans, antisymm, bottom}
 use Rattle.order.proofs.Keys.{nan-or-num, key-le-is, key-most}
 use Rattle.order.proofs.Dot.{measure-fits, clamp-mono, clamp-num}
 use Rattle.selecting.specs.Ends.{keyOf}

@@ -1,8 +1,8 @@
 -- The walk along row i: after each end what is near is the first of the free qualifying pairs that were passed. An end is passed by if it is marked, if its
 -- measure isn't nearer, or if it is of the same piece. Where the nearest is at -1, no later pair is before it.
-use Prim.Native.Nat.{ℕ, zero, suc, _+_, _*_, _≤_, _<_}
-use mathlib.Core.Path.{_≡_, refl, sym, ap, ap₂, _∙_, subst}
-use mathlib.Core.Bool.{Bool, true, false, not, _&&_, _||_, cond, and-false, or-true}
+use Prim.Native.Nat.{ℕ, _+_, _*_, _≤_, _<_}
+use mathlib.Core.Path.{_≡_, refl, sym, ap, ap₂, _∙_}
+use mathlib.Core.Bool.{Bool, true, false, not, _&&_, cond, and-false, or-true}
 use mathlib.Core.Logic.{_⊎_, inl, inr, ⊎-elim}
 use mathlib.Core.List.{List}
 use native.Mathlib.Omega.{arith}
@@ -20,17 +20,16 @@ use Rattle.order.proofs.Keys.{key-le-is, key-lt-is}
 use Rattle.selecting.specs.Ranked.{Pair, Node, candidates, qualifies, busy, before}
 use Rattle.selecting.specs.Sets.{In}
 use Rattle.selecting.specs.Taking.{pairAt, better, IsFirst}
-use Rattle.selecting.specs.Ends.{there, keyOf, nodeOf}
-use Rattle.selecting.proofs.Order.{two, tf, Three, three, of-at-before, and-left, and-right}
+use Rattle.selecting.specs.Ends.{there, nodeOf}
+use Rattle.selecting.proofs.Order.{Three, three, of-at-before, and-right}
 use Rattle.selecting.proofs.Laws.{in-candidates}
 use Rattle.selecting.proofs.Row.{SoFar, Passed, open-of, member-of, row-start, row-next, row-done}
 use Rattle.selecting.proofs.Rows.{row-taken}
 use Rattle.ends.specs.Ends.{directionAt, pieceAt, endsIn}
 use Rattle.ends.proofs.Reading.{getD-slice, ends-in-length, key-in, may-in}
 use Rattle.row.specs.declared.Near.{Near}
-use Rattle.row.specs.declared.Held.{Held}
 use Rattle.row.specs.Near.{numbered, measureOf, closerTo}
-use Rattle.row.specs.Row.{markAt, usedIn, heldOf, pairOf, Walkable, First}
+use Rattle.row.specs.Row.{markAt, usedIn, heldOf, Walkable, First}
 use Rattle.row.proofs.Measures.{holds, held, measure-of-fits, key-of-measure, least-measure}
 
 -- ---- the better of a pair and the next one

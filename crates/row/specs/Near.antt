@@ -1,5 +1,4 @@
 -- Directions and how near they are to each other, as a walk along a row compares them. What is absent has a NaN for a dot product, which never qualifies.
-use Prim.Native.Nat.{ℕ}
 use mathlib.Core.Bool.{Bool, false, not, _&&_, _||_, cond}
 use lib.Dec.{eqb}
 use lib.Ieee.{Float, nan, lt, eq, le, isNan}

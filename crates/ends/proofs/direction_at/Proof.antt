@@ -1,5 +1,5 @@
 -- `ends::direction_at` meets its contract, by the end's presence mark.
-use mathlib.Core.Path.{_≡_, sym, _∙_}
+use mathlib.Core.Path.{_∙_}
 use Rattle.rules.specs.declared.Direction.the-variants.{Toward}
 use Rattle.ends.proofs.Reading.{direction-toward, direction-absent}
 use borrow.Author.Needs.{needs}
@@ -46,7 +46,9 @@ of-bits-requires-2 : tie.Need-of-bits-requires-2
 of-bits-requires-2 c κs = search needs
 
 returns : tie.Need-returns
-returns c = let a = c .before .before .before .before .before .before .before .args in (λ t. Toward (c .before .before .of-bits .ensures t) (c .of-bits2 .ensures t)) ∙ direction-toward (a .w .now) (a .d) (a .e) (c .before .before .before .before .if1 .taken)
+returns c =
+    let a = c .before .before .before .before .before .before .before .args in
+    (λ t. Toward (c .before .before .of-bits .ensures t) (c .of-bits2 .ensures t)) ∙ direction-toward (a .w .now) (a .d) (a .e) (c .before .before .before .before .if1 .taken)
 
 returns-2 : tie.Need-returns-2
 returns-2 c = let a = c .before .before .before .args in direction-absent (a .w .now) (a .d) (a .e) (c .if1 .left)

@@ -1,5 +1,5 @@
 -- `ends::pair_key` meets its contract, by the cases of the two directions.
-use mathlib.Core.Path.{_≡_, sym, ap, ap₂, _∙_}
+use mathlib.Core.Path.{sym, ap, ap₂, _∙_}
 use Rattle.rules.specs.declared.Direction.{Direction}
 use Rattle.order.specs.Key.{key}
 use Rattle.selecting.specs.Ends.{keyOf}

@@ -36,10 +36,17 @@ loop-less : tie.Need-loop-less Inv-loop μ-loop
 loop-less c = omega arith
 
 loop-again : tie.Need-loop-again Inv-loop μ-loop
-loop-again c = let p = c .before .before .before in let a = c .before .before .before .before .before .args in (omega arith, omega arith, rw (c .lesser .ensures) (low-step (a .w .now) (a .at) (a .from) (p .loop .x) (p .loop .low) (p .loop .inv .0) (p .loop .inv .2)))
+loop-again c =
+    let p = c .before .before .before in
+    let a = c .before .before .before .before .before .args in
+    (omega arith, omega arith, rw (c .lesser .ensures) (low-step (a .w .now) (a .at) (a .from) (p .loop .x) (p .loop .low) (p .loop .inv .0) (p .loop .inv .2)))
 
 returns : tie.Need-returns Inv-loop μ-loop
-returns c = let p = c .before in let a = c .before .before .before .args in let e : p .loop .x ≡ a .to = omega arith in subst (λ (x : ℕ). IsLow (a .w .now) (a .at) (a .from) x (p .loop .low)) e (p .loop .inv .2)
+returns c =
+    let p = c .before in
+    let a = c .before .before .before .args in
+    let e : p .loop .x ≡ a .to = omega arith in
+    subst (λ (x : ℕ). IsLow (a .w .now) (a .at) (a .from) x (p .loop .low)) e (p .loop .inv .2)
 
 pub least-spec : {M : Type 1} → statement M
 least-spec =

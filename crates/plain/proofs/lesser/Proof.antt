@@ -1,7 +1,6 @@
 -- `plain::lesser` meets its contract.
 use Rattle.plain.specs.Lows.{lesserOf}
 use borrow.Author.Tests.{lt-ltb, le-ltb}
-use mathlib.Core.Path.{_≡_, refl, sym, ap, _∙_}
 use Rattle.plain.proofs.lesser.Statement.{statement}
 use Rattle.plain.proofs.lesser.Tie as tie
 

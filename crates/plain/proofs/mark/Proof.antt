@@ -1,7 +1,7 @@
 -- `plain::mark` meets its contract.
 use Rattle.rules.specs.Lists.{one}
 use mathlib.Core.Bool.{Bool, not}
-use mathlib.Core.Path.{_≡_, refl, sym, ap, _∙_}
+use mathlib.Core.Path.{sym, ap, _∙_}
 use borrow.Author.Needs.{needs}
 use Rattle.plain.proofs.mark.Statement.{statement}
 use Rattle.plain.proofs.mark.Tie as tie

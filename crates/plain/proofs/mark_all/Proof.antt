@@ -3,8 +3,8 @@ use Rattle.plain.proofs.Starting.{MarkedTo, marked-start, marked-step}
 use lib.ListN.{length, length-set}
 use borrow.Author.Needs.{needs}
 use native.Mathlib.Omega.{arith}
-use mathlib.Core.Path.{_≡_, refl, sym, ap, _∙_, subst}
-use Prim.Native.Nat.{ℕ, _+_, _*_, _-_, _≤_, _<_}
+use mathlib.Core.Path.{_≡_, refl}
+use Prim.Native.Nat.{_-_, _≤_}
 use Rattle.plain.proofs.mark_all.Statement.{statement}
 use Rattle.plain.proofs.mark_all.Tie as tie
 
@@ -39,13 +39,20 @@ loop-less : tie.Need-loop-less Inv-loop μ-loop
 loop-less c = omega arith
 
 loop-again : tie.Need-loop-again Inv-loop μ-loop
-loop-again c = let p = c .before .before .before in let st = c .before .before .before .before .before in let a = st .args in (omega arith, simp length-set (omega arith), marked-step (a .w .now) (p .loop .w) (a .d) (p .loop .e) (c .mark .result) (omega (arith, st .pre .long)) (p .loop .inv .1) (omega arith) (p .loop .inv .2) (c .mark .ensures))
+loop-again c =
+    let p = c .before .before .before in
+    let st = c .before .before .before .before .before in
+    let a = st .args in
+    (omega arith, simp length-set (omega arith), marked-step (a .w .now) (p .loop .w) (a .d) (p .loop .e) (c .mark .result) (omega (arith, st .pre .long)) (p .loop .inv .1) (omega arith) (p .loop .inv .2) (c .mark .ensures))
 
 same-length : tie.Need-same-length Inv-loop μ-loop
 same-length c = omega arith
 
 returns : tie.Need-returns Inv-loop μ-loop
-returns c = let p = c .before in let e : p .loop .e ≡ c .before .before .before .args .d = omega arith in record { marks = λ x h. p .loop .inv .2 .marks x (omega arith); others = p .loop .inv .2 .others }
+returns c =
+    let p = c .before in
+    let e : p .loop .e ≡ c .before .before .before .args .d = omega arith in
+    record { marks = λ x h. p .loop .inv .2 .marks x (omega arith); others = p .loop .inv .2 .others }
 
 pub mark-all-spec : {M : Type 1} → statement M
 mark-all-spec =

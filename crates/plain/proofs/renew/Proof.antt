@@ -1,7 +1,7 @@
 -- `plain::renew` meets its contract: two stores.
 use lib.ListN.{length-set}
 use native.Mathlib.Omega.{arith}
-use mathlib.Core.Path.{_≡_, refl, sym, ap, _∙_}
+use mathlib.Core.Path.{refl}
 use borrow.Author.Needs.{needs}
 use Rattle.plain.proofs.renew.Statement.{statement}
 use Rattle.plain.proofs.renew.Tie as tie

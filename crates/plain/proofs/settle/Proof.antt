@@ -1,10 +1,10 @@
 -- `plain::settle` meets its contract: the least key of the block, and two stores.
 use Rattle.plain.proofs.Blockwise.{blocks-fit}
 use Rattle.plain.specs.Lows.{IsLow}
-use lib.ListN.{length, length-set}
+use lib.ListN.{length-set}
 use native.Mathlib.Omega.{arith}
-use mathlib.Core.Path.{_≡_, refl, sym, ap, _∙_, subst}
-use Prim.Native.Nat.{ℕ, _+_, _*_, _-_, _≤_, _<_}
+use mathlib.Core.Path.{refl, subst}
+use Prim.Native.Nat.{ℕ, _*_, _-_}
 use borrow.Author.Needs.{needs}
 use Rattle.plain.proofs.settle.Statement.{statement}
 use Rattle.plain.proofs.settle.Tie as tie
@@ -19,7 +19,10 @@ upper-requires : tie.Need-upper-requires
 upper-requires c κs = search needs
 
 least-requires : tie.Need-least-requires
-least-requires c κs = let st = c .before .before .before in let u = blocks-fit (st .args .d) (st .args .b) (st .pre .1) in (omega (arith, u .1, c .upper .ensures), omega (arith, u .2, c .upper .ensures))
+least-requires c κs =
+    let st = c .before .before .before in
+    let u = blocks-fit (st .args .d) (st .args .b) (st .pre .1) in
+    (omega (arith, u .1, c .upper .ensures), omega (arith, u .2, c .upper .ensures))
 
 mul-w : tie.Need-mul-w
 mul-w c = search needs
@@ -49,7 +52,9 @@ same-length : tie.Need-same-length
 same-length c = search needs
 
 returns : tie.Need-returns
-returns c = let a = c .before .before .before .before .args in record { low = c .least .result; is = subst (λ (u : ℕ). IsLow (a .w .now) (a .d * 6) (a .b * 16) u (c .least .result)) (c .before .upper .ensures) (c .least .ensures); list = refl }
+returns c =
+    let a = c .before .before .before .before .args in
+    record { low = c .least .result; is = subst (λ (u : ℕ). IsLow (a .w .now) (a .d * 6) (a .b * 16) u (c .least .result)) (c .before .upper .ensures) (c .least .ensures); list = refl }
 
 pub settle-spec : {M : Type 1} → statement M
 settle-spec =

@@ -1,7 +1,6 @@
 -- `plain::take` meets its contract: six stores.
 use lib.ListN.{length-set}
 use native.Mathlib.Omega.{arith}
-use mathlib.Core.Path.{_≡_, refl, sym, ap, _∙_}
 use borrow.Author.Needs.{needs}
 use Rattle.plain.proofs.take.Statement.{statement}
 use Rattle.plain.proofs.take.Tie as tie

@@ -2,7 +2,6 @@
 use Rattle.plain.specs.Lows.{upperOf}
 use borrow.Author.Tests.{lt-ltb, le-ltb}
 use Prim.Native.Nat.{_+_, _*_}
-use mathlib.Core.Path.{_≡_, refl, sym, ap, _∙_}
 use borrow.Author.Needs.{needs}
 use Rattle.plain.proofs.upper.Statement.{statement}
 use Rattle.plain.proofs.upper.Tie as tie

@@ -1,5 +1,4 @@
 -- `limit_bad` is the book's test: a NaN is at or below nothing, so that neither comparison takes it.
-use mathlib.Core.Path.{sym}
 use lib.Ieee.{ofBits, neg}
 use Rattle.rules.specs.Refusals.{limitBad}
 use Rattle.refusals.proofs.limit_bad.Statement.{statement}

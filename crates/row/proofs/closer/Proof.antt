@@ -3,7 +3,7 @@ use borrow.Author.Tests.{not-true}
 use lib.Ieee.{Float, lt, le}
 use Rattle.row.specs.Near.{measureOf, reachesTo}
 use Rattle.row.proofs.Measures.{out-of-reach, closer-first, closer-next}
-use mathlib.Core.Path.{_≡_, refl, sym, ap, ap₂, _∙_}
+use mathlib.Core.Path.{sym, ap, _∙_}
 use borrow.Author.Needs.{needs}
 use Rattle.row.proofs.closer.Statement.{statement}
 use Rattle.row.proofs.closer.Tie as tie

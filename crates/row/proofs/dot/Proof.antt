@@ -2,7 +2,7 @@
 use Rattle.row.proofs.Measures.{zero-by-zero}
 use Rattle.row.specs.Near.{dotOf}
 use Rattle.rules.specs.declared.Direction.{Direction}
-use mathlib.Core.Path.{_≡_, refl, sym, ap, ap₂, _∙_}
+use mathlib.Core.Path.{sym, ap, ap₂, _∙_}
 use borrow.Author.Needs.{needs}
 use Rattle.row.proofs.dot.Statement.{statement}
 use Rattle.row.proofs.dot.Tie as tie

@@ -1,7 +1,6 @@
 -- `row::hold` meets its contract.
 use Rattle.row.specs.Row.{heldOf}
 use borrow.Author.Tests.{eq-eqb, ne-eqb}
-use mathlib.Core.Path.{_≡_, refl, sym, ap, ap₂, _∙_}
 use borrow.Author.Needs.{needs}
 use Rattle.row.proofs.hold.Statement.{statement}
 use Rattle.row.proofs.hold.Tie as tie

@@ -2,8 +2,7 @@
 use Rattle.row.proofs.Measures.{numbered-is}
 use lib.ListN.{getD}
 use borrow.Author.Tests.{eq-eqb, ne-eqb}
-use mathlib.Core.Bool.{not}
-use mathlib.Core.Path.{_≡_, refl, sym, ap, ap₂, _∙_}
+use mathlib.Core.Path.{sym, _∙_}
 use borrow.Author.Needs.{needs}
 use Rattle.row.proofs.is_numbered.Statement.{statement}
 use Rattle.row.proofs.is_numbered.Tie as tie

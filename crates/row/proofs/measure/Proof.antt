@@ -2,7 +2,7 @@
 use Rattle.row.proofs.Measures.{zero-by-zero, measure-toward, nan-measure, nan-measure-too}
 use Rattle.row.specs.Near.{measureOf}
 use Rattle.rules.specs.declared.Direction.{Direction}
-use mathlib.Core.Path.{_≡_, refl, sym, ap, ap₂, _∙_}
+use mathlib.Core.Path.{sym, ap, ap₂, _∙_}
 use borrow.Author.Needs.{needs}
 use Rattle.row.proofs.measure.Statement.{statement}
 use Rattle.row.proofs.measure.Tie as tie

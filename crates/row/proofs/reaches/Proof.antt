@@ -1,7 +1,6 @@
 -- `row::reaches` meets its contract.
 use Rattle.row.specs.Near.{reachesTo}
-use lib.Ieee.{le, ofBits}
-use mathlib.Core.Path.{_≡_, refl, sym, ap, ap₂, _∙_}
+use lib.Ieee.{ofBits}
 use Rattle.row.proofs.reaches.Statement.{statement}
 use Rattle.row.proofs.reaches.Tie as tie
 

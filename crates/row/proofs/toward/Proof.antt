@@ -1,7 +1,6 @@
 -- `row::toward` meets its contract: the two words are no NaN's, and so they are read as they stand.
 use Rattle.row.proofs.Measures.{numbered-mark, numbered-x, numbered-y}
 use Rattle.ends.proofs.Reading.{direction-toward}
-use mathlib.Core.Path.{_≡_, refl, sym, ap, ap₂, _∙_}
 use borrow.Author.Needs.{needs}
 use Rattle.row.proofs.toward.Statement.{statement}
 use Rattle.row.proofs.toward.Tie as tie
