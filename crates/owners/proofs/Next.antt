@@ -27,14 +27,14 @@ same-at f x v e h = rw (eq-eqb e x h)
 pub same-past : {A : Type 0} (f : ℕ → A) (x : ℕ) (v : A) (e : ℕ) → (e ≡ x → ⊥) → changed f x v e ≡ f e
 same-past f x v e h = rw (ne-eqb e x h)
 
-without-not : (gone : ℕ → Bool) (x e : ℕ) → without gone x e ≡ false → (e ≡ x → ⊥) × (gone e ≡ false)
+pub without-not : (gone : ℕ → Bool) (x e : ℕ) → without gone x e ≡ false → (e ≡ x → ⊥) × (gone e ≡ false)
 without-not gone x e h = go (eqb e x) refl h
   where
     go : (b : Bool) → eqb e x ≡ b → (b || gone e) ≡ false → (e ≡ x → ⊥) × (gone e ≡ false)
     go true q k = absurd (tf refl k)
     go false q k = (eqb-false e x q, k)
 
-is-without : (gone : ℕ → Bool) (x e : ℕ) → (e ≡ x → ⊥) → gone e ≡ false → without gone x e ≡ false
+pub is-without : (gone : ℕ → Bool) (x e : ℕ) → (e ≡ x → ⊥) → gone e ≡ false → without gone x e ≡ false
 is-without gone x e h k = rw (ne-eqb e x h, k)
 
 module _ (d : ℕ) (order group slot : ℕ → ℕ) (gone : ℕ → Bool) (g p : ℕ) where

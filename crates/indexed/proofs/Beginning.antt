@@ -1,0 +1,173 @@
+-- How the route begins: what is asked is asked again where words behind the ends are written, and so each step finds what it asks.
+use Prim.Native.Nat.{ℕ, _+_, _-_, _*_, _^_, _≤_, _<_}
+use mathlib.Core.Path.{_≡_, refl, sym, _∙_, ap, subst}
+use mathlib.Core.List.{List, [], _∷_}
+use mathlib.Core.Bool.{Bool, cond}
+use native.Mathlib.Omega.{arith}
+use lib.Dec.{ltb}
+use lib.ListN.{length, getD, take, drop, replicate}
+use lib.Seq.{slice, length-slice}
+use Rattle.rules.specs.Selecting.{End}
+use Rattle.selecting.specs.Ends.{endAt, nodeOf}
+use Rattle.selecting.specs.Owners.{AtMostTwice}
+use Rattle.selecting.specs.Ranked.{select, none as nobody}
+use Rattle.selecting.specs.Taking.{listed}
+use Rattle.selecting.proofs.Laws.{in-candidates, select-stop}
+use Rattle.slices.specs.Holds.{HoldsFrom}
+use Rattle.slices.proofs.Laws.{from-length, from-part, from-below, from-beyond}
+use Rattle.ends.specs.Ends.{Room, Selected, endsIn}
+use Rattle.ends.proofs.Reading.{ends-in-length}
+use Rattle.tree.specs.Words.{Changes}
+use Rattle.tree.proofs.Words.{changes-then, changes-wider}
+use Rattle.tree.proofs.Flat.{kept-same}
+use Rattle.bounds.specs.Box.{union-of, Sound}
+use Rattle.index.specs.Nodes as index
+use Rattle.index.specs.Index.{leaf-of, Indexed, Finite}
+use Rattle.heap.specs.Heap.{node-at}
+use Rattle.owners.specs.Tables.{order-at}
+use Rattle.owners.proofs.Seats.{seated}
+use Rattle.owners.proofs.Turns.{room-kept, take-kept, ends-kept}
+use Rattle.indexed.specs.declared.Size.{Size}
+use Rattle.indexed.specs.Route.{Sized, marks-in, Ready}
+use Rattle.indexed.specs.Start.{Asks, Fits, Arranged, Plants, Planted, Clears, Cleared, Begins, Fills}
+use Rattle.indexed.proofs.Sizes.{sized}
+use Rattle.indexed.proofs.Parts.{same-below, same-beyond, drop-kept, marks-kept, indexes-kept}
+use Rattle.indexed.proofs.Arranging.{arranged-kept}
+
+asks-kept : {w w′ : List ℕ} {d limit a b : ℕ} → Changes w w′ a b → d * 4 ≤ a → Asks w d limit → Asks w′ d limit
+asks-kept {w} {w′} {d} c h x =
+    let e : endsIn w d ≡ endsIn w′ d = sym (ends-kept c h (x .room)) in
+    record {
+      room = room-kept c (x .room);
+      limited = x .limited;
+      finite-ends = subst (λ (l : List End). Finite l) e (x .finite-ends);
+      twice = subst (λ (l : List End). AtMostTwice (λ i. endAt l i .piece) d) e (x .twice);
+    }
+
+begins-kept : {w w′ : List ℕ} {d height slots limit a b : ℕ} → Changes w w′ a b → d * 14 ≤ a → Begins w d height slots limit → Begins w′ d height slots limit
+begins-kept {w} {w′} {d} c h x =
+    record {
+      asks = asks-kept c (omega arith) (x .asks);
+      m = x .m;
+      arranged = arranged-kept c h (x .arranged);
+      fits = x .fits;
+      sized = x .sized;
+      unmarked = marks-kept w w′ d (x .asks .room) (c .long) (same-below c (d * 5) (d * 6) (omega arith)) ∙ x .unmarked;
+    }
+
+-- ---- the index and the heap
+
+module _ {w : List ℕ} {d base height slots limit : ℕ} (e : base ≡ 2 ^ height) (x : Begins w d height slots limit) where
+  pub begins-plants : Plants w d base
+  begins-plants =
+      record {
+        sorted = x .arranged .sorted;
+        finite-ends = x .asks .finite-ends;
+        some = omega (arith, x .sized .few, x .sized .some, x .sized .narrow);
+        most = omega (arith, x .sized .most);
+      }
+
+  module _ {w₁ : List ℕ} (p : Planted w w₁ d base) where
+    pub begins-clears : Clears w₁ d slots
+    begins-clears = record { room = room-kept (p .kept) (x .asks .room); narrow = x .sized .narrow }
+
+    module _ {w₂ : List ℕ} (k : Cleared w₁ w₂ d slots) where
+      both : Changes w w₂ (d * 14) (d * 42)
+      both =
+          changes-then (changes-wider (d * 14) (d * 42) (omega arith) (omega arith) (p .kept)) (changes-wider (d * 14) (d * 42) (omega arith) (omega arith) (k .kept))
+
+      pub begins-fills : Fills w₂ d height slots limit
+      begins-fills =
+          record {
+            begins = begins-kept both (omega arith) x;
+            indexed =
+                subst (λ (b : ℕ). Indexed w₂ (d * 22) b (endsIn w₂ d) nobody (seated (order-at w₂ d) d)) e
+                (subst (λ (l : List End). Indexed w₂ (d * 22) base l nobody (seated (order-at w₂ d) d)) (sym (ends-kept both (omega arith) (x .asks .room)))
+                (kept-same union-of Sound (index.node-at w₂ (d * 22)) base 1 0 (λ q. leaf-of (endsIn w d) nobody (seated (order-at w d) d q))
+                (λ q. leaf-of (endsIn w d) nobody (seated (order-at w₂ d) d q)) same
+                (indexes-kept w₁ w₂ (d * 22) base (λ q. leaf-of (endsIn w d) nobody (seated (order-at w d) d q))
+                (same-beyond (k .kept) (d * 22) (d * 22 + 10 * base) (omega arith)) (p .indexed))));
+            empty = k .empty;
+          }
+        where
+          same : (q : ℕ) → q < base → leaf-of (endsIn w d) nobody (seated (order-at w d) d q) ≡ leaf-of (endsIn w d) nobody (seated (order-at w₂ d) d q)
+          same q h =
+              ap (λ (y : ℕ). leaf-of (endsIn w d) nobody (cond (ltb q d) y d)) (sym (both .below (d * 6 + q) (omega (arith, h, e, x .sized .most))))
+
+      pub begins-changes : {w₃ : List ℕ} → Changes w₂ w₃ (d * 14) (d * 22) → Changes w w₃ (d * 14) (d * 42)
+      begins-changes c = changes-then both (changes-wider (d * 14) (d * 42) (omega arith) (omega arith) c)
+
+-- ---- the whole
+
+-- no end, no pair
+pub none-selected : (w : List ℕ) (d limit : ℕ) → Room w d → d ≡ 0 → Selected w d limit 0 w
+none-selected w d limit r e =
+    record {
+      count = sym (ap length empty);
+      pairs = short ∙ sym (ap listed empty ∙ (unfold listed in refl));
+      kept = refl;
+      beyond = refl;
+    }
+  where
+    empty : select (nodeOf (endsIn w d)) limit ≡ []
+    empty =
+        (unfold select in
+        select-stop (nodeOf (endsIn w d)) limit nobody (λ q m.
+        absurd (omega (arith, in-candidates (nodeOf (endsIn w d)) limit q m .0 .below, ends-in-length w d (omega (arith, r .long)), e))))
+
+    nothing : (l : List ℕ) → length l ≡ 0 → l ≡ []
+    nothing [] h = refl
+    nothing (x ∷ l) h = absurd (omega arith)
+
+    short : slice (d * 4) (d * 4 + 0 * 2) w ≡ []
+    short = nothing (slice (d * 4) (d * 4 + 0 * 2) w) (length-slice (d * 4) (d * 4 + 0 * 2) w (omega (arith, r .long)) ∙ omega arith)
+
+-- the ends are those of a workspace whose words behind them were written
+pub selected-from : {w w₁ : List ℕ} {d limit r : ℕ} {w₂ : List ℕ} → Room w d → Changes w w₁ (d * 4) (d * 64) → Selected w₁ d limit r w₂ → Selected w d limit r w₂
+selected-from {w} {w₁} {d} {limit} {r} {w₂} x c s =
+    let e : endsIn w₁ d ≡ endsIn w d = ends-kept c (omega arith) x in
+    record {
+      count = subst (λ (l : List End). r ≡ length (select (nodeOf l) limit)) e (s .count);
+      pairs = subst (λ (l : List End). slice (d * 4) (d * 4 + r * 2) w₂ ≡ listed (select (nodeOf l) limit)) e (s .pairs);
+      kept = s .kept ∙ take-kept (d * 4) c (omega arith) (omega (arith, x .long));
+      beyond = s .beyond ∙ drop-kept w w₁ (d * 64) (c .long) (c .beyond);
+    }
+
+module _ {w w₁ : List ℕ} {d limit : ℕ} (x : Asks w d limit) (some : d ≡ 0 → ⊥) (f : HoldsFrom w₁ w (d * 5) d (replicate d 0)) where
+  inside : d * 5 + d ≤ length w
+  inside = omega (arith, x .room .long)
+
+  cleared : Changes w w₁ (d * 5) (d * 6)
+  cleared = record { long = from-length f inside; below = from-below f inside; beyond = λ k h. from-beyond f inside k (omega arith) }
+
+  pub cleared-room : Room w₁ d
+  cleared-room = room-kept cleared (x .room)
+
+  unmarked : marks-in w₁ d ≡ replicate d 0
+  unmarked = ap (λ (k : ℕ). slice (d * 5) k w₁) six ∙ from-part f inside
+    where
+      six : d * 6 ≡ d * 5 + d
+      six = omega arith
+
+  module _ {w₂ : List ℕ} {m : ℕ} (z : Arranged w₂ d m) (c : Changes w₁ w₂ (d * 6) (d * 14)) where
+    arranged : Changes w w₂ (d * 5) (d * 14)
+    arranged = changes-then (changes-wider (d * 5) (d * 14) (omega arith) (omega arith) cleared) (changes-wider (d * 5) (d * 14) (omega arith) (omega arith) c)
+
+    pub begins : {a b : Size} → Fits d a → Fits m b → Begins w₂ d (a .height) (b .base) limit
+    begins {a} {b} p q =
+        record {
+          asks = asks-kept arranged (omega arith) x;
+          m = m;
+          arranged = z;
+          fits = q .few;
+          sized = sized (positive d some) (z .started .few) p q;
+          unmarked = marks-kept w₁ w₂ d cleared-room (c .long) (same-below c (d * 5) (d * 6) (omega arith)) ∙ unmarked;
+        }
+      where
+        positive : (k : ℕ) → (k ≡ 0 → ⊥) → 0 < k
+        positive k h = omega arith
+
+    pub selected : {w₃ w₄ : List ℕ} {r : ℕ} → Changes w₂ w₃ (d * 14) (d * 42) → Selected w₃ d limit r w₄ → Selected w d limit r w₄
+    selected k s =
+        selected-from (x .room)
+        (changes-then (changes-wider (d * 4) (d * 64) (omega arith) (omega arith) arranged) (changes-wider (d * 4) (d * 64) (omega arith) (omega arith) k)) s

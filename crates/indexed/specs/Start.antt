@@ -1,0 +1,75 @@
+-- What the route asks of a workspace, and how it begins: the trees' sizes, the ends in order, the index of all ends, and each first owner's pair in the heap.
+use Prim.Native.Nat.{ℕ, _+_, _*_, _^_, _≤_, _<_}
+use mathlib.Core.Path.{_≡_}
+use mathlib.Core.List.{List}
+use mathlib.Core.Logic.{_⊎_}
+use lib.ListN.{length, replicate}
+use Rattle.ends.specs.Ends.{Room, endsIn}
+use Rattle.selecting.specs.Ends.{endAt}
+use Rattle.selecting.specs.Owners.{AtMostTwice}
+use Rattle.selecting.specs.Ranked.{none as nobody}
+use Rattle.tree.specs.Places.{gone, none}
+use Rattle.tree.specs.Words.{Changes}
+use Rattle.index.specs.Index.{Indexed, Finite}
+use Rattle.heap.specs.Heap.{node-at}
+use Rattle.owners.specs.Tables.{order-at, group-at, cursor-at, slot-at, Sorted, Runs, Started}
+use Rattle.owners.proofs.Seats.{seated}
+use Rattle.indexed.specs.declared.Size.{Size}
+use Rattle.indexed.specs.Route.{Sized, marks-in}
+
+-- What a workspace must hold: room for at most 8192 ends, a limit below the greatest key, finite directions, and no piece number more than twice.
+pub record Asks (w : List ℕ) (d limit : ℕ) : Type 0 where
+  pub room : Room w d
+  pub limited : limit < gone
+  pub finite-ends : Finite (endsIn w d)
+  pub twice : AtMostTwice (λ e. endAt (endsIn w d) e .piece) d
+
+-- a power of two with a place for each of n, and not twice as great as need be
+pub record Fits (n : ℕ) (s : Size) : Type 0 where
+  pub power : s .base ≡ 2 ^ s .height
+  pub few : n ≤ s .base
+  pub most : (s .base ≡ 1) ⊎ (s .base ≤ 2 * n)
+
+-- the ends in order and in groups, with m first owners
+pub record Arranged (w : List ℕ) (d m : ℕ) : Type 0 where
+  pub sorted : Sorted w d
+  pub runs : Runs (endsIn w d) (order-at w d) (group-at w d) d
+  pub own : ℕ → ℕ
+  pub started : Started (endsIn w d) (order-at w d) (group-at w d) (cursor-at w d) (slot-at w d) own d d m
+
+-- ---- the index of all ends
+
+pub record Plants (w : List ℕ) (d base : ℕ) : Type 0 where
+  pub sorted : Sorted w d
+  pub finite-ends : Finite (endsIn w d)
+  pub some : 0 < base
+  pub most : base ≤ 2 * d
+
+pub record Planted (w w′ : List ℕ) (d base : ℕ) : Type 0 where
+  pub indexed : Indexed w′ (d * 22) base (endsIn w d) nobody (seated (order-at w d) d)
+  pub kept : Changes w w′ (d * 22) (d * 42)
+
+-- ---- a heap without pairs
+
+pub record Clears (w : List ℕ) (d slots : ℕ) : Type 0 where
+  pub room : Room w d
+  pub narrow : slots ≤ 2 * d
+
+pub record Cleared (w w′ : List ℕ) (d slots : ℕ) : Type 0 where
+  pub empty : (s : ℕ) → s < slots → node-at w′ (d * 14) (slots + s) ≡ none
+  pub kept : Changes w w′ (d * 14) (d * 22)
+
+-- ---- the first owners' pairs
+
+pub record Begins (w : List ℕ) (d height slots limit : ℕ) : Type 0 where
+  pub asks : Asks w d limit
+  pub m : ℕ
+  pub arranged : Arranged w d m
+  pub fits : m ≤ slots
+  pub sized : Sized d height slots
+  pub unmarked : marks-in w d ≡ replicate d 0
+
+pub record Fills (w : List ℕ) (d height slots limit : ℕ) : Type 0 where
+  pub begins : Begins w d height slots limit
+  pub indexed : Indexed w (d * 22) (2 ^ height) (endsIn w d) nobody (seated (order-at w d) d)
+  pub empty : (s : ℕ) → s < slots → node-at w (d * 14) (slots + s) ≡ none
