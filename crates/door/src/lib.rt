@@ -3,7 +3,7 @@
 use rules::Answer;
 ghost use mathlib.Core.Path.{_≡_};
 ghost use Rattle.door.specs.Proper.{Proper};
-ghost use mathlib.Core.Bool.{false};
+ghost use mathlib.Core.Bool.{true, false};
 ghost use Rattle.rules.specs.Calls.{numberOf, Numbered, Built, Paired, asked};
 
 // An answer as a host sees it.
@@ -66,6 +66,36 @@ pub extern "C" fn lovasuku_pairs_plain(
     ensures { λ r. ⌜ Numbered (λ a. Paired false (record { present = now (present .entry); directions = now (directions .entry); pieces = now (pieces .entry); limit = limit; pairs = now (pairs .entry); workspace = now (workspace .entry) }) a (now (pairs .exit)) (now (workspace .exit))) r ⌝ }
 {
     number(pairing::pairs_plain(present, directions, pieces, limit, pairs, workspace))
+}
+
+// The indexed route: the number of pairs.
+#[no_mangle]
+pub extern "C" fn lovasuku_pairs_indexed(
+    present: &[u8],
+    directions: &[f64],
+    pieces: &[u32],
+    limit: f64,
+    pairs: &mut [u32],
+    workspace: &mut [u64],
+) -> u64
+    ensures { λ r. ⌜ Numbered (λ a. Paired true (record { present = now (present .entry); directions = now (directions .entry); pieces = now (pieces .entry); limit = limit; pairs = now (pairs .entry); workspace = now (workspace .entry) }) a (now (pairs .exit)) (now (workspace .exit))) r ⌝ }
+{
+    number(pairing::pairs_indexed(present, directions, pieces, limit, pairs, workspace))
+}
+
+// The chosen route: the number of pairs.
+#[no_mangle]
+pub extern "C" fn lovasuku_pairs_chosen(
+    present: &[u8],
+    directions: &[f64],
+    pieces: &[u32],
+    limit: f64,
+    pairs: &mut [u32],
+    workspace: &mut [u64],
+) -> u64
+    ensures { λ r. ⌜ Numbered (λ a. Paired false (record { present = now (present .entry); directions = now (directions .entry); pieces = now (pieces .entry); limit = limit; pairs = now (pairs .entry); workspace = now (workspace .entry) }) a (now (pairs .exit)) (now (workspace .exit))) r ⌝ }
+{
+    number(pairing::pairs_chosen(present, directions, pieces, limit, pairs, workspace))
 }
 
 // The chain question: 0, or -10 where the table has no chain k in these coordinates.
