@@ -1,0 +1,2 @@
+-- What the indexed route asks, from the scan of the directions.
+pub mod Asking
