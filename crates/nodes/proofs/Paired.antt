@@ -20,7 +20,8 @@ use Rattle.order.specs.Key.{key}
 use Rattle.selecting.specs.Ranked as ranked
 use Rattle.selecting.specs.Ranked.{Node}
 use Rattle.selecting.specs.Taking.{listed}
-use Rattle.selecting.specs.Ends.{nodeOf as rankedOf}
+use Rattle.selecting.specs.Ends.{nodeOf as rankedOf, endAt as pairedAt}
+use Rattle.selecting.specs.Owners.{AtMostTwice}
 use Rattle.selecting.proofs.Room.{ranked-room}
 use Rattle.selecting.proofs.Refusals.{limit-number}
 use Rattle.chaining.specs.Table.{fill}
@@ -44,7 +45,7 @@ use Rattle.joining.proofs.Regions.{slice-same}
 use Rattle.nodes.specs.Noded.{Noded, Junction, Joined}
 use Rattle.nodes.proofs.Frames.{held-same, ends-few, joined-put}
 use Rattle.nodes.proofs.Steps.{word}
-use Rattle.nodes.proofs.Named.{node-same, places-below, pairs-named, inside, selected-named}
+use Rattle.nodes.proofs.Named.{up-rises, node-same, places-below, pairs-named, inside, selected-named}
 
 -- ---- kept numbers
 
@@ -183,23 +184,39 @@ module _ {w₀ : List ℕ} {n m e : ℕ} {limit : Float} {input spare : List ℕ
       pub pair-asks : Room part d
       pair-asks = record { few = let f = J .noded .few in omega (arith, d-few); long = part-long }
 
+      part-words : d * 4 ≤ length part
+      part-words = let p = part-long in omega arith
+
+      piece-is : (i : ℕ) → i < d → pairedAt (endsIn part d) i .piece ≡ getD nodeEnds i 0 / 2
+      piece-is i h =
+          ap (λ x. x .piece) (ends-in-at part d part-words i h)
+          ∙ ap (λ (t : List ℕ). paired.pieceAt t d i) (mid-rest w₂ (n * 21))
+          ∙ E .number i h ∙ ap (λ (x : ℕ). x / 2) (end-at i h)
+
+      -- a piece has two ends, and the node lists no end twice
+      pub part-twice : AtMostTwice (λ i. pairedAt (endsIn part d) i .piece) d
+      part-twice i j k i<j j<k k<d p q =
+          let c = H .count in
+          let u = node-up (drop (n * 149) w₀) m e in
+          omega (
+            arith,
+            piece-is i (omega arith),
+            piece-is j (omega arith),
+            piece-is k k<d,
+            up-rises 0 nodeEnds i j u i<j (omega arith),
+            up-rises 0 nodeEnds j k u j<k (omega arith),
+          )
+
       -- the node that is paired is that of the ends
       paired-node : rankedOf (endsIn part d) ≡ rankedOf (map (endAt rule ps) nodeEnds)
       paired-node =
           let c = H .count in
-          let l : d * 4 ≤ length part = (let p = part-long in omega arith) in
-          let s = ends-in-length part d l in
-          let m′ = mid-rest w₂ (n * 21) in
-          node-same rule ps nodeEnds (endsIn part d) (s ∙ c)
+          node-same rule ps nodeEnds (endsIn part d) (ends-in-length part d part-words ∙ c)
+          (λ i h. piece-is i (omega arith))
           (λ i h.
           let b : i < d = omega arith in
-          ap (λ x. x .piece) (ends-in-at part d l i b)
-          ∙ ap (λ (t : List ℕ). paired.pieceAt t d i) m′
-          ∙ E .number i b ∙ ap (λ (x : ℕ). x / 2) (end-at i b))
-          (λ i h.
-          let b : i < d = omega arith in
-          ap (λ x. x .direction) (ends-in-at part d l i b)
-          ∙ ap (λ (t : List ℕ). directionAt t d i) m′
+          ap (λ x. x .direction) (ends-in-at part d part-words i b)
+          ∙ ap (λ (t : List ℕ). directionAt t d i) (mid-rest w₂ (n * 21))
           ∙ E .direction i b ∙ way-is i b)
 
       abbrev chosenPairs : List ranked.Pair
@@ -220,7 +237,7 @@ module _ {w₀ : List ℕ} {n m e : ℕ} {limit : Float} {input spare : List ℕ
 
         pairs-few : r * 2 ≤ d
         pairs-few =
-            let c = ends-in-length part d (let p = part-long in omega arith) in
+            let c = ends-in-length part d part-words in
             omega (arith, S .count, ranked-room (rankedOf (endsIn part d)) (key limit), c)
 
         pub whole-size : length w₃ ≡ length w₀

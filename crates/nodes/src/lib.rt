@@ -25,7 +25,7 @@ fn join_junction(
 {
     let d = joining::list_node(w, n * 19, n * 149, m, e);
     junctions::put_ends(w, n * 12, n * 19, n * 21, d, input, spare);
-    let r = plain::plain(&mut w[n * 21..], d, limit);
+    let r = chosen::junction_pairs(&mut w[n * 21..], d, limit);
     joining::put_joins(w, n * 7, m, n * 19, d, n * 21 + d * 4, r);
 }
 
