@@ -15,17 +15,11 @@ use Rattle.rules.specs.Chaining.{Piece, nothing, pieceAt, merge}
 use Rattle.rules.specs.Refusals.{recordSize}
 use Rattle.chaining.proofs.Records.{flat-length}
 use Rattle.slices.specs.Holds.{HoldsFrom}
-use Rattle.slices.proofs.Laws.{from-set, from-start}
+use Rattle.slices.proofs.Laws.{from-start}
 use Rattle.pieces.specs.Held.{recordOf, placeOf}
 use Rattle.pieces.proofs.Reading.{copy-none, copy-all, five-own, five-copied, first-own, point-count, record-inside}
 use Rattle.emit.specs.Emit.{Entered, joinedOf, Copyable, Emittable, Emitted}
 use Rattle.emit.proofs.Coordinates.{slice-more, one-lines, one-points}
-
-pub record-put : (l : List ℕ) (at a b s d f : ℕ) → at + 5 ≤ length l
-    → HoldsFrom (set (set (set (set (set l at a) (at + 1) b) (at + 2) s) (at + 3) d) (at + 4) f) l at 5 (a ∷ b ∷ s ∷ d ∷ f ∷ [])
-record-put l at a b s d f h =
-    let z : HoldsFrom (set l at a) l at 1 (a ∷ []) = rw add-zero at (from-set (from-start l at) (omega arith) a) in
-    from-set (from-set (from-set (from-set z (omega arith) b) (omega arith) s) (omega arith) d) (omega arith) f
 
 module _ (w : List ℕ) (old from to : ℕ) (input spare : List ℕ) (z : Entered w old from to input spare) where
   abbrev q : ℕ

@@ -107,26 +107,6 @@ fn count_members(w: &[u64], old: usize, from: usize, to: usize) -> usize
     r
 }
 
-// Five numbers as the record at `at`.
-fn put_record(
-    w: &mut [u64],
-    at: usize,
-    member: u64,
-    members: u64,
-    source: u64,
-    point: u64,
-    points: u64,
-)
-    requires { ⌜ at + 5 ≤ length (now w) ⌝ }
-    ensures { λ _. ⌜ HoldsFrom (now (w .exit)) (now (w .entry)) at 5 (member ∷ members ∷ source ∷ point ∷ points ∷ []) ⌝ }
-{
-    w[at] = member;
-    w[at + 1] = members;
-    w[at + 2] = source;
-    w[at + 3] = point;
-    w[at + 4] = points;
-}
-
 // The piece of a walk, which has b members: its record at `at`, and its coordinates unless they are a line's own. m members and c points stand
 // before. Returns how many points stand then.
 fn emit_walk(
@@ -149,11 +129,11 @@ fn emit_walk(
         let p = old + w[from] as usize / 2 * 5;
         let first = w[p + 3];
         let count = w[p + 4];
-        put_record(w, at, m as u64, 1, 0, first, count);
+        pieces::put_record(w, at, m as u64, 1, 0, first, count);
         return c;
     }
     let h = lay_walk(w, old, from, to, input, spare, merged, c * 2);
-    put_record(w, at, m as u64, b as u64, 1, c as u64, (h / 2) as u64);
+    pieces::put_record(w, at, m as u64, b as u64, 1, c as u64, (h / 2) as u64);
     c + h / 2
 }
 

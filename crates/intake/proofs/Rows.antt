@@ -4,7 +4,6 @@ use mathlib.Core.Path.{_≡_, refl, ap, ap₂, _∙_}
 use mathlib.Core.Bool.{Bool, true, false, Bool·beq}
 use mathlib.Core.List.{List, [], _∷_, _++_, flatMap, append-nil}
 use native.Mathlib.Omega.{arith}
-use native.Mathlib.Nat.{add-zero}
 use lib.ListN.{length, getD, take, set, length-append}
 use Rattle.rules.specs.Lists.{total}
 use Rattle.rules.specs.Plane.{points}
@@ -14,8 +13,6 @@ use Rattle.chaining.proofs.Lines.{flatMap-append}
 use Rattle.chaining.proofs.Records.{table-append}
 use Rattle.chaining.proofs.Room.{lines-length}
 use Rattle.chaining.proofs.Sound.{noLine}
-use Rattle.slices.specs.Holds.{HoldsFrom}
-use Rattle.slices.proofs.Laws.{from-set, from-start}
 use Rattle.pieces.specs.Held.{linesOf, marksOf}
 use Rattle.pieces.proofs.Reading.{five-own}
 use Rattle.intake.proofs.Passing.{plainAt, passed, passed-one, passed-none, pieces-lone, lone-lines, points-at, plain-at}
@@ -69,13 +66,3 @@ module _ (want : Bool) (input counts groups kinds : List ℕ) (adds : total coun
 
   pub none-wanted : Bool·beq want (plainAt counts kinds k) ≡ false → passed want ls (k + 1) ≡ passed want ls k
   none-wanted e = passed-none want ls k inside (asked e)
-
--- ---- numbers stored one after another
-
-pub one-put : (l : List ℕ) (at v : ℕ) → at < length l → HoldsFrom (set l at v) l at 1 (v ∷ [])
-one-put l at v h = rw add-zero at (from-set (from-start l at) (omega arith) v)
-
-pub record-put : (l : List ℕ) (at a b s d f : ℕ) → at + 5 ≤ length l
-    → HoldsFrom (set (set (set (set (set l at a) (at + 1) b) (at + 2) s) (at + 3) d) (at + 4) f) l at 5 (a ∷ b ∷ s ∷ d ∷ f ∷ [])
-record-put l at a b s d f h =
-    from-set (from-set (from-set (from-set (one-put l at a (omega arith)) (omega arith) b) (omega arith) s) (omega arith) d) (omega arith) f

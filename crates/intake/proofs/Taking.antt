@@ -19,7 +19,8 @@ use Rattle.slices.proofs.Laws.{from-length, take-before, drop-past, slice-below
 use Rattle.pieces.specs.Held.{linesOf, Own, Held}
 use Rattle.intake.specs.Taken.{Takable, plainOf, Taken}
 use Rattle.intake.proofs.Passing.{plainAt, every, passed, passed-all, pieces-few, pieces-lone, lone-lines, lone-copies, total-next}
-use Rattle.intake.proofs.Rows.{More, one-wanted, none-wanted, one-put}
+use Rattle.intake.proofs.Rows.{More, one-wanted, none-wanted}
+use Rattle.pieces.proofs.Storing.{one-put}
 use Rattle.intake.proofs.Own.{alone-own}
 
 -- the pieces qs, m of them, stand in the block as far as they go
