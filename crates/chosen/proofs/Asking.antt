@@ -20,7 +20,7 @@ use Rattle.selecting.proofs.Refusals.{limit-under}
 use Rattle.ends.specs.Ends.{Room, directionAt, endsIn}
 use Rattle.tree.proofs.Flat.{same-or}
 use Rattle.index.specs.Index.{Finite}
-use Rattle.index.proofs.Owner.{direction-is, there-below}
+use Rattle.index.proofs.Leaves.{direction-is, there-below}
 use Rattle.indexed.specs.Start.{Asks}
 use Rattle.chosen.specs.Tame.{tame, AllTame}
 

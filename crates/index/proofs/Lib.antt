@@ -2,4 +2,6 @@
 pub mod Nodes
 pub mod Bounding
 pub mod Steps
+pub mod Leaves
+pub mod Candidates
 pub mod Owner

@@ -1,16 +1,16 @@
 -- The least place below the root is the owner's first pair: the leaves are those of the free ends, each end's pair with the owner stands at its leaf, and the
 -- order of an owner's pairs is that of the keys and then of the other ends.
-use Prim.Native.Nat.{ℕ, zero, suc, _+_, _-_, _*_, _^_, _≤_, _<_, min}
+use Prim.Native.Nat.{ℕ, _+_, _-_, _*_, _^_, _≤_, _<_, min}
 use mathlib.Core.Path.{_≡_, refl, sym, ap, ap₂, _∙_, subst}
 use mathlib.Core.Bool.{Bool, true, false, not, cond, _&&_, _||_}
-use mathlib.Core.List.{List, [], _∷_}
+use mathlib.Core.List.{List}
 use mathlib.Core.Logic.{_⊎_, inl, inr, ⊎-elim}
 use native.Mathlib.Omega.{arith}
 use native.Mathlib.Nat.{le-trans, le-of-eq, one-mul}
 use lib.Dec.{leb, eqb}
 use lib.ListN.{length}
 use lib.Ieee.{Float}
-use borrow.Author.Tests.{leb-true, le-leb, eq-eqb, ne-eqb, eqb-false, not-true}
+use borrow.Author.Tests.{le-leb, ne-eqb, eqb-false}
 use Rattle.rules.specs.declared.Direction.{Direction}
 use Rattle.rules.specs.declared.Direction.the-variants.{Absent, Toward}
 use Rattle.rules.specs.Selecting.{End}
@@ -18,234 +18,23 @@ use Rattle.bounds.specs.declared.Bounds.{Bounds}
 use Rattle.bounds.specs.Box.{empty-of, point-of}
 use Rattle.bounds.specs.Search.{place, least}
 use Rattle.bounds.proofs.Search.{place-same}
-use Rattle.selecting.specs.Ranked.{Pair, Node, candidates, busy, before, qualifies}
+use Rattle.selecting.specs.Ranked.{Pair, candidates, busy, before, qualifies}
 use Rattle.selecting.specs.Sets.{In, EndOf}
 use Rattle.selecting.specs.Ends.{endAt, there, keyOf, nodeOf}
-use Rattle.selecting.proofs.Order.{and-left, and-right, of-at-before}
-use Rattle.selecting.proofs.Greedy.{or-false-left, or-false-right}
+use Rattle.selecting.proofs.Order.{and-left, and-right}
 use Rattle.selecting.proofs.Laws.{in-candidates, candidates-in}
 use Rattle.selecting.proofs.Ends.{key-sym}
-use Rattle.ends.specs.Ends.{Room, directionAt, pieceAt, endsIn}
-use Rattle.ends.proofs.Reading.{ends-in-length, ends-in-at}
+use Rattle.ends.specs.Ends.{directionAt, pieceAt, endsIn}
 use Rattle.tree.specs.declared.Place.{Place}
 use Rattle.tree.specs.Places.{gone, none}
-use Rattle.tree.proofs.Flat.{climb, twice, left-is, right-is, last-is, next-is, below-or, same-or}
+use Rattle.tree.proofs.Flat.{same-or}
 use Rattle.index.specs.declared.Best.{Best}
 use Rattle.index.specs.Nodes.{node-at}
-use Rattle.index.specs.Search.{Built, pair-at, leaf-at, Ready, Finds}
-use Rattle.index.specs.Index.{pairOf, box-of, leaf-of, Placed, Indexed, Finite, Query, FirstPair, FirstOf, Answers}
-use Rattle.index.proofs.Bounding.{chosen, left-out}
-
--- ---- the least of the leaves, over their numbers
-module _ (w : ℕ → ℕ) where
-  least-le : (h n x : ℕ) → n * 2 ^ h ≤ x → x < (n + 1) * 2 ^ h → least w h n ≤ w x
-  unfolding least
-  least-le zero n x a b = let e : n ≡ x = omega arith in rw e (omega arith)
-  least-le (suc h) n x a b =
-      let a′ : n * (2 * 2 ^ h) ≤ x = rw (twice h) at a in
-      let b′ : x < (n + 1) * (2 * 2 ^ h) = rw (twice h) at b in
-      ⊎-elim
-      (λ (c : x < (2 * n + 1) * 2 ^ h). let i = least-le h (2 * n) x (omega (arith, left-is n (2 ^ h))) c in omega arith)
-      (λ (c : (2 * n + 1) * 2 ^ h ≤ x). let i = least-le h (2 * n + 1) x c (omega (arith, last-is n (2 ^ h))) in omega arith)
-      (below-or x ((2 * n + 1) * 2 ^ h))
-
-  least-is : (h n : ℕ) → (x : ℕ) × (n * 2 ^ h ≤ x) × (x < (n + 1) * 2 ^ h) × (least w h n ≡ w x)
-  unfolding least
-  least-is zero n = (n, omega arith, omega arith, refl)
-  least-is (suc h) n = go (least-is h (2 * n)) (least-is h (2 * n + 1)) (below-or (least w h (2 * n)) (least w h (2 * n + 1)))
-    where
-      go : (x : ℕ) × (2 * n * 2 ^ h ≤ x) × (x < (2 * n + 1) * 2 ^ h) × (least w h (2 * n) ≡ w x)
-          → (x : ℕ) × ((2 * n + 1) * 2 ^ h ≤ x) × (x < (2 * n + 1 + 1) * 2 ^ h) × (least w h (2 * n + 1) ≡ w x)
-          → (least w h (2 * n) < least w h (2 * n + 1)) ⊎ (least w h (2 * n + 1) ≤ least w h (2 * n))
-          → (x : ℕ) × (n * 2 ^ suc h ≤ x) × (x < (n + 1) * 2 ^ suc h) × (min (least w h (2 * n)) (least w h (2 * n + 1)) ≡ w x)
-      go (x, a, b, e) t (inl c) =
-          (x, rw (twice h) (omega (arith, left-is n (2 ^ h), a)), rw (twice h) (omega (arith, right-is n (2 ^ h), last-is n (2 ^ h), next-is (2 * n + 1) (2 ^ h), b)), omega (arith, e))
-      go s (x, a, b, e) (inr c) = (x, rw (twice h) (omega (arith, right-is n (2 ^ h), a)), rw (twice h) (omega (arith, last-is n (2 ^ h), b)), omega (arith, e))
-
--- ---- ends
-
-toward-of : (a : Direction) → there a ≡ true → (x y : Float) × (a ≡ Toward x y)
-unfolding there
-toward-of Absent h = let z : _≡_ {A = ℕ} 0 1 = cc in absurd (omega arith)
-toward-of (Toward x y) h = (x, y, refl)
-
-pub is-there : {a : Direction} {x y : Float} → a ≡ Toward x y → there a ≡ true
-is-there e = ap there e ∙ (unfold there in refl)
-
--- a direction is that of an end of the list
-pub end-below : (l : List End) (e : ℕ) → there (endAt l e .direction) ≡ true → e < length l
-unfolding there
-end-below [] e h = let z : _≡_ {A = ℕ} 0 1 = cc in absurd (omega arith)
-end-below (x ∷ l) zero h = omega arith
-end-below (x ∷ l) (suc e) h = let i = end-below l e h in omega arith
-
-module _ {w : List ℕ} {d : ℕ} (room : Room w d) where
-  pub long : d * 4 ≤ length w
-  long = omega (arith, room .long)
-
-  pub ends-length : length (endsIn w d) ≡ d
-  ends-length = ends-in-length w d long
-
-  pub direction-is : (e : ℕ) → e < d → endAt (endsIn w d) e .direction ≡ directionAt w d e
-  direction-is e h = ap (λ (x : End). x .direction) (ends-in-at w d long e h)
-
-  pub piece-is : (e : ℕ) → e < d → endAt (endsIn w d) e .piece ≡ pieceAt w d e
-  piece-is e h = ap (λ (x : End). x .piece) (ends-in-at w d long e h)
-
-  pub there-below : (e : ℕ) → there (endAt (endsIn w d) e .direction) ≡ true → e < d
-  there-below e h = let i = end-below (endsIn w d) e h in omega (arith, ends-length)
-
--- ---- the index as the search reads it
-
-module _ {w : List ℕ} {d : ℕ} (t base : ℕ) (room : Room w d) (fin : Finite (endsIn w d)) (used : ℕ → Bool) (order : ℕ → ℕ) (k : Indexed w t base (endsIn w d) used order) where
-  leaf-built : (p : ℕ) → p < base → Built (node-at w t) (directionAt w d) d zero (base + p)
-  unfolding Built
-  leaf-built p h = go (used (order p)) (endAt (endsIn w d) (order p) .direction) refl (k .leaves p h)
-    where
-      go : (u : Bool) (a : Direction) → endAt (endsIn w d) (order p) .direction ≡ a → node-at w t (base + p) ≡ cond u empty-of (box-of a (order p))
-          → Built (node-at w t) (directionAt w d) d zero (base + p)
-      go true a e q = inl q
-      go false Absent e q = inl q
-      go false (Toward x y) e q =
-          let i = there-below room (order p) (is-there e) in
-          inr (record {
-            x = x;
-            y = y;
-            e = order p;
-            box = q;
-            toward = sym (direction-is room (order p) i) ∙ e;
-            x-finite = fin (order p) x y e .0;
-            y-finite = fin (order p) x y e .1;
-            within = i;
-          })
-
-  built-from : (h n : ℕ) → 0 < n → base ≤ n * 2 ^ h → (n + 1) * 2 ^ h ≤ 2 * base → Built (node-at w t) (directionAt w d) d h n
-  unfolding Built
-  built-from =
-      climb (Built (node-at w t) (directionAt w d) d) base
-      (λ n a b. subst (λ (m : ℕ). Built (node-at w t) (directionAt w d) d zero m) (back n a) (leaf-built (n - base) (omega arith)))
-      (λ h n p a l r. (k .inner n p a (omega arith), l, r))
-    where
-      back : (n : ℕ) → base ≤ n → base + (n - base) ≡ n
-      back n h = omega arith
-
-pub ready : {w : List ℕ} {d t height limit o : ℕ} → Query w d t height limit o → (ax ay : Float) → Toward ax ay ≡ directionAt w d o → Ready w d t ax ay height 1
-ready {w} {d} {t} {height} {limit} {o} q ax ay e =
-    let f = q .finite-ends o ax ay (direction-is (q .room) o (q .within) ∙ sym e) in
-    record {
-      room = q .room;
-      nodes = 2 * 2 ^ height;
-      inside = omega (arith, q .inside);
-      within = omega arith;
-      built =
-          built-from t (2 ^ height) (q .room) (q .finite-ends) (q .used) (q .order) (q .indexed) height 1 (omega arith) (omega (arith, one-mul (2 ^ height))) (omega arith);
-      x-finite = f .0;
-      y-finite = f .1;
-    }
-
--- ---- a candidate of the owner o
-
-module _ (l : List End) (limit : ℕ) where
-  -- at its other end
-  pub record Other (used : ℕ → Bool) (o : ℕ) (q : Pair) (e : ℕ) : Type 0 where
-    pub free : used e ≡ false
-    pub present : there (endAt l e .direction) ≡ true
-    pub differs : endAt l e .piece ≡ endAt l o .piece → ⊥
-    pub keyed : q .key ≡ keyOf (endAt l o .direction) (endAt l e .direction)
-    pub limited : q .key ≤ limit
-    pub which : ((q .i ≡ o) × (q .j ≡ e)) ⊎ ((q .i ≡ e) × (q .j ≡ o))
-    pub lower : q .i < q .j
-
-  other : (used : ℕ → Bool) (o : ℕ) (q : Pair) → In q (candidates (nodeOf l) limit) → busy used q ≡ false → EndOf o q → (e : ℕ) × Other used o q e
-  unfolding qualifies busy
-  other used o q m f w =
-      let c = in-candidates (nodeOf l) limit q m in
-      let may = and-left (nodeOf l .may (q .i) (q .j)) (leb (q .key) limit) (c .1) in
-      let pi = and-left (there (endAt l (q .i) .direction)) _ may in
-      let rest = and-right (there (endAt l (q .i) .direction)) _ may in
-      let pj = and-left (there (endAt l (q .j) .direction)) _ rest in
-      let apart = eqb-false (endAt l (q .i) .piece) (endAt l (q .j) .piece) (not-true _ (and-right (there (endAt l (q .j) .direction)) _ rest)) in
-      let under : q .key ≤ limit = leb-true (q .key) limit (and-right (nodeOf l .may (q .i) (q .j)) _ (c .1)) in
-      ⊎-elim
-      (λ (x : o ≡ q .i). (
-        q .j,
-        record {
-          free = or-false-right (used (q .i)) (used (q .j)) f;
-          present = pj;
-          differs = λ z. apart (ap (λ (y : ℕ). endAt l y .piece) (sym x) ∙ sym z);
-          keyed = c .0 .keyed ∙ ap (λ (y : ℕ). keyOf (endAt l y .direction) (endAt l (q .j) .direction)) (sym x);
-          limited = under;
-          which = inl (sym x, refl);
-          lower = c .0 .lower;
-        },
-      ))
-      (λ (x : o ≡ q .j). (
-        q .i,
-        record {
-          free = or-false-left (used (q .i)) (used (q .j)) f;
-          present = pi;
-          differs = λ z. apart (z ∙ ap (λ (y : ℕ). endAt l y .piece) x);
-          keyed =
-              c .0 .keyed
-              ∙ key-sym (endAt l (q .i) .direction) (endAt l (q .j) .direction)
-              ∙ ap (λ (y : ℕ). keyOf (endAt l y .direction) (endAt l (q .i) .direction)) (sym x);
-          limited = under;
-          which = inr (refl, sym x);
-          lower = c .0 .lower;
-        },
-      ))
-      w
-
--- ---- the order of an owner's pairs
-
--- b's pair: the ends o and x, the lower first
-abbrev pub Made : ℕ → ℕ → ℕ → Best → Type 0
-Made k o x b = (b .key ≡ k) × (((b .i ≡ x) × (b .j ≡ o) × (x < o)) ⊎ ((b .i ≡ o) × (b .j ≡ x) × (o < x)))
-
-in-order : (k o x e : ℕ) (b : Best) (q : Pair) → Made k o x b → q .i < q .j → ((q .i ≡ o) × (q .j ≡ e)) ⊎ ((q .i ≡ e) × (q .j ≡ o))
-    → x < gone → e < gone → place k x ≤ place (q .key) e → before q (pairOf b) ≡ false
-in-order k o x e b q (u, m) l w hx he h =
-    of-at-before (pairOf b) q (⊎-elim
-    (λ (c : k < q .key). inl (omega arith))
-    (λ (c : q .key ≤ k). inr (omega arith, ends m w (omega arith)))
-    (below-or k (q .key)))
-  where
-    ends : ((b .i ≡ x) × (b .j ≡ o) × (x < o)) ⊎ ((b .i ≡ o) × (b .j ≡ x) × (o < x)) → ((q .i ≡ o) × (q .j ≡ e)) ⊎ ((q .i ≡ e) × (q .j ≡ o)) → x ≤ e
-        → (b .i < q .i) ⊎ ((b .i ≡ q .i) × (b .j ≤ q .j))
-    ends (inl (p, r, s)) (inl (y, z)) c = inl (omega arith)
-    ends (inl (p, r, s)) (inr (y, z)) c = ⊎-elim (λ (d : x < e). inl (omega arith)) (λ (d : e ≤ x). inr (omega arith, omega arith)) (below-or x e)
-    ends (inr (p, r, s)) (inl (y, z)) c = inr (omega arith, omega arith)
-    ends (inr (p, r, s)) (inr (y, z)) c = absurd (omega arith)
-
--- ---- places and their least, over variables
-
-above : (k i l j : ℕ) → k < l → i ≤ gone → place k i < place l j
-above k i l j h g = omega arith
-
-under-all : (k i : ℕ) → k < gone → i ≤ gone → place k i < none
-unfolding none
-under-all k i h g = above k i gone gone h g
-
-strictly : (a b : ℕ) → a ≤ b → (b ≡ a → ⊥) → a < b
-strictly a b h e = omega arith
-
-key-under : (k i l : ℕ) → place k i ≤ place l gone → k ≤ l
-key-under k i l h = omega arith
-
-place-below : (k e l : ℕ) → k ≤ l → e < gone → place k e < place l gone
-place-below k e l h g = omega arith
-
-min-under : (a b c x : ℕ) → a ≡ min b c → c ≤ x → a ≤ x
-min-under a b c x e h = omega arith
-
-min-right : (a b c : ℕ) → a ≡ min b c → a < b → a ≡ c
-min-right a b c e h = omega arith
-
-min-apart : (a b c : ℕ) → a ≡ min b c → (a ≡ b → ⊥) → a ≡ c
-min-apart a b c e h = omega arith
-
-min-top : (a b c : ℕ) → a ≡ min b c → a ≤ b
-min-top a b c e = omega arith
+use Rattle.index.specs.Search.{pair-at, leaf-at, Finds}
+use Rattle.index.specs.Index.{pairOf, box-of, leaf-of, Placed, Indexed, Query, FirstPair, FirstOf, Answers}
+use Rattle.index.proofs.Bounding.{left-out}
+use Rattle.index.proofs.Leaves.{least-le, least-is, toward-of, is-there, ends-length, direction-is, piece-is, there-below}
+use Rattle.index.proofs.Candidates.{Other, other, Made, in-order, under-all, strictly, key-under, place-below, min-under, min-apart, min-top}
 
 -- ---- what a query finds
 

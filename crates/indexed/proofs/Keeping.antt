@@ -29,7 +29,7 @@ use Rattle.index.specs.declared.Best.{Best}
 use Rattle.index.specs.Nodes.{node-at, Indexes, Removes}
 use Rattle.index.specs.Nodes as index
 use Rattle.index.specs.Index.{pairOf, box-of, leaf-of, Placed, Indexed, Finite, Query, FirstPair, Answers}
-use Rattle.index.proofs.Owner.{there-below}
+use Rattle.index.proofs.Leaves.{there-below}
 use Rattle.heap.specs.Heap.{coded, Heaps, Sets}
 use Rattle.heap.specs.Heap as heap
 use Rattle.owners.specs.Tables.{order-at, position-at, group-at, cursor-at, slot-at, Ordered}

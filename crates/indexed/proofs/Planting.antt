@@ -24,7 +24,7 @@ use Rattle.tree.proofs.Flat.{same-or, below-or, kept-same}
 use Rattle.tree.proofs.Words.{changes-none, changes-then, changes-wider}
 use Rattle.index.specs.Nodes.{node-at, Puts, Leaves, Joins}
 use Rattle.index.specs.Index.{box-of, leaf-of, Finite}
-use Rattle.index.proofs.Owner.{direction-is, there-below}
+use Rattle.index.proofs.Leaves.{direction-is, there-below}
 use Rattle.heap.specs.Heap as heap
 use Rattle.owners.specs.Tables.{order-at, Sorted}
 use Rattle.owners.proofs.Seats.{seated, seated-in, seated-out}

@@ -21,7 +21,7 @@ use Rattle.tree.specs.Flat.{changed}
 use Rattle.tree.specs.Words.{Changes}
 use Rattle.tree.proofs.Flat.{same-or, below-or}
 use Rattle.tree.proofs.Words.{changes-none, changes-then, changes-wider, changes-set}
-use Rattle.index.proofs.Owner.{direction-is, is-there, there-below}
+use Rattle.index.proofs.Leaves.{direction-is, is-there, there-below}
 use Rattle.owners.specs.Tables.{mark-at, order-at, position-at, group-at, cursor-at, slot-at, owners, Ordered, Sorted, Like, Runs, Grouped, Slotted, Started, Groups, Due}
 use Rattle.owners.proofs.Grouping.{runs-next, started-none, started-one, runs-start, started-start}
 

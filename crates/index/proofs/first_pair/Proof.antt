@@ -1,6 +1,7 @@
 use mathlib.Core.Path.{sym, _∙_}
 use native.Mathlib.Omega.{arith}
-use Rattle.index.proofs.Owner.{ready, answers-absent, answers-none, answers-lower, answers-upper}
+use Rattle.index.proofs.Leaves.{ready}
+use Rattle.index.proofs.Owner.{answers-absent, answers-none, answers-lower, answers-upper}
 use borrow.Author.Needs.{needs}
 use Rattle.index.proofs.first_pair.Statement.{statement}
 use Rattle.index.proofs.first_pair.Tie as tie
