@@ -5,7 +5,7 @@
  * several threads at once, each with rooms of its own.
  *
  * A slice is a pointer and a length in elements. A slice of length 0 is not looked at, so its pointer may be
- * anything. Rooms (the slices without const) must not overlap one another or the input. They need not be
+ * anything, NULL included. Rooms (the slices without const) must not overlap one another or the input. They need not be
  * cleared before a call and may be longer than asked for. A refused call stores nothing. After an accepted
  * call spare and workspace are 0 over the length named below, each output begins with what was written, and
  * whatever lies beyond is as before.
@@ -55,9 +55,9 @@ enum lovasuku_refusal {
  * different groups are never joined) and its kind (0 plain, 1 passes through unjoined; a line of fewer than two
  * coordinates passes through as well). Round one joins ends that agree bit for bit in x and y; round two, which
  * runs where tolerance is above 0, joins the ends of what round one left that lie in one cell of that size. Two
- * ends that meet are joined at any angle. Of three or more the straightest pairs are joined if switch_on is 1,
- * as long as the dot product of their directions is at or below limit (-1 straight on, 0 a right angle, 1
- * any turn); with switch_on 0 none are, and limit is not looked at.
+ * ends that meet with no third are joined at any angle, unless they are the two ends of one piece. Of three or
+ * more the straightest pairs are joined if switch_on is 1, as long as the dot product of their directions is at or
+ * below limit (-1 straight on, 0 a right angle, 1 any turn); with switch_on 0 none are, and limit is not looked at.
  *
  * Written are, with k chains: table, 5k numbers, for each chain its first member, its number of members, its source
  * (0 the caller's coordinates, 1 merged), its first coordinate and its number of coordinates, both counted in

@@ -16,19 +16,9 @@ bool chain_is_there(size_t coordinates, size_t merged, const uint32_t *table, si
 
 /* Mostly a small number, at times one whose double or sum goes beyond 32 bits, at times any. */
 static uint32_t next_number(struct bytes *bytes) {
-    static const uint32_t edges[] = {0x7fffffff, 0x80000000, 0x80000001, 0xffffffff, 0xfffffffe, 0x40000000};
+    static const uint64_t edges[] = {0x7fffffff, 0x80000000, 0x80000001, 0xffffffff, 0xfffffffe, 0x40000000};
     uint8_t choice = next_byte(bytes);
-    if (choice < 0xc0) {
-        return choice % 32;
-    }
-    if (choice < 0xf0) {
-        return edges[choice % (sizeof edges / sizeof *edges)];
-    }
-    uint32_t number = 0;
-    for (int i = 0; i < 4; i++) {
-        number = number << 8 | next_byte(bytes);
-    }
-    return number;
+    return choice < RARELY ? choice % 32 : (uint32_t)rare_number(bytes, choice, edges, COUNT(edges), 4);
 }
 
 /* Mostly a small number, at times one whose fivefold goes beyond 64 bits, at times any. */
@@ -37,13 +27,7 @@ static uint64_t next_k(struct bytes *bytes) {
                                      0x999999999999999a, 0xcccccccccccccccd, 0x8000000000000000,
                                      0x3333333333333333};
     uint8_t choice = next_byte(bytes);
-    if (choice < 0xc0) {
-        return choice % 16;
-    }
-    if (choice < 0xf0) {
-        return edges[choice % (sizeof edges / sizeof *edges)];
-    }
-    return (uint64_t)next_number(bytes) << 32 | next_number(bytes);
+    return choice < RARELY ? choice % 16 : rare_number(bytes, choice, edges, COUNT(edges), 8);
 }
 
 void fuzz_chain(struct bytes *bytes) {

@@ -35,6 +35,12 @@ size_t next_below(struct bytes *bytes, size_t bound);
 /* The length that a slice should have, at times another. */
 size_t next_length(struct bytes *bytes, size_t wanted);
 
+#define COUNT(list) (sizeof(list) / sizeof *(list))
+
+/* A byte from RARELY on chooses a rare number: one at an edge or, from RARELY_ANY on, any of so many bytes. */
+enum { RARELY = 0xc0, RARELY_ANY = 0xf0 };
+uint64_t rare_number(struct bytes *bytes, uint8_t choice, const uint64_t *edges, size_t count, int width);
+
 /* The bits of a double: mostly one of a few, so that ends meet, and at times any. */
 uint64_t next_word(struct bytes *bytes);
 
@@ -63,7 +69,8 @@ struct slice {
 void make_input(struct slice *slice, size_t capacity);
 void make_room(struct slice *slice, size_t capacity);
 
-/* Gives the slice a length, so that it ends where its memory ends. A room is dirty from then on. */
+/* Gives the slice a length, so that it ends where its memory ends; an empty one is lent as NULL. A room is dirty
+ * from then on. */
 void lend_input(struct slice *slice, size_t bytes);
 void lend_room(struct slice *slice, size_t bytes, unsigned char dirt);
 

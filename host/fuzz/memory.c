@@ -39,7 +39,7 @@ void lend_input(struct slice *slice, size_t bytes) {
     require(bytes <= slice->capacity - BEFORE, "the harness has room for its slices");
     slice->bytes = bytes;
     slice->fill = slice->base + slice->capacity - bytes;
-    slice->lent = slice->view + slice->capacity - bytes;
+    slice->lent = bytes > 0 ? slice->view + slice->capacity - bytes : NULL;
 }
 
 void lend_room(struct slice *slice, size_t bytes, unsigned char dirt) {

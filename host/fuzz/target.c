@@ -73,28 +73,27 @@ static const uint64_t edges[] = {
 static const double places[] = {0.0, -0.0,  1.0,  -1.0, 2.0, -2.0, 3.0,  0.25,
                                 0.5, -0.25, 1.25, 1.75, 3.5, 4.5,  1e-9, 1e9};
 
+uint64_t rare_number(struct bytes *bytes, uint8_t choice, const uint64_t *edges, size_t count, int width) {
+    if (choice < RARELY_ANY) {
+        return edges[choice % count];
+    }
+    uint64_t number = 0;
+    for (int i = 0; i < width; i++) {
+        number = number << 8 | next_byte(bytes);
+    }
+    return number;
+}
+
 uint64_t next_word(struct bytes *bytes) {
     uint8_t choice = next_byte(bytes);
-    if (choice < 0xc0) {
-        return bits_of(places[choice % (sizeof places / sizeof *places)]);
-    }
-    if (choice < 0xf0) {
-        return edges[choice % (sizeof edges / sizeof *edges)];
-    }
-    uint64_t word = 0;
-    for (int i = 0; i < 8; i++) {
-        word = word << 8 | next_byte(bytes);
-    }
-    return word;
+    return choice < RARELY ? bits_of(places[choice % COUNT(places)])
+                           : rare_number(bytes, choice, edges, COUNT(edges), 8);
 }
 
 double next_limit(struct bytes *bytes) {
     static const double limits[] = {-1.0, -0.5, -0.0, 0.0, 0.5, 1.0, -0.70710678118654752, -0.9};
     uint8_t choice = next_byte(bytes);
-    if (choice < 0xe0) {
-        return limits[choice % (sizeof limits / sizeof *limits)];
-    }
-    return double_of(next_word(bytes));
+    return choice < 0xe0 ? limits[choice % COUNT(limits)] : double_of(next_word(bytes));
 }
 
 bool limit_is_bad(double limit) {

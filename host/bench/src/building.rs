@@ -91,14 +91,8 @@ impl Rooms {
     }
 
     fn lent(&mut self) -> door::BuildRooms<'_> {
-        door::BuildRooms {
-            table: &mut self.table,
-            members: &mut self.members,
-            marks: &mut self.marks,
-            merged: &mut self.merged,
-            spare: &mut self.spare,
-            workspace: &mut self.workspace,
-        }
+        let Rooms { table, members, marks, merged, spare, workspace } = self;
+        door::BuildRooms { table, members, marks, merged, spare, workspace }
     }
 
     /// Tests that the rooms have the Rust's chains and are cleared where the rules say so. The

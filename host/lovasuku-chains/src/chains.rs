@@ -58,12 +58,7 @@ impl<'a> Chains<'a> {
 
     /// The coordinates of all chains of several lines, one chain after another.
     pub fn merged(&self) -> &'a [f64] {
-        let end = |record: &[u32]| match *record {
-            [_, _, 1, first, count] => POINT * (first as usize + count as usize),
-            _ => 0,
-        };
-        let length = self.table.chunks_exact(RECORD).map(end).max().unwrap_or(0);
-        self.merged.get(..length).unwrap_or_default()
+        self.merged
     }
 
     /// The lines of the call.

@@ -1,21 +1,6 @@
 //! The functions of the library, as `include/lovasuku.h` declares them: each slice is a pointer
 //! and a length in elements.
 
-/// The pairing routes share this form.
-pub type PairsFunction = unsafe extern "C" fn(
-    present: *const u8,
-    present_length: usize,
-    directions: *const f64,
-    directions_length: usize,
-    pieces: *const u32,
-    pieces_length: usize,
-    limit: f64,
-    pairs: *mut u32,
-    pairs_length: usize,
-    workspace: *mut u64,
-    workspace_length: usize,
-) -> i64;
-
 extern "C" {
     pub fn lovasuku_build(
         coordinates: *const f64,
@@ -43,48 +28,6 @@ extern "C" {
         workspace_length: usize,
     ) -> i64;
 
-    pub fn lovasuku_pairs_plain(
-        present: *const u8,
-        present_length: usize,
-        directions: *const f64,
-        directions_length: usize,
-        pieces: *const u32,
-        pieces_length: usize,
-        limit: f64,
-        pairs: *mut u32,
-        pairs_length: usize,
-        workspace: *mut u64,
-        workspace_length: usize,
-    ) -> i64;
-
-    pub fn lovasuku_pairs_indexed(
-        present: *const u8,
-        present_length: usize,
-        directions: *const f64,
-        directions_length: usize,
-        pieces: *const u32,
-        pieces_length: usize,
-        limit: f64,
-        pairs: *mut u32,
-        pairs_length: usize,
-        workspace: *mut u64,
-        workspace_length: usize,
-    ) -> i64;
-
-    pub fn lovasuku_pairs_chosen(
-        present: *const u8,
-        present_length: usize,
-        directions: *const f64,
-        directions_length: usize,
-        pieces: *const u32,
-        pieces_length: usize,
-        limit: f64,
-        pairs: *mut u32,
-        pairs_length: usize,
-        workspace: *mut u64,
-        workspace_length: usize,
-    ) -> i64;
-
     pub fn lovasuku_chain(
         coordinates: *const f64,
         coordinates_length: usize,
@@ -95,3 +38,28 @@ extern "C" {
         k: u64,
     ) -> i64;
 }
+
+/// Declares functions of one form, and the type of these.
+macro_rules! functions {
+    ($parameters:tt, $form:ident: $($function:ident)*) => {
+        pub type $form = unsafe extern "C" fn $parameters -> i64;
+
+        extern "C" {
+            $(pub fn $function $parameters -> i64;)*
+        }
+    };
+}
+
+functions!((
+    present: *const u8,
+    present_length: usize,
+    directions: *const f64,
+    directions_length: usize,
+    pieces: *const u32,
+    pieces_length: usize,
+    limit: f64,
+    pairs: *mut u32,
+    pairs_length: usize,
+    workspace: *mut u64,
+    workspace_length: usize,
+), PairsFunction: lovasuku_pairs_plain lovasuku_pairs_indexed lovasuku_pairs_chosen);

@@ -68,8 +68,9 @@ impl Rooms {
     ///
     /// Round one joins ends that agree bit for bit in x, y and group. Round two, where the
     /// tolerance is above 0, joins the ends of what round one left that lie in one cell. Two ends
-    /// that meet are joined at any angle; of three or more the straightest pairs are, if a limit
-    /// is set. The chains borrow from the lines and from these rooms.
+    /// that meet with no third are joined at any angle, unless they are the two ends of one piece;
+    /// of three or more the straightest pairs are, if a limit is set. The chains borrow from the
+    /// lines and from these rooms.
     ///
     /// # Errors
     ///
@@ -88,21 +89,16 @@ impl Rooms {
         self.grow_for_building(n, numbers.min(POINT * MOST_POINTS));
         let (switch, limit) = settings.switch_and_limit();
         let raw = RawSettings { tolerance: settings.tolerance, switch, limit };
-        let rooms = BuildRooms {
-            table: &mut self.table,
-            members: &mut self.members,
-            marks: &mut self.marks,
-            merged: &mut self.merged,
-            spare: &mut self.spare,
-            workspace: &mut self.workspace,
-        };
+        let Rooms { table, members, marks, merged, spare, workspace, .. } = self;
+        let rooms = BuildRooms { table, members, marks, merged, spare, workspace };
         let chains = door::result(door::build(lines, raw, rooms))? as usize;
+        let table = first(&self.table, RECORD * chains);
         Ok(Chains {
             lines,
-            table: first(&self.table, RECORD * chains),
+            table,
             members: first(&self.members, n),
             marks: first(&self.marks, n),
-            merged: &self.merged,
+            merged: first(&self.merged, merged_length(table)),
         })
     }
 
@@ -142,7 +138,8 @@ impl Rooms {
     ) -> Result<&[[u32; 2]], Refusal> {
         ends.test_lengths()?;
         self.grow_for_pairing(ends.len());
-        let rooms = PairRooms { pairs: &mut self.pairs, workspace: &mut self.workspace };
+        let Rooms { pairs, workspace, .. } = self;
+        let rooms = PairRooms { pairs, workspace };
         let pairs = door::result(door::pairs(route, ends, limit, rooms))? as usize;
         Ok(first(by_two(&self.pairs), pairs))
     }
@@ -167,6 +164,15 @@ fn grow<T: Clone + Default>(room: &mut Vec<T>, length: usize) {
     if room.len() < length {
         room.resize(length, T::default());
     }
+}
+
+/// How many numbers the merged coordinates have: they end where those of the last merged chain do.
+fn merged_length(table: &[u32]) -> usize {
+    let end = |record: &[u32]| match *record {
+        [_, _, 1, first, count] => Some(POINT * (first as usize + count as usize)),
+        _ => None,
+    };
+    table.chunks_exact(RECORD).rev().find_map(end).unwrap_or(0)
 }
 
 /// The first so many of a slice, all where it has fewer.

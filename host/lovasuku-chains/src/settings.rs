@@ -46,8 +46,8 @@ impl Settings {
     }
 }
 
-/// The limit that a bend in degrees stands for: 0 and below, and NaN, pair no junction, 90 is
-/// limit 0, 180 and above is limit 1.
+/// The limit that a bend in degrees stands for: 0 and below, and NaN, pair no junction, 60 is
+/// limit -0.5, 90 is 0, 120 is 0.5, 180 and above is 1.
 ///
 /// Between these the limit comes from the sine of the platform's library, whose last bit no
 /// standard fixes. A caller for whom that bit matters states the limit itself.
@@ -55,14 +55,18 @@ impl Settings {
 /// ```
 /// use lovasuku_chains::limit_of_bend;
 ///
-/// assert_eq!(limit_of_bend(0.0), None);
-/// assert_eq!(limit_of_bend(f64::NAN), None);
-/// assert_eq!(limit_of_bend(90.0), Some(0.0));
-/// assert_eq!(limit_of_bend(180.0), Some(1.0));
-/// assert!((limit_of_bend(60.0).unwrap() + 0.5).abs() < 1e-15);
+/// assert_eq!([0.0, -7.0, f64::NAN].map(limit_of_bend), [None; 3]);
+/// let exact = [60.0, 90.0, 120.0, 180.0, 500.0].map(limit_of_bend);
+/// assert_eq!(exact, [-0.5, 0.0, 0.5, 1.0, 1.0].map(Some));
+/// assert!((limit_of_bend(45.0).unwrap() + 0.5f64.sqrt()).abs() < 1e-15);
 /// ```
 pub fn limit_of_bend(degrees: f64) -> Option<f64> {
-    if degrees >= 180.0 {
+    // No other bends in whole degrees have a limit that is a fraction; the sine misses these.
+    if degrees == 60.0 {
+        Some(-0.5)
+    } else if degrees == 120.0 {
+        Some(0.5)
+    } else if degrees >= 180.0 {
         Some(1.0)
     } else if degrees > 0.0 {
         Some((degrees - 90.0).to_radians().sin().clamp(-1.0, 1.0))

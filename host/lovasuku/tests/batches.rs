@@ -37,12 +37,18 @@ fn bits(chain: &Chain) -> Bits<'_> {
     (&chain.members, &chain.turned, points, &chain.joints)
 }
 
+/// Networks of so many seeds and of about so many lines, each with settings.
+fn networks(seeds: u64, lines: usize) -> impl Iterator<Item = (u64, Network, Settings)> {
+    (0..seeds).map(move |seed| {
+        let network = network(seed, lines + seed as usize % (5 * lines));
+        (seed, network, SETTINGS[seed as usize % SETTINGS.len()])
+    })
+}
+
 #[test]
 fn batches_equal_one_call() {
     let mut compared = 0;
-    for seed in 0..400 {
-        let network = network(seed, 60 + seed as usize % 300);
-        let settings = SETTINGS[seed as usize % SETTINGS.len()];
+    for (seed, network, settings) in networks(400, 60) {
         let whole = chains(&network, settings, Capacity::default()).unwrap();
         for lines in [4, 8, 16, 48] {
             let capacity = Capacity { lines, points: 6 * lines };
@@ -75,9 +81,7 @@ fn segments(points: &[Point]) -> Vec<Segment> {
 #[test]
 fn a_segment_of_no_line_is_a_bridge() {
     let mut bridges = 0;
-    for seed in 0..600 {
-        let network = network(seed, 30 + seed as usize % 200);
-        let settings = SETTINGS[seed as usize % SETTINGS.len()];
+    for (_, network, settings) in networks(600, 35) {
         for chain in chains(&network, settings, Capacity::default()).unwrap() {
             bridges += check_bridges(&network.lines(), &chain);
         }

@@ -49,7 +49,7 @@ fn the_yard_at_a_coarse_tolerance() {
         "   joined  7 at nodes, 4 at junctions, 2 by the tolerance",
         "  bridges  2 segments made by the tolerance; the longest is 7.02922 long, \
          from line \"S2\" to line \"S3\" in chain 1",
-        "    limit  -0.49999999999999994, which a bend of 60 degrees stands for",
+        "    limit  -0.5, which a bend of 60 degrees stands for",
     ];
     assert_eq!(rows[..5], wanted);
     assert!(rows[5].starts_with("     took  ") && rows[5].ends_with(" seconds"));

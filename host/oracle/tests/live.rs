@@ -4,7 +4,7 @@ use answers::model::plane::direction;
 use answers::model::Model;
 use answers::random::Random;
 use answers::replay::{load, replay, FILES};
-use answers::styles::{BUILDING, PAIRING};
+use answers::styles::{Style, BUILDING, PAIRING};
 use answers::{Port, Route};
 use oracle::Oracle;
 
@@ -30,32 +30,34 @@ fn the_oracle_answers_as_recorded() {
     }
 }
 
-#[test]
-fn the_model_builds_as_the_oracle_does() {
-    let mut random = Random::new(101);
-    if let Some(mut oracle) = oracle() {
-        for (name, make) in BUILDING {
-            for size in SIZES.repeat(20) {
-                let call = make(&mut random, size);
-                assert_eq!(Model.build(&call), oracle.build(&call), "{name}\n{call}");
-            }
+/// Makes calls of every style and size, from a seed.
+fn each_call<C>(styles: &[Style<C>], seed: u64, mut test: impl FnMut(&'static str, C)) {
+    let mut random = Random::new(seed);
+    for (name, make) in styles {
+        for size in SIZES.repeat(20) {
+            test(name, make(&mut random, size));
         }
     }
 }
 
 #[test]
-fn the_model_selects_as_every_route_of_the_oracle() {
-    let mut random = Random::new(102);
+fn the_model_builds_as_the_oracle_does() {
     if let Some(mut oracle) = oracle() {
-        for (name, make) in PAIRING {
-            for size in SIZES.repeat(20) {
-                let call = make(&mut random, size);
-                let pairs = Model.pairs(Route::Plain, &call);
-                for &route in Route::for_call(&call) {
-                    assert_eq!(pairs, oracle.pairs(route, &call), "{name}, {route:?}\n{call}");
-                }
+        each_call(&BUILDING, 101, |name, call| {
+            assert_eq!(Model.build(&call), oracle.build(&call), "{name}\n{call}");
+        });
+    }
+}
+
+#[test]
+fn the_model_selects_as_every_route_of_the_oracle() {
+    if let Some(mut oracle) = oracle() {
+        each_call(&PAIRING, 102, |name, call| {
+            let pairs = Model.pairs(Route::Plain, &call);
+            for &route in Route::for_call(&call) {
+                assert_eq!(pairs, oracle.pairs(route, &call), "{name}, {route:?}\n{call}");
             }
-        }
+        });
     }
 }
 

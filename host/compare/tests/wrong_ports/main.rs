@@ -3,7 +3,7 @@
 mod answers_of;
 mod doors;
 
-use answers::{BuildCall, PairingCall};
+use answers::{BuildCall, Built, PairingCall};
 use compare::calls::Call;
 use compare::run::{run, Difference, Plan};
 use compare::{Judge, Library};
@@ -53,28 +53,38 @@ fn the_library_passes() {
     assert!(difference.is_none(), "{}", difference.unwrap());
 }
 
+/// Tests that a port which builds wrongly is caught on a call of so many lines and points at most,
+/// by a sentence that begins as given.
+#[track_caller]
+fn assert_caught(build: fn(&BuildCall) -> Built, lines: usize, points: usize, begins: &str) {
+    let (call, sentence) = caught_building(Pretended { build, ..Pretended::default() });
+    assert_small(&call, lines, points);
+    assert!(sentence.starts_with(begins), "{sentence}");
+}
+
 #[test]
 fn repeats_kept() {
-    let wrong = Pretended { build: answers_of::repeats_kept, ..Pretended::default() };
-    let (call, sentence) = caught_building(wrong);
-    assert_small(&call, 2, 4);
-    assert!(sentence.starts_with("table[4] is 0x"), "{sentence}");
+    assert_caught(answers_of::repeats_kept, 2, 4, "table[4] is 0x");
 }
 
 #[test]
 fn members_reversed() {
-    let wrong = Pretended { build: answers_of::members_reversed, ..Pretended::default() };
-    let (call, sentence) = caught_building(wrong);
-    assert_small(&call, 3, 6);
-    assert!(sentence.starts_with("members["), "{sentence}");
+    assert_caught(answers_of::members_reversed, 3, 6, "members[");
 }
 
 #[test]
 fn marks_all_zero() {
-    let wrong = Pretended { build: answers_of::unturned, ..Pretended::default() };
-    let (call, sentence) = caught_building(wrong);
-    assert_small(&call, 2, 4);
-    assert!(sentence.starts_with("marks["), "{sentence}");
+    assert_caught(answers_of::unturned, 2, 4, "marks[");
+}
+
+#[test]
+fn single_lines_alone() {
+    assert_caught(answers_of::single_lines, 2, 4, "the answer is 2, not 1 chains");
+}
+
+#[test]
+fn one_zero_as_key() {
+    assert_caught(answers_of::one_zero, 2, 4, "");
 }
 
 #[test]
@@ -83,18 +93,6 @@ fn round_two_skipped() {
     let (call, _) = caught_building(wrong);
     assert_small(&call, 2, 4);
     assert!(f64::from_bits(call.tolerance) > 0.0);
-}
-
-#[test]
-fn single_lines_alone() {
-    let wrong = Pretended { build: answers_of::single_lines, ..Pretended::default() };
-    assert_small(&caught_building(wrong).0, 2, 4);
-}
-
-#[test]
-fn one_zero_as_key() {
-    let wrong = Pretended { build: answers_of::one_zero, ..Pretended::default() };
-    assert_small(&caught_building(wrong).0, 2, 4);
 }
 
 #[test]

@@ -1,0 +1,75 @@
+//! The adapter in the shape of the Rust original's `build_chains` gives the recorded chains.
+
+use answers::format::Recorded;
+use answers::model::plane::Point;
+use answers::replay::{load, FILES};
+use answers::{BuildCall, Built};
+use lovasuku_chains::{build_chains, LineInput, OwnedChain};
+
+/// The angle in degrees that says the same as switch and limit, where one does to the bit.
+fn angle(call: &BuildCall) -> Option<f64> {
+    let angles = [(-0.5, 60.0), (0.0, 90.0), (0.5, 120.0), (1.0, 180.0)];
+    match call.switch {
+        0 => Some(0.0),
+        _ => angles.into_iter().find(|(m, _)| f64::from_bits(call.limit) == *m).map(|(_, a)| a),
+    }
+}
+
+/// The lines of a call as tylertoo has them: plain ones with points, all others without.
+fn inputs(call: &BuildCall) -> Vec<LineInput<Vec<(f64, f64)>>> {
+    let input = |(line, first)| {
+        let plain = call.kinds[line] == 0;
+        let points = plain.then(|| call.points(line, first).into_iter().map(floats).collect());
+        LineInput { points, group: call.groups[line] }
+    };
+    call.firsts().into_iter().enumerate().map(input).collect()
+}
+
+fn floats([x, y]: Point) -> (f64, f64) {
+    (f64::from_bits(x), f64::from_bits(y))
+}
+
+/// Members, marks and the bits of points of a chain.
+type Bits = (Vec<usize>, Vec<bool>, Vec<Point>);
+
+fn bits(chain: OwnedChain) -> Bits {
+    let points = chain.points.into_iter().map(|(x, y)| [x.to_bits(), y.to_bits()]);
+    (chain.members, chain.turned, points.collect())
+}
+
+/// The recorded chains. Lines that pass through have no points here.
+fn recorded(call: &BuildCall, built: &Built) -> Vec<Bits> {
+    let chain = |&[member, members, source, first, count]: &[u32; 5]| {
+        let places = member as usize..(member + members) as usize;
+        let numbers = 2 * first as usize..2 * (first + count) as usize;
+        let lines: Vec<usize> = built.members[places.clone()].iter().map(|&m| m as usize).collect();
+        let passes = call.kinds[lines[0]] == 1;
+        let from = if source == 0 { &call.coordinates } else { &built.merged };
+        let points = from[numbers].chunks_exact(2).map(|two| [two[0], two[1]]);
+        let turned = built.marks[places].iter().map(|&mark| mark == 1).collect();
+        (lines, turned, if passes { vec![] } else { points.collect() })
+    };
+    built.table.iter().map(chain).collect()
+}
+
+#[test]
+fn the_adapter_builds_the_recorded_chains() {
+    let mut compared = [0; 2];
+    for name in FILES {
+        let entries = match load(name) {
+            Ok(Recorded::Building(entries)) => entries,
+            Ok(Recorded::Pairing(_)) => continue,
+            Err(fault) => panic!("{fault}"),
+        };
+        for (call, built) in &entries {
+            if let Some(angle) = angle(call) {
+                let chains = build_chains(inputs(call), f64::from_bits(call.tolerance), angle);
+                let chains: Vec<Bits> = chains.unwrap().into_iter().map(bits).collect();
+                assert_eq!(chains, recorded(call, built), "{name}\n{call}");
+                compared[usize::from(call.switch)] += 1;
+            }
+        }
+    }
+    assert!(compared[0] > 10_000 && compared[1] > 1_000, "{compared:?}");
+    println!("{} calls without and {} with junctions compared", compared[0], compared[1]);
+}
