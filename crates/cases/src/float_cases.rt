@@ -1,12 +1,11 @@
-// The cases M and N, of directions and cells, as building shows them.
+// The cases M and N, of directions and cells: their values, and what building makes of them.
+use crate::building_cases::THREE_LINES;
 use crate::building_cases::close;
 use crate::building_cases::too_far;
-use crate::building_cases::x;
 use crate::judge::Settings;
 use crate::judge::apart;
 use crate::judge::builds;
-
-const MINUS_ZERO: u64 = 0x8000_0000_0000_0000;
+use rules::Direction;
 
 // 2^-537, 2^-538, 2^511 and 2^512
 const LEAST_PRESENT: u64 = 0x1E60_0000_0000_0000;
@@ -17,122 +16,84 @@ const GREATEST_OF_LENGTH_ONE: u64 = 0x5FE0_0000_0000_0000;
 
 const LEAST_OF_LENGTH_NOUGHT: u64 = 0x5FF0_0000_0000_0000;
 
+// Whether the direction from 0,0 to dx,0 is (x, 0).
+fn toward(dx: u64, x: f64) -> bool {
+    let direction = direction::from_first(&[0, 0, dx, 0]);
+    match direction {
+        Direction::Absent => false,
+        Direction::Toward(a, b) => {
+            bits::bits_of(a) == bits::bits_of(x) && bits::bits_of(b) == bits::bits_of(0.0)
+        }
+    }
+}
+
+// Whether it is absent.
+fn absent(dx: u64) -> bool {
+    let direction = direction::from_first(&[0, 0, dx, 0]);
+    match direction {
+        Direction::Absent => true,
+        Direction::Toward(_, _) => false,
+    }
+}
+
 // Three lines from 0,0: to dx,0, to -1,0 and to 0,1. Whether the first two are joined, and the third is alone.
 fn straight_on(dx: u64, limit: f64) -> bool {
+    let x = bits::of_bits(dx);
+    let lines = [0.0, 0.0, x, 0.0, 0.0, 0.0, -1.0, 0.0, 0.0, 0.0, 0.0, 1.0];
+    let laid = [-1.0, 0.0, 0.0, 0.0, x, 0.0, 0.0, 0.0, 0.0, 1.0];
     let on = Settings {
         tolerance: 0.0,
         switch: 1,
-        limit: limit,
+        limit,
     };
-    let lines = [
-        x(0.0),
-        x(0.0),
-        dx,
-        x(0.0),
-        x(0.0),
-        x(0.0),
-        x(-1.0),
-        x(0.0),
-        x(0.0),
-        x(0.0),
-        x(0.0),
-        x(1.0),
-    ];
-    let joined = [x(-1.0), x(0.0), x(0.0), x(0.0), dx, x(0.0)];
-    let two = [0u32, 2, 1, 0, 3, 2, 1, 0, 4, 2];
     builds(
         &lines,
         &[2, 2, 2],
         &[0, 0, 0],
         on,
-        &two,
+        &[0, 2, 1, 0, 3, 2, 1, 0, 4, 2],
         &[1, 0, 2],
         &[1, 0, 0],
-        &joined,
+        &laid,
+        6,
     )
 }
 
 // The same lines: whether none are joined.
 fn stops(dx: u64, limit: f64) -> bool {
+    let x = bits::of_bits(dx);
+    let lines = [0.0, 0.0, x, 0.0, 0.0, 0.0, -1.0, 0.0, 0.0, 0.0, 0.0, 1.0];
     let on = Settings {
         tolerance: 0.0,
         switch: 1,
-        limit: limit,
+        limit,
     };
-    let lines = [
-        x(0.0),
-        x(0.0),
-        dx,
-        x(0.0),
-        x(0.0),
-        x(0.0),
-        x(-1.0),
-        x(0.0),
-        x(0.0),
-        x(0.0),
-        x(0.0),
-        x(1.0),
-    ];
-    apart(
-        &lines,
-        &[2, 2, 2],
-        &[0, 0, 0],
-        on,
-        &[0, 1, 0, 0, 2, 1, 1, 0, 2, 2, 2, 1, 0, 4, 2],
-    )
+    apart(&lines, &[2, 2, 2], &[0, 0, 0], on, &THREE_LINES)
 }
 
-// M: (1,0) goes straight on to (-1,0), an absent direction doesn't; (0,0) is present, and its measure with any other is 0.
+// M: at a junction (1, 0) goes straight on to (-1, 0), an absent direction doesn't; (0, 0) is present, and its measure with any other is 0.
 pub fn directions() -> bool {
-    if !straight_on(LEAST_PRESENT, -1.0) {
-        return false;
-    }
-    if !stops(GREATEST_ABSENT, -1.0) {
-        return false;
-    }
-    if !straight_on(GREATEST_OF_LENGTH_ONE, -1.0) {
-        return false;
-    }
-    if !stops(LEAST_OF_LENGTH_NOUGHT, -1.0) {
-        return false;
-    }
-    straight_on(LEAST_OF_LENGTH_NOUGHT, 0.0)
+    toward(LEAST_PRESENT, 1.0)
+        && straight_on(LEAST_PRESENT, -1.0)
+        && absent(GREATEST_ABSENT)
+        && stops(GREATEST_ABSENT, -1.0)
+        && toward(GREATEST_OF_LENGTH_ONE, 1.0)
+        && straight_on(GREATEST_OF_LENGTH_ONE, -1.0)
+        && toward(LEAST_OF_LENGTH_NOUGHT, 0.0)
+        && stops(LEAST_OF_LENGTH_NOUGHT, -1.0)
+        && straight_on(LEAST_OF_LENGTH_NOUGHT, 0.0)
+}
+
+// Whether the word that stands in a key for the cell of v at tolerance 1 is `word`: 2^63 more than the cell.
+fn in_cell(v: f64, word: u64) -> bool {
+    cell::cell_key(bits::bits_of(v), 1.0) == word
 }
 
 // N: -0.25 is in the cell of -0.75 and not in that of 0.5, in which -0.0 is.
 pub fn cells() -> bool {
-    if !too_far([
-        x(-5.0),
-        x(0.0),
-        x(-0.25),
-        x(0.0),
-        x(0.5),
-        x(0.0),
-        x(5.0),
-        x(0.0),
-    ]) {
-        return false;
-    }
-    if !close([
-        x(-5.0),
-        x(0.0),
-        x(-0.25),
-        x(0.0),
-        x(-0.75),
-        x(0.0),
-        x(5.0),
-        x(0.0),
-    ]) {
-        return false;
-    }
-    close([
-        x(-5.0),
-        x(0.0),
-        MINUS_ZERO,
-        x(0.0),
-        x(0.5),
-        x(0.0),
-        x(5.0),
-        x(0.0),
-    ])
+    in_cell(-0.25, 9223372036854775807)
+        && in_cell(-0.0, 9223372036854775808)
+        && too_far([-5.0, 0.0, -0.25, 0.0, 0.5, 0.0, 5.0, 0.0])
+        && close([-5.0, 0.0, -0.25, 0.0, -0.75, 0.0, 5.0, 0.0])
+        && close([-5.0, 0.0, -0.0, 0.0, 0.5, 0.0, 5.0, 0.0])
 }

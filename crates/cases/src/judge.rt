@@ -63,12 +63,76 @@ fn cleared(a: &[u64], n: usize) -> bool {
     true
 }
 
+// Whether a and b are the same numbers.
+fn same(a: &[u64], b: &[u64]) -> bool {
+    if a.len() != b.len() {
+        return false;
+    }
+    let mut i = 0;
+    while i < a.len() {
+        if a[i] != b[i] {
+            return false;
+        }
+        i += 1;
+    }
+    true
+}
+
+// The bits of sixteen numbers at most, and zeros after them.
+fn in_bits(numbers: &[f64]) -> [u64; 16] {
+    let mut words = [0u64; 16];
+    let mut i = 0;
+    while i < 16 {
+        if i < numbers.len() {
+            words[i] = bits::bits_of(numbers[i]);
+        }
+        i += 1;
+    }
+    words
+}
+
 // Whether the call is accepted with this result.
 fn accepted(answer: Answer, result: usize) -> bool {
     match answer {
         Answer::Accepted(n) => n == result as u64,
         Answer::Refused(_) => false,
     }
+}
+
+// Whether the call is refused with this number.
+fn refused(answer: Answer, number: u64) -> bool {
+    match answer {
+        Answer::Accepted(_) => false,
+        Answer::Refused(k) => k == number,
+    }
+}
+
+// Whether the table has this many chains, and their views are `laid`, one after another.
+fn shows<'a>(
+    input: &'a [u64],
+    merged: &'a [u64],
+    table: &[u32],
+    chains: usize,
+    laid: &[u64],
+) -> bool {
+    let mut at = 0;
+    let mut k = 0;
+    while k < chains {
+        if !accepted(asking::chain(input, merged, table, k), 0) {
+            return false;
+        }
+        let part = asking::view(input, merged, table, k);
+        if laid.len() - at < part.len() {
+            return false;
+        }
+        let end = at + part.len();
+        if !same(part, &laid[at..end]) {
+            return false;
+        }
+        at = end;
+        k += 1;
+    }
+    at == laid.len() && refused(asking::chain(input, merged, table, chains), 10)
 }
 
 // How lines are joined.
@@ -87,8 +151,18 @@ pub fn exactly() -> Settings {
     }
 }
 
-// Whether building gives these records, members, marks and merged coordinates, of three plain lines at most.
-pub fn builds(
+// Tolerance 1.
+pub fn coarse() -> Settings {
+    Settings {
+        tolerance: 1.0,
+        switch: 0,
+        limit: 0.0,
+    }
+}
+
+// Whether building gives these records, members and marks, of three plain lines at most. The chains' coordinates, one after another, are `laid`; the
+// first of them are the merged ones, as many as `copied` says.
+fn leaves(
     coordinates: &[u64],
     counts: &[u32],
     groups: &[u32],
@@ -96,8 +170,17 @@ pub fn builds(
     records: &[u32],
     members: &[u32],
     marks: &[u8],
-    merged: &[u64],
+    laid: &[u64],
+    copied: usize,
 ) -> bool {
+    let n = counts.len();
+    if 3 < n {
+        return false;
+    }
+    if laid.len() < copied {
+        return false;
+    }
+    let chains = records.len() / 5;
     let kinds = [0u8; 3];
     let mut table_room = [7u32; 16];
     let mut members_room = [7u32; 4];
@@ -105,11 +188,6 @@ pub fn builds(
     let mut merged_room = [7u64; 16];
     let mut spare = [7u64; 16];
     let mut workspace = [7u64; 580];
-    let n = counts.len();
-    if 3 < n {
-        return false;
-    }
-    let words = n * 192;
     let answer = building::build(
         coordinates,
         counts,
@@ -125,46 +203,70 @@ pub fn builds(
         &mut spare,
         &mut workspace,
     );
-    if !accepted(answer, records.len() / 5) {
+    accepted(answer, chains)
+        && begins_u32(&table_room, records)
+        && begins_u32(&members_room, members)
+        && begins_u8(&marks_room, marks)
+        && begins_u64(&merged_room, &laid[..copied])
+        && cleared(&spare, coordinates.len())
+        && cleared(&workspace, n * 192)
+        && shows(coordinates, &merged_room, &table_room, chains, laid)
+}
+
+// The same, of the numbers that the coordinates' bits stand for, sixteen at most.
+pub fn builds(
+    coordinates: &[f64],
+    counts: &[u32],
+    groups: &[u32],
+    settings: Settings,
+    records: &[u32],
+    members: &[u32],
+    marks: &[u8],
+    laid: &[f64],
+    copied: usize,
+) -> bool {
+    let c = coordinates.len();
+    if 16 < c {
         return false;
     }
-    if !begins_u32(&table_room, records) {
+    let l = laid.len();
+    if 16 < l {
         return false;
     }
-    if !begins_u32(&members_room, members) {
-        return false;
-    }
-    if !begins_u8(&marks_room, marks) {
-        return false;
-    }
-    if !begins_u64(&merged_room, merged) {
-        return false;
-    }
-    if !cleared(&spare, coordinates.len()) {
-        return false;
-    }
-    cleared(&workspace, words)
+    let input = in_bits(coordinates);
+    let words = in_bits(laid);
+    leaves(
+        &input[..c],
+        counts,
+        groups,
+        settings,
+        records,
+        members,
+        marks,
+        &words[..l],
+        copied,
+    )
 }
 
 // Whether building joins all lines of one group into one chain.
 pub fn joins(
-    coordinates: &[u64],
+    coordinates: &[f64],
     counts: &[u32],
     settings: Settings,
     members: &[u32],
     marks: &[u8],
-    merged: &[u64],
+    laid: &[f64],
 ) -> bool {
     let groups = [0u32; 3];
     let n = counts.len();
     if 3 < n {
         return false;
     }
-    let c = merged.len() / 2;
-    if 16 < c {
+    let l = laid.len();
+    if 16 < l {
         return false;
     }
-    let records = [0, n as u32, 1, 0, c as u32];
+    let records = [0, n as u32, 1, 0, (l / 2) as u32];
     builds(
         coordinates,
         counts,
@@ -173,13 +275,14 @@ pub fn joins(
         &records,
         members,
         marks,
-        merged,
+        laid,
+        l,
     )
 }
 
 // Whether building leaves every line alone, with these records.
 pub fn apart(
-    coordinates: &[u64],
+    coordinates: &[f64],
     counts: &[u32],
     groups: &[u32],
     settings: Settings,
@@ -187,7 +290,6 @@ pub fn apart(
 ) -> bool {
     let members = [0u32, 1, 2];
     let marks = [0u8; 3];
-    let none = [0u64; 1];
     let n = counts.len();
     if 3 < n {
         return false;
@@ -200,7 +302,8 @@ pub fn apart(
         records,
         &members[..n],
         &marks[..n],
-        &none[..0],
+        coordinates,
+        0,
     )
 }
 
@@ -209,13 +312,7 @@ fn paired(answer: Answer, room: &[u32], workspace: &[u64], d: usize, pairs: &[u3
     if 4 < d {
         return false;
     }
-    if !cleared(workspace, d * 64) {
-        return false;
-    }
-    if !accepted(answer, pairs.len() / 2) {
-        return false;
-    }
-    begins_u32(room, pairs)
+    accepted(answer, pairs.len() / 2) && begins_u32(room, pairs) && cleared(workspace, d * 64)
 }
 
 // Whether the plain route gives these pairs, of four present ends at most.
@@ -280,11 +377,7 @@ fn chosen(directions: &[f64], pieces: &[u32], limit: f64, pairs: &[u32]) -> bool
 
 // Whether every route does.
 pub fn pairs(directions: &[f64], pieces: &[u32], limit: f64, expected: &[u32]) -> bool {
-    if !plain(directions, pieces, limit, expected) {
-        return false;
-    }
-    if !indexed(directions, pieces, limit, expected) {
-        return false;
-    }
-    chosen(directions, pieces, limit, expected)
+    plain(directions, pieces, limit, expected)
+        && indexed(directions, pieces, limit, expected)
+        && chosen(directions, pieces, limit, expected)
 }
