@@ -5,8 +5,8 @@
  * several threads at once, each with rooms of its own.
  *
  * A slice is a pointer and a length in elements. A slice of length 0 is not looked at, so its pointer may be
- * anything, NULL included. Rooms (the slices without const) must not overlap one another or the input. They need not be
- * cleared before a call and may be longer than asked for. A refused call stores nothing. After an accepted
+ * anything, NULL included. Rooms (the slices without const) must not overlap one another or the input. They need
+ * not be cleared before a call and may be longer than asked for. A refused call stores nothing. After an accepted
  * call spare and workspace are 0 over the length named below, each output begins with what was written, and
  * whatever lies beyond is as before.
  *

@@ -1,6 +1,7 @@
 //! What the map shows: chains, the lines of the input, junctions and bridges.
 
 use super::colours::Colours;
+use super::labels::{self, Ring};
 use super::page::{fineness, Page, FEW_BRIDGES, FEW_LINES};
 use super::svg::{escape, place, way};
 use super::Sheet;
@@ -13,9 +14,6 @@ use std::fmt::{Error, Write};
 
 /// How many members a title names at most.
 const NAMED: usize = 60;
-
-/// How many bridges have their lengths written beside them at most.
-const LABELLED: usize = 40;
 
 /// How many lines have their ends marked at most.
 const MARKED: usize = 4_000;
@@ -133,31 +131,41 @@ fn paired(chains: &[Chain]) -> Vec<(Point, Vec<&Joint>)> {
 
 /// Draws the bridges, each in a ring that is seen however short it is.
 pub fn bridges(out: &mut String, sheet: &Sheet, page: &Page) -> Drawn {
+    let of_chain = |(position, chain): (usize, &'_ Chain)| {
+        let bridges = chain.joints.iter().filter(|joint| joint.is_bridge());
+        bridges.map(|&bridge| (position, bridge)).collect::<Vec<_>>()
+    };
+    let all: Vec<(usize, Joint)> = sheet.chains.iter().enumerate().flat_map(of_chain).collect();
+    let fine = fineness(all.len(), FEW_BRIDGES);
+    let rings: Vec<Ring> = all.iter().map(|(_, bridge)| ring(page, bridge, fine)).collect();
+    let labels = labels::places(page, &rings);
     writeln!(out, "<g class=\"bridges\">")?;
-    for (position, chain) in sheet.chains.iter().enumerate() {
-        for bridge in chain.joints.iter().filter(|joint| joint.is_bridge()) {
-            one_bridge(out, sheet, page, position, bridge)?;
+    for (((chain, bridge), ring), label) in all.iter().zip(&rings).zip(labels) {
+        let title = escape(&bridge_title(sheet, *chain, bridge));
+        write!(out, "<g><title>{title}</title><path d=\"{}\"/>", way(page, &bridge.ends))?;
+        let Ring { middle: [x, y], radius, .. } = ring;
+        write!(out, "<circle cx=\"{x:.1}\" cy=\"{y:.1}\" r=\"{radius:.1}\"/>")?;
+        if let Some([x, y]) = label {
+            write!(out, "<text x=\"{x:.1}\" y=\"{y:.1}\">{}</text>", ring.label)?;
         }
+        writeln!(out, "</g>")?;
     }
     writeln!(out, "</g>")
 }
 
-fn one_bridge(out: &mut String, sheet: &Sheet, page: &Page, chain: usize, bridge: &Joint) -> Drawn {
-    let [a, b] = bridge.lines.map(|line| sheet.delivery.label(line));
-    let length = rounded(bridge.length());
-    let title = escape(&format!(
-        "bridge of length {length}, made by the tolerance\nfrom line {a} to line {b} in chain {chain}"
-    ));
+/// The ring around a bridge, smaller where there are many.
+fn ring(page: &Page, bridge: &Joint, fine: f64) -> Ring {
     let ends = bridge.ends.map(|end| page.place(end));
     let middle = [0, 1].map(|k| (ends[0][k] + ends[1][k]) / 2.0);
     let apart = (ends[1][0] - ends[0][0]).hypot(ends[1][1] - ends[0][1]);
-    let fine = fineness(sheet.tally.bridges, FEW_BRIDGES);
-    let ring = (10.0 * fine).max(apart / 2.0 + 6.0 * fine);
-    write!(out, "<g><title>{title}</title><path d=\"{}\"/>", way(page, &bridge.ends))?;
-    write!(out, "<circle cx=\"{:.1}\" cy=\"{:.1}\" r=\"{ring:.1}\"/>", middle[0], middle[1])?;
-    if sheet.tally.bridges <= LABELLED {
-        let [x, y] = [middle[0] + ring + 5.0, middle[1] + ring + 5.0];
-        write!(out, "<text x=\"{x:.1}\" y=\"{y:.1}\">{}</text>", short(bridge.length()))?;
-    }
-    writeln!(out, "</g>")
+    let radius = (10.0 * fine).max(apart / 2.0 + 6.0 * fine);
+    Ring { middle, radius, length: bridge.length(), label: short(bridge.length()) }
+}
+
+fn bridge_title(sheet: &Sheet, chain: usize, bridge: &Joint) -> String {
+    let [a, b] = bridge.lines.map(|line| sheet.delivery.label(line));
+    let length = rounded(bridge.length());
+    format!(
+        "bridge of length {length}, made by the tolerance\nfrom line {a} to line {b} in chain {chain}"
+    )
 }

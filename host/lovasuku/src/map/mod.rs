@@ -2,6 +2,7 @@
 
 mod colours;
 mod drawing;
+mod labels;
 mod legend;
 mod page;
 mod svg;
