@@ -45,9 +45,12 @@ pub fn bits_of(x: f64) -> u64
     f64::to_bits(x)
 }
 
-// Whether a and b stand for equal numbers: -0.0 equals 0.0, and a NaN equals nothing.
+// Whether a and b stand for equal numbers: -0.0 equals 0.0, and a NaN equals nothing. Other bits are other numbers, but for the two zeros.
 pub fn same(a: u64, b: u64) -> bool
     ensures { λ r. ⌜ r ≡ eq (ofBits binary64 a) (ofBits binary64 b) ⌝ }
 {
-    of_bits(a) == of_bits(b)
+    if a == b {
+        return !is_nan(a);
+    }
+    a % SIGN + b % SIGN == 0
 }

@@ -29,11 +29,8 @@ wordsOf w m e = wordsAt w (m * 4) e
 abbrev pub half : ℕ → ℕ
 half t = (t / 4294967296 + t % 4294967296) % 4294967296
 
-abbrev pub foldOf : ℕ → ℕ
-foldOf x = half (x % 4294967296 * 1640531527 + x / 4294967296 * 2146121005)
-
 unfoldable pub bucketOf : ℕ → Words → ℕ
-bucketOf m (words g x y) = half (foldOf x * 739982445 + foldOf y * 1013904223 + foldOf g * 668265263) * m / 4294967296
+bucketOf m (words g x y) = half (half x * 739982445 + half y * 1013904223 + half g * 668265263) * m / 4294967296
 
 -- ---- the ends from e on, as `next` says; 0 says that there is none
 

@@ -3,20 +3,13 @@ ghost use mathlib.Core.Path.{_≡_};
 ghost use Prim.Native.Nat.{ℕ, _+_, _*_, _≤_, _<_};
 ghost use lib.ListN.{length, getD, set};
 ghost use Rattle.rules.specs.Refusals.{mostEnds};
-ghost use Rattle.leaders.specs.Group.{words, sameWords, wordsAt, wordsOf, half, foldOf, bucketOf, Room, GroupedIn, Placed, Found, Nodes};
+ghost use Rattle.leaders.specs.Group.{words, sameWords, wordsAt, wordsOf, half, bucketOf, Room, GroupedIn, Placed, Found, Nodes};
 
-// The two halves of a word, added.
+// The two halves of a word, added, without what is carried.
 fn halved(t: u64) -> u64
     ensures { λ r. ⌜ r ≡ half t ⌝ }
 {
     (t / 4294967296 + t % 4294967296) % 4294967296
-}
-
-// A word as 32 mixed bits.
-fn folded(x: u64) -> u64
-    ensures { λ r. ⌜ r ≡ foldOf x ⌝ }
-{
-    halved(x % 4294967296 * 1640531527 + x / 4294967296 * 2146121005)
 }
 
 // The bucket of a key, one of m.
@@ -24,9 +17,9 @@ fn bucket(g: u64, x: u64, y: u64, m: usize) -> usize
     requires { ⌜ (0 < m) × (m ≤ mostEnds) ⌝ }
     ensures { λ r. ⌜ (r ≡ bucketOf m (words g x y)) × (r < m) ⌝ }
 {
-    let a = folded(x);
-    let b = folded(y);
-    let c = folded(g);
+    let a = halved(x);
+    let b = halved(y);
+    let c = halved(g);
     let t = halved(a * 739982445 + b * 1013904223 + c * 668265263);
     (t as usize) * m / 4294967296
 }

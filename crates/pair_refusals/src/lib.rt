@@ -16,7 +16,7 @@ const MOST_ENDS: usize = 8192;
 const END_ROOM: usize = 64;
 
 // Below so many pieces each is compared with all before it.
-const FEW: usize = 32;
+const FEW: usize = 80;
 
 // Whether the marks are not as many as the ends, or the directions' numbers not twice as many.
 fn tables_differ(d: usize, present: usize, directions: usize) -> bool

@@ -65,6 +65,15 @@ module _ (w₀ : List ℕ) (d : ℕ) (limit : Float) (room : Room w₀ d) (below
   pub room-of : (w : List ℕ) → length w ≡ length w₀ → Room w d
   room-of w e = record { few = room .few; long = omega (arith, room .long) }
 
+  pub walkable-core : (w : List ℕ) (n : ℕ) → Core w₀ d limit w n → (i : ℕ) → i < d → limitBad limit ≡ false → Walkable w d limit i
+  walkable-core w n c i h ok =
+      record {
+        room = room-of w (c .long);
+        row = h;
+        admitted = ok;
+        free = λ e g m. ap numbered (direction-same w₀ w (c .long) d (omega (arith, room .long)) (c .kept) e g) ∙ c .free e g m;
+      }
+
   pub going-start : (w₁ w₂ w₃ : List ℕ) → length w₁ ≡ length w₀ → Marked w₀ d w₁ → length w₂ ≡ length w₁ → Rows w₁ d limit d w₂ → length w₃ ≡ length w₂ → Levelled w₂ d w₃ → Going w₀ d limit w₃ 0
   going-start w₁ w₂ w₃ e m f r g l =
       record {
@@ -81,13 +90,7 @@ module _ (w₀ : List ℕ) (d : ℕ) (limit : Float) (room : Room w₀ d) (below
     ten = omega (arith, room .long, s .core .long)
 
     pub walkable-row : (i : ℕ) → i < d → limitBad limit ≡ false → Walkable w d limit i
-    walkable-row i h ok =
-        record {
-          room = room-of w (s .core .long);
-          row = h;
-          admitted = ok;
-          free = λ e g m. ap numbered (direction-same w₀ w (s .core .long) d (omega (arith, room .long)) (s .core .kept) e g) ∙ s .core .free e g m;
-        }
+    walkable-row = walkable-core w n (s .core)
 
     -- a block is settled
     settled-core : (w₁ w₂ : List ℕ) (m b : ℕ) → length w₁ ≡ length w₀ → length w₂ ≡ length w₁ → b < blocksOf d → Settled w₁ d b w₂ → Core w₀ d limit w₁ m → Core w₀ d limit w₂ m

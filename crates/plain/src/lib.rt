@@ -1,6 +1,6 @@
 // The plain route. Each row, the pairs (i, j) of an end i with the ends j above it, holds the first free qualifying pair that was last found there. The least pair
 // held is taken; if its partner has gone meanwhile, its row is gone through again. Rows stand in blocks, and the least key of each block is kept beside them, so
-// that the least pair is found without asking every row.
+// that the least pair is found without asking every row; where one block would do there is none.
 ghost use mathlib.Core.Path.{_≡_};
 ghost use mathlib.Core.Bool.{false};
 ghost use Prim.Native.Nat.{_+_, _*_, _/_, _<_, _≤_};
@@ -182,8 +182,34 @@ fn take(w: &mut [u64], d: usize, n: usize, i: usize, j: usize)
     w[d * KEYS + j] = NONE;
 }
 
-// The selected pairs of the d ends in the workspace, listed behind the piece numbers. Returns how many there are.
-pub fn plain(w: &mut [u64], d: usize, limit: f64) -> usize
+// The selected pairs of d ends whose rows are few: the least key is found by asking every row.
+fn few(w: &mut [u64], d: usize, limit: f64) -> usize
+    requires { ⌜ Room (now w) d × (limitBad limit ≡ false) ⌝ }
+    ensures { λ r. ⌜ Selected (now (w .entry)) d (key limit) r (now (w .exit)) ⌝ }
+{
+    mark_all(w, d);
+    renew_all(w, d, limit);
+    let mut n = 0;
+    loop {
+        let low = least(w, d * KEYS, 0, d);
+        if low.key == NONE {
+            break;
+        }
+        let i = low.place;
+        let j = w[d * PARTNERS + i] as usize;
+        let gone = w[d * MARKS + j];
+        if gone != 0 {
+            renew(w, d, limit, i);
+            continue;
+        }
+        take(w, d, n, i, j);
+        n += 1;
+    }
+    n
+}
+
+// The selected pairs of d ends whose rows stand in blocks.
+fn many(w: &mut [u64], d: usize, limit: f64) -> usize
     requires { ⌜ Room (now w) d × (limitBad limit ≡ false) ⌝ }
     ensures { λ r. ⌜ Selected (now (w .entry)) d (key limit) r (now (w .exit)) ⌝ }
 {
@@ -209,4 +235,15 @@ pub fn plain(w: &mut [u64], d: usize, limit: f64) -> usize
         n += 1;
     }
     n
+}
+
+// The selected pairs of the d ends in the workspace, listed behind the piece numbers. Returns how many there are.
+pub fn plain(w: &mut [u64], d: usize, limit: f64) -> usize
+    requires { ⌜ Room (now w) d × (limitBad limit ≡ false) ⌝ }
+    ensures { λ r. ⌜ Selected (now (w .entry)) d (key limit) r (now (w .exit)) ⌝ }
+{
+    if d <= BLOCK {
+        return few(w, d, limit);
+    }
+    many(w, d, limit)
 }

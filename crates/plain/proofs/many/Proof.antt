@@ -1,4 +1,4 @@
--- `plain::plain` meets its contract: the loop keeps what holds between turns, and what is left over falls with each.
+-- `plain::many` meets its contract: the loop keeps what holds between turns, and what is left over falls with each.
 use Prim.Native.Nat.{ℕ, _+_, _*_, _≤_, _<_}
 use mathlib.Core.Path.{_≡_, _∙_}
 use mathlib.Core.List.{List}
@@ -16,8 +16,8 @@ use Rattle.plain.proofs.Starting.{playable}
 use Rattle.plain.proofs.Taking.{top-below, top-partner, take-fits, all-taken}
 use Rattle.plain.proofs.Stale.{left-over, take-less, renew-less}
 use Rattle.plain.proofs.Route.{Going, room-of, core-from, selected-from, going-start, going-renew, going-take, walkable-row, settled-same}
-use Rattle.plain.proofs.plain.Statement.{statement}
-use Rattle.plain.proofs.plain.Tie as tie
+use Rattle.plain.proofs.many.Statement.{statement}
+use Rattle.plain.proofs.many.Tie as tie
 
 abbrev Inv-loop : tie.InvT-loop
 Inv-loop w₀ d limit n₀ w n = Going w₀ d limit w n
@@ -202,8 +202,8 @@ returns c =
     selected-from (s .args .w .now) (s .args .d) (s .args .limit) (begun p) 0 (p .loop .n) (p .loop .w) (omega (arith, s .pre .0 .long)) (started (p .before) .core)
     (all-taken (begun p) (start p .args .d) (start p .args .limit) (room p) (below p) (p .loop .w) (p .loop .n) (p .loop .inv .core) (c .before .before .top .result) (c .before .before .top .ensures) (omega (arith, c .if1 .taken)))
 
-pub plain-spec : {M : Type 1} → statement M
-plain-spec =
+pub many-spec : {M : Type 1} → statement M
+many-spec =
     tie.close
     (tie.spec
     Inv-loop
