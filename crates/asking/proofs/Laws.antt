@@ -7,7 +7,7 @@ use native.Mathlib.Omega.{arith}
 use borrow.Author.Tests.{lt-ltb, le-ltb, ltb-false}
 use lib.Dec.{ltb}
 use lib.ListN.{length, take, drop}
-use Rattle.rules.specs.Refusals.{noChain, sourceOf, sourceAt, firstAt, countAt, chainRefusalOf, firstOf}
+use Rattle.rules.specs.Refusals.{noChain, sourceOf, entry, chainRefusalOf, firstOf}
 use Rattle.rules.specs.declared.Answer.the-variants.{Accepted, Refused}
 use Rattle.rules.specs.Calls.{asked, viewed, answerOf, unless}
 
@@ -16,20 +16,20 @@ module _ (input merged table : List ℕ) (k : ℕ) where
   unfolding noChain
   no-record h = simp (lt-ltb (length table) (k * 5 + 5) (omega arith))
 
-  pub no-source : k < length table / 5 → 1 < sourceAt table k → noChain input merged table k ≡ true
+  pub no-source : k < length table / 5 → 1 < entry table k 2 → noChain input merged table k ≡ true
   unfolding noChain
-  no-source h s = simp (le-ltb (length table) (k * 5 + 5) (omega arith), lt-ltb 1 (sourceAt table k) s)
+  no-source h s = simp (le-ltb (length table) (k * 5 + 5) (omega arith), lt-ltb 1 (entry table k 2) s)
 
-  pub room-input : k < length table / 5 → sourceAt table k ≡ 0
-      → noChain input merged table k ≡ ltb (length input) ((firstAt table k + countAt table k) * 2)
+  pub room-input : k < length table / 5 → entry table k 2 ≡ 0
+      → noChain input merged table k ≡ ltb (length input) ((entry table k 3 + entry table k 4) * 2)
   unfolding noChain sourceOf
   room-input h s = simp (le-ltb (length table) (k * 5 + 5) (omega arith), s)
 
-  pub room-merged : k < length table / 5 → sourceAt table k ≤ 1 → (sourceAt table k ≡ 0 → ⊥)
-      → noChain input merged table k ≡ ltb (length merged) ((firstAt table k + countAt table k) * 2)
+  pub room-merged : k < length table / 5 → entry table k 2 ≤ 1 → (entry table k 2 ≡ 0 → ⊥)
+      → noChain input merged table k ≡ ltb (length merged) ((entry table k 3 + entry table k 4) * 2)
   unfolding noChain sourceOf
   room-merged h s z =
-      let e : sourceAt table k ≡ 1 = omega arith in
+      let e : entry table k 2 ≡ 1 = omega arith in
       simp (le-ltb (length table) (k * 5 + 5) (omega arith), e)
 
 -- ---- a chain that stands
@@ -44,8 +44,8 @@ or-false false b e = (refl, e)
 
 pub record Stands (input merged table : List ℕ) (k : ℕ) : Type 0 where
   pub row : k * 5 + 5 ≤ length table
-  pub source : sourceAt table k ≤ 1
-  pub part : (firstAt table k + countAt table k) * 2 ≤ length (sourceOf (sourceAt table k) input merged)
+  pub source : entry table k 2 ≤ 1
+  pub part : (entry table k 3 + entry table k 4) * 2 ≤ length (sourceOf (entry table k 2) input merged)
 
 module _ (input merged table : List ℕ) (k : ℕ) where
   pub stands : noChain input merged table k ≡ false → Stands input merged table k
@@ -71,13 +71,13 @@ module _ (input merged table : List ℕ) (k : ℕ) where
   unfolding viewed unless
   view-none e = rw (refused e)
 
-  pub view-input : noChain input merged table k ≡ false → sourceAt table k ≡ 0
-      → take (firstAt table k * 2 + countAt table k * 2 - firstAt table k * 2) (drop (firstAt table k * 2) input) ≡ viewed input merged table k
+  pub view-input : noChain input merged table k ≡ false → entry table k 2 ≡ 0
+      → take (entry table k 3 * 2 + entry table k 4 * 2 - entry table k 3 * 2) (drop (entry table k 3 * 2) input) ≡ viewed input merged table k
   unfolding viewed unless sourceOf
   view-input e s = rw (accepted e, s, part-is)
 
-  pub view-merged : noChain input merged table k ≡ false → sourceAt table k ≡ 1
-      → take (firstAt table k * 2 + countAt table k * 2 - firstAt table k * 2) (drop (firstAt table k * 2) merged) ≡ viewed input merged table k
+  pub view-merged : noChain input merged table k ≡ false → entry table k 2 ≡ 1
+      → take (entry table k 3 * 2 + entry table k 4 * 2 - entry table k 3 * 2) (drop (entry table k 3 * 2) merged) ≡ viewed input merged table k
   unfolding viewed unless sourceOf
   view-merged e s = rw (accepted e, s, part-is)
 
@@ -89,14 +89,14 @@ module _ (input merged table : List ℕ) (k : ℕ) where
   unfolding asked answerOf unless
   asked-there e = rw (accepted e)
 
-  pub inside-input : Stands input merged table k → sourceAt table k ≡ 0 → (firstAt table k + countAt table k) * 2 ≤ length input
+  pub inside-input : Stands input merged table k → entry table k 2 ≡ 0 → (entry table k 3 + entry table k 4) * 2 ≤ length input
   unfolding sourceOf
   inside-input s e = let p = s .part in rw e at p
 
-  pub inside-merged : Stands input merged table k → sourceAt table k ≡ 1 → (firstAt table k + countAt table k) * 2 ≤ length merged
+  pub inside-merged : Stands input merged table k → entry table k 2 ≡ 1 → (entry table k 3 + entry table k 4) * 2 ≤ length merged
   unfolding sourceOf
   inside-merged s e = let p = s .part in rw e at p
 
 -- a source that isn't 0 is 1
-pub one : {input merged table : List ℕ} {k : ℕ} → Stands input merged table k → (sourceAt table k ≡ 0 → ⊥) → sourceAt table k ≡ 1
+pub one : {input merged table : List ℕ} {k : ℕ} → Stands input merged table k → (entry table k 2 ≡ 0 → ⊥) → entry table k 2 ≡ 1
 one s z = let h = s .source in omega arith

@@ -14,7 +14,8 @@ use Rattle.rules.specs.Lists.{total}
 use Rattle.rules.specs.Plane.{points, flat, nought, exactKey, cellKey}
 use Rattle.rules.specs.Chaining.{Line, Piece, Rule, Settings, pieces, limitOf, join, roundOne, roundTwo}
 use Rattle.rules.specs.Layout.{lines, copy}
-use Rattle.rules.specs.Refusals.{lineRoom, limitBad, switchBad}
+use Rattle.rules.specs.Refusals.{lineRoom, limitBad}
+use Rattle.refusals.specs.Tests.{switchBad}
 use Rattle.rules.specs.Calls.{written}
 use Rattle.chaining.proofs.Records.{flat-length}
 use Rattle.chaining.proofs.Room.{size, join-size, pieces-size, copies-size, lines-size}

@@ -10,7 +10,8 @@ use Rattle.rules.specs.Lists.{total}
 use Rattle.rules.specs.Plane.{flat}
 use Rattle.rules.specs.Chaining.{Settings}
 use Rattle.rules.specs.Layout.{copy}
-use Rattle.rules.specs.Refusals.{mostLines, mostPoints, lineRoom, switchBad}
+use Rattle.rules.specs.Refusals.{mostLines, mostPoints, lineRoom}
+use Rattle.refusals.specs.Tests.{switchBad}
 use Rattle.rules.specs.Calls.{written}
 use Rattle.pieces.specs.Held.{linesOf, marksOf, Held}
 use Rattle.layout.specs.Laying.{leftOf}

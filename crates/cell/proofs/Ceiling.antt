@@ -3,7 +3,7 @@ use mathlib.Core.Path.{_≡_}
 use Prim.Native.Nat.{ℕ, _+_, _-_, _*_, _/_, _%_, _≤_, _<_, min, _^_}
 use native.Mathlib.Nat.{div-add-mod', mod-lt, div-eq-of-lt-le, add-mul, one-mul, le-div-iff-mul-le}
 use native.Mathlib.Omega.{arith}
-use Rattle.rules.specs.Cell.{floor, ceiling}
+use Rattle.rules.specs.Cell.{ceiling}
 
 pub one-more : (q d : ℕ) → (q + 1) * d ≡ q * d + d
 one-more q d = omega (arith, add-mul q 1 d, one-mul d)
@@ -17,7 +17,7 @@ ceiling-part n d o h =
     n / d + 1} d (omega (arith, div-add-mod' n d, one-more (n / d) d)) (omega (arith, div-add-mod' n d, mod-lt n o, one-more (n / d) d, one-more (n / d + 1) d))
 
 -- ---- the laws of the two, by which a reader knows them: the floor q of n / d has q ≤ n / d < q + 1, and the ceiling u has u - 1 < n / d ≤ u
-pub floor-is : (n d : ℕ) → 0 < d → (floor n d * d ≤ n) × (n < (floor n d + 1) * d)
+pub floor-is : (n d : ℕ) → 0 < d → (n / d * d ≤ n) × (n < (n / d + 1) * d)
 floor-is n d o = (omega (arith, div-add-mod' n d), omega (arith, div-add-mod' n d, mod-lt n o, one-more (n / d) d))
 
 pub ceiling-is : (n d : ℕ) → 0 < d → (n ≤ ceiling n d * d) × (ceiling n d * d < n + d)

@@ -4,18 +4,19 @@ use mathlib.Core.Bool.{false}
 use mathlib.Core.List.{[], List, _∷_}
 use Prim.Native.Nat.{ℕ}
 use lib.IntN.{pos, negsuc}
-use lib.Ieee.{fin, ofBits, neg, eq, lt, add, sub, mul, div}
+use lib.Ieee.{fin, neg, eq, lt, add, sub, mul}
 use Rattle.rules.specs.Root.{root}
 use Rattle.rules.specs.declared.Direction.{Direction}
 use Rattle.rules.specs.declared.Direction.the-variants.{Absent, Toward}
 use Rattle.rules.specs.Plane.{nought, unity, points, toward, directionOf}
+use Rattle.rules.proofs.Computing.{book}
 use Rattle.direction.specs.Seen.{seen}
 
 pub case-m : (toward (fin false 1 (negsuc 536)) nought ≡ Toward unity nought)
     × (toward (fin false 1 (negsuc 537)) nought ≡ Absent)
     × (toward (fin false 1 (pos 511)) nought ≡ Toward unity nought)
     × (toward (fin false 1 (pos 512)) nought ≡ Toward nought nought)
-unfolding toward root lt add mul div
+unfolding book root lt add mul
 case-m = (refl, refl, refl, refl)
 
 abbrev at : ℕ → List ℕ → Direction
@@ -33,14 +34,14 @@ pub case-m-first : (at 0 (out 0x1e60_0000_0000_0000) ≡ Toward unity nought)
     × (at 0 (out 0x1e50_0000_0000_0000) ≡ Absent)
     × (at 0 (out 0x5fe0_0000_0000_0000) ≡ Toward unity nought)
     × (at 0 (out 0x5ff0_0000_0000_0000) ≡ Toward nought nought)
-unfolding directionOf toward points root ofBits neg eq lt add sub mul div
+unfolding book root neg eq lt add sub mul
 case-m-first = (refl, refl, refl, refl)
 
 pub case-m-last : (at 1 (home 0x1e60_0000_0000_0000) ≡ Toward unity nought)
     × (at 1 (home 0x1e50_0000_0000_0000) ≡ Absent)
     × (at 1 (home 0x5fe0_0000_0000_0000) ≡ Toward unity nought)
     × (at 1 (home 0x5ff0_0000_0000_0000) ≡ Toward nought nought)
-unfolding directionOf toward points root ofBits neg eq lt add sub mul div
+unfolding book root neg eq lt add sub mul
 case-m-last = (refl, refl, refl, refl)
 
 -- no point differs: -0,0 is 0,0; a NaN differs from itself, and its direction is absent
@@ -48,5 +49,5 @@ pub case-m-none : (at 0 (0 ∷ 0 ∷ 0x8000_0000_0000_0000 ∷ 0 ∷ []) ≡ Abs
     × (at 1 (0 ∷ 0 ∷ 0x8000_0000_0000_0000 ∷ 0 ∷ []) ≡ Absent)
     × (at 0 (0x7ff8_0000_0000_0000 ∷ 0 ∷ 0x7ff8_0000_0000_0000 ∷ 0 ∷ []) ≡ Absent)
     × (at 0 [] ≡ Absent)
-unfolding directionOf toward points root ofBits neg eq lt add sub mul div
+unfolding book root neg eq lt add sub mul
 case-m-none = (refl, refl, refl, refl)

@@ -11,7 +11,8 @@ use lib.Seq.{take-suc, drop-cons, length-take-le}
 use Rattle.rules.specs.declared.Direction.{Direction}
 use Rattle.rules.specs.declared.Direction.the-variants.{Absent}
 use Rattle.rules.specs.Lists.{first}
-use Rattle.rules.specs.Plane.{Point, point, points, equal, straight, aim, directionOf}
+use Rattle.rules.specs.Plane.{Point, point, points, equal, straight, directionOf}
+use Rattle.direction.specs.Seen.{aim}
 
 -- two points that differ by `!=`
 abbrev pub differs : Point → Point → Bool
@@ -23,7 +24,7 @@ sought p l = aim p (first (λ q. differs q p) l)
 
 module _ (p q : Point) (l : List Point) where
   pub hit : differs q p ≡ true → sought p (q ∷ l) ≡ straight p q
-  unfolding aim first
+  unfolding first
   hit h = go (differs q p) h
     where
       go : (b : Bool) → b ≡ true → aim p (elim b [ true ↦ some q | false ↦ first (λ q. differs q p) l ]) ≡ straight p q
@@ -63,7 +64,7 @@ module _ (l : List ℕ) (p : Point) (i : ℕ) where
   passed h d = sym (ap (sought p) (points-at l i h) ∙ pass p (point (getD l i 0) (getD l (i + 1) 0)) (points (drop (i + 2) l)) d)
 
   pub ended : length l ≤ i + 1 → Absent ≡ sought p (points (drop i l))
-  unfolding aim first
+  unfolding first
   ended h = sym (ap (sought p) (points-end l i h))
 
 pub started : (l : List ℕ) → 1 < length l → sought (point (getD l 0 0) (getD l 1 0)) (points (drop 2 l)) ≡ directionOf (points l)
@@ -125,7 +126,7 @@ module _ (l : List ℕ) (k : ℕ) (o : 0 < k) (h : 2 * k ≤ length l) where
       ∙ ap directionOf points-last)
 
 pub ended-back : (l : List ℕ) (p : Point) (k : ℕ) → k ≡ 0 → Absent ≡ sought p (reverse (points (take (2 * k) l)))
-unfolding aim first points
+unfolding first points
 ended-back l p k e = sym (ap (λ (n : ℕ). sought p (reverse (points (take (2 * n) l)))) e)
 
 pub nothing-back : (l : List ℕ) → length l ≤ 1 → Absent ≡ directionOf (reverse (points l))

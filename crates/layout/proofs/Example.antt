@@ -1,14 +1,13 @@
 -- What `lay_out` asks for can be met: a plain line alone, and a line that passes through. Everything computes.
 use Prim.Native.Nat.{ℕ, zero, suc, _<_}
 use mathlib.Core.Path.{refl}
-use mathlib.Core.List.{List, [], _∷_, flatMap}
+use mathlib.Core.List.{List, [], _∷_}
 use native.Mathlib.Omega.{arith}
 use lib.Ieee.{lt}
 use lib.ListN.{length, getD, replicate}
-use Rattle.rules.specs.Lists.{total}
-use Rattle.rules.specs.Plane.{points, flat, nought}
-use Rattle.rules.specs.Chaining.{Settings, nothing, pieces, join, roundOne, roundTwo}
-use Rattle.rules.specs.Layout.{lines, copy, table}
+use Rattle.rules.specs.Plane.{nought}
+use Rattle.rules.specs.Chaining.{Settings, nothing}
+use Rattle.rules.proofs.Computing.{book}
 use Rattle.pieces.specs.Held.{Own}
 use Rattle.layout.specs.Laying.{leftOf, Layable}
 
@@ -32,17 +31,17 @@ abbrev work : List ℕ
 work = 0 ∷ 1 ∷ 0 ∷ 0 ∷ 2 ∷ replicate 9 0
 
 own : (q : ℕ) → q < 1 → Own coordinates counts (getD (leftOf settings coordinates counts groups kinds) q nothing)
-unfolding flat total lines points pieces join roundOne roundTwo lt
+unfolding book lt
 own zero h = record { within = omega arith; same = refl }
 own (suc q) h = absurd (omega arith)
 
 full : (q : ℕ) → q < 1 → 0 < length (getD (leftOf settings coordinates counts groups kinds) q nothing .lines)
-unfolding lines points pieces join roundOne roundTwo lt
+unfolding book lt
 full zero h = omega arith
 full (suc q) h = absurd (omega arith)
 
 pub example : Layable work 2 1 1 counts kinds (replicate 10 0) (replicate 2 0) (replicate 2 0)
-unfolding flat total flatMap table copy lines points pieces join roundOne roundTwo lt
+unfolding book lt
 example =
     record {
       coordinates = coordinates;

@@ -12,7 +12,8 @@ use lib.Dec.{ltb, eqb}
 use borrow.Author.Tests.{lt-ltb, le-ltb, ltb-false, eqb-true, not-false}
 use Rattle.rules.specs.Lists.{total}
 use Rattle.refusals.specs.Admitted.{Admitted}
-use Rattle.rules.specs.Refusals.{Lent, anyAbove, switchBad, roomShort, firstOf, refusalOf, mostLines, mostPoints}
+use Rattle.rules.specs.Refusals.{Lent, anyAbove, firstOf, refusalOf, mostLines, mostPoints}
+use Rattle.refusals.specs.Tests.{switchBad, roomShort}
 
 -- ---- sums and kinds
 
@@ -76,7 +77,7 @@ pub record Left (r : ℕ) (l : List (ℕ × Bool)) : Type 0 where
   pub is : r ≡ firstOf l
 
 pub opened : (i : Lent) → Left (refusalOf i) (tests i)
-unfolding refusalOf
+unfolding refusalOf switchBad roomShort
 opened i = record { is = refl }
 
 -- one rung: the test doesn't hold, or it does

@@ -4,7 +4,8 @@ use mathlib.Core.Path.{_≡_}
 use mathlib.Core.Bool.{false}
 use lib.ListN.{length}
 use Rattle.rules.specs.Lists.{total}
-use Rattle.rules.specs.Refusals.{Lent, switchBad, mostLines, mostPoints, recordSize, lineRoom}
+use Rattle.rules.specs.Refusals.{Lent, mostLines, mostPoints, recordSize, lineRoom}
+use Rattle.refusals.specs.Tests.{switchBad}
 
 pub record Admitted (i : Lent) : Type 0 where
   pub few : length (i .counts) ≤ mostLines

@@ -5,7 +5,8 @@ ghost use Prim.Native.Nat.{_≤_, _<_};
 ghost use lib.Dec.{eqb};
 ghost use lib.ListN.{length};
 ghost use Rattle.rules.specs.Lists.{total as total-of};
-ghost use Rattle.rules.specs.Refusals.{anyAbove, limitBad, switchBad, roomShort, refusalOf, mostLines};
+ghost use Rattle.rules.specs.Refusals.{anyAbove, limitBad, refusalOf, mostLines};
+ghost use Rattle.refusals.specs.Tests.{switchBad, roomShort};
 
 // How much a call takes, and the words of table and workspace that each line asks for.
 const MOST_LINES: usize = 4096;

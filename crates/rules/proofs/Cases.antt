@@ -13,6 +13,7 @@ use Rattle.rules.specs.Cell.{cell}
 use Rattle.rules.specs.Layout.{listed}
 use Rattle.rules.specs.Refusals.{pairRefusalOf}
 use Rattle.rules.specs.Calls.{pairsOf}
+use Rattle.rules.proofs.Computing.{book}
 use Rattle.rules.proofs.Given.{
   +0,
   -0,
@@ -193,7 +194,7 @@ case-m =
     && points (along (pos 512)) nought nought
 
 case-n : Bool
-unfolding cell
+unfolding book
 case-n = sameInt (cell (float +1) -0·25) (negsuc 0) && sameInt (cell (float +1) -0) (pos 0)
 
 -- marked P
@@ -223,7 +224,7 @@ unfolding pairs
 slip-zero = pairs (0 ∷ 1 ∷ []) (+0 ∷ -0 ∷ +1 ∷ +0 ∷ []) -0 (0 ∷ 1 ∷ [])
 
 slip-nan : Bool
-unfolding endsBy pairsOf pairRefusalOf listed
+unfolding book endsBy
 slip-nan =
     let call = endsBy (0 ∷ 1 ∷ []) (not-a-number ∷ +0 ∷ +1 ∷ +0 ∷ []) +1 in
     eqb (pairRefusalOf false call) 0 && eqb (pairRefusalOf true call) 9 && same (listed (pairsOf call)) []

@@ -12,6 +12,7 @@ use Rattle.rules.specs.Plane.{float, toward, nought}
 use Rattle.rules.specs.Layout.{Laid, listed}
 use Rattle.rules.specs.Refusals.{Lent, LentEnds, refusalOf, pairRefusalOf, recordSize, lineRoom, endRoom}
 use Rattle.rules.specs.Calls.{builtOf, pairsOf}
+use Rattle.rules.proofs.Computing.{book}
 
 -- ---- the bits of the doubles that the cases use: +1·25 is 1.25
 
@@ -103,7 +104,7 @@ lentBy c =
 
 -- the call is accepted, and these are its chains' records, members, marks and merged coordinates
 unfoldable pub builds : Call → List (List ℕ) → List ℕ → List ℕ → List ℕ → Bool
-unfolding lentBy builtOf refusalOf flatMap
+unfolding book lentBy
 builds c records members marks merged =
     let r = builtOf (lentBy c) in
     eqb (refusalOf (lentBy c)) 0
@@ -130,7 +131,7 @@ endsBy pieces directions limit =
 
 -- no route refuses them, and these are the pairs
 unfoldable pub pairs : List ℕ → List ℕ → ℕ → List ℕ → Bool
-unfolding endsBy pairsOf pairRefusalOf listed
+unfolding book endsBy
 pairs pieces directions limit expected =
     eqb (pairRefusalOf true (endsBy pieces directions limit)) 0 && same (listed (pairsOf (endsBy pieces directions limit))) expected
 
@@ -138,7 +139,7 @@ pairs pieces directions limit expected =
 
 -- the direction of dx, 0 with dx = 2 ^ e
 unfoldable pub along : ℤ → Direction
-unfolding toward
+unfolding book
 along e = toward (fin false 1 e) nought
 
 -- present, with these numbers

@@ -1,16 +1,10 @@
--- What each public call determines: its answer, and every lent slice at return. A refused call answers with its number and stores nothing.
+-- 01, How much a contract has to say: what each public call determines, its answer and every lent slice at return. A refused call stores nothing.
 -- In each record the plain names are what is lent, as it stands at entry, and the names with a prime what it is at return.
-use Prim.Native.Nat.{ℕ, zero, suc, _-_, _*_, _^_}
-use mathlib.Core.Path.{_≡_}
-use mathlib.Core.Bool.{Bool}
-use mathlib.Core.List.{List, [], _++_}
-use lib.ListN.{length, take, drop, replicate}
-use Rattle.rules.specs.declared.Answer.{Answer}
-use Rattle.rules.specs.declared.Answer.the-variants.{Accepted, Refused}
-use Rattle.rules.specs.Selecting.{Pair}
+use Rattle.rules.specs.Library.{ℕ, zero, suc, _-_, _*_, _^_, _≡_, Bool, List, [], _++_, length, take, drop, replicate, Answer, Accepted, Refused}
+use Rattle.rules.specs.Selecting.{Pair, select}
 use Rattle.rules.specs.Chaining.{Settings}
-use Rattle.rules.specs.Layout.{Laid, build, listed, paired}
-use Rattle.rules.specs.Refusals.{Lent, LentEnds, refusalOf, pairRefusalOf, chainRefusalOf, sourceOf, sourceAt, firstAt, countAt, lineRoom, endRoom}
+use Rattle.rules.specs.Layout.{Laid, build, ends, listed}
+use Rattle.rules.specs.Refusals.{Lent, LentEnds, refusalOf, pairRefusalOf, chainRefusalOf, sourceOf, entry, lineRoom, endRoom}
 
 -- the number that a host sees: a result counts up from 0, and refusal k is k below 2 ^ 64, which is -k
 unfoldable pub numberOf : Answer → ℕ
@@ -29,7 +23,6 @@ unless zero a b = b
 unless (suc k) a b = a
 
 unfoldable pub answerOf : ℕ → ℕ → Answer
-unfolding unless
 answerOf refusal result = unless refusal (Refused refusal) (Accepted result)
 
 -- a list with another written over its beginning, and one with n zeros there
@@ -40,11 +33,8 @@ unfoldable pub cleared : ℕ → List ℕ → List ℕ
 cleared n l = replicate n 0 ++ drop n l
 
 -- ---- building
-
 unfoldable pub builtOf : Lent → Laid
-unfolding build
-builtOf i =
-    build (i .coordinates) (i .counts) (i .groups) (i .kinds) (record { tolerance = i .tolerance; switch = i .switch; limit = i .limit })
+builtOf i = build (i .coordinates) (i .counts) (i .groups) (i .kinds) (record { tolerance = i .tolerance; switch = i .switch; limit = i .limit })
 
 pub record Built (i : Lent) (r : Answer) (table′ members′ marks′ merged′ spare′ workspace′ : List ℕ) : Type 0 where
   pub answer : r ≡ answerOf (refusalOf i) (builtOf i .number)
@@ -56,10 +46,8 @@ pub record Built (i : Lent) (r : Answer) (table′ members′ marks′ merged′
   pub workspace : workspace′ ≡ unless (refusalOf i) (i .workspace) (cleared (length (i .counts) * lineRoom) (i .workspace))
 
 -- ---- pairing, by whichever route; `alone` for the indexed one
-
 unfoldable pub pairsOf : LentEnds → List Pair
-unfolding paired
-pairsOf i = paired (i .present) (i .directions) (i .pieces) (i .limit)
+pairsOf i = select (i .limit) (ends 0 (i .present) (i .directions) (i .pieces))
 
 pub record Paired (alone : Bool) (i : LentEnds) (r : Answer) (pairs′ workspace′ : List ℕ) : Type 0 where
   pub answer : r ≡ answerOf (pairRefusalOf alone i) (length (pairsOf i))
@@ -67,14 +55,11 @@ pub record Paired (alone : Bool) (i : LentEnds) (r : Answer) (pairs′ workspace
   pub workspace : workspace′ ≡ unless (pairRefusalOf alone i) (i .workspace) (cleared (length (i .pieces) * endRoom) (i .workspace))
 
 -- ---- the chain question and the view
-
 unfoldable pub asked : List ℕ → List ℕ → List ℕ → ℕ → Answer
-unfolding answerOf chainRefusalOf
 asked input merged table k = answerOf (chainRefusalOf input merged table k) 0
 
 -- chain k's coordinates, a part of the slice that its source names; no part of the input where there is no such chain
 unfoldable pub viewed : List ℕ → List ℕ → List ℕ → ℕ → List ℕ
-unfolding unless chainRefusalOf sourceOf
 viewed input merged table k =
     unless (chainRefusalOf input merged table k) []
-    (take (countAt table k * 2) (drop (firstAt table k * 2) (sourceOf (sourceAt table k) input merged)))
+    (take (entry table k 4 * 2) (drop (entry table k 3 * 2) (sourceOf (entry table k 2) input merged)))

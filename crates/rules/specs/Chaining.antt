@@ -1,11 +1,5 @@
 -- 01, Ends, Joining, Merging, Turned: from lines to chains.
-use Prim.Native.Nat.{ℕ, zero, suc, _+_, _*_}
-use mathlib.Core.Bool.{Bool, true, false, _&&_, Bool·beq, cond}
-use mathlib.Core.List.{List, [], _∷_, _++_, map, flatMap, reverse}
-use mathlib.Core.Option.{Option, none, some}
-use lib.Dec.{leb, eqb}
-use lib.Ieee.{Float, lt}
-use lib.ListN.{length, getD, replicate}
+use Rattle.rules.specs.Library.{ℕ, zero, suc, _+_, _*_, Bool, true, false, _&&_, Bool·beq, cond, List, [], _∷_, _++_, map, flatMap, reverse, Option, none, some, leb, eqb, Float, lt, length, getD, replicate}
 use Rattle.rules.specs.Lists.{keep, upto}
 use Rattle.rules.specs.Plane.{Point, point, Key, sameKey, exactKey, cellKey, directionOf, equal, nought}
 use Rattle.rules.specs.Selecting.{End, Pair, select}
@@ -33,7 +27,6 @@ mate e (p ∷ l) = elim (eqb e (p .0)) [ true ↦ some (p .1) | false ↦ elim (
 
 -- points one after another, and one equal by `==` to the last written is dropped
 unfoldable pub lay : Option Point → List Point → List Point
-unfolding equal
 lay last [] = []
 lay none (p ∷ l) = p ∷ lay (some p) l
 lay (some q) (p ∷ l) = elim (equal q p) [ true ↦ lay (some q) l | false ↦ p ∷ lay (some p) l ]
@@ -44,31 +37,25 @@ module _ (rule : Rule) (pieces : List Piece) where
   pieceAt e = getD pieces (pieceOf e) nothing
 
   unfoldable pub run : ℕ → List Point
-  unfolding pieceAt
   run e = cond (eqb (sideOf e) 0) (pieceAt e .points) (reverse (pieceAt e .points))
 
   unfoldable pub keyAt : ℕ → Key
-  unfolding pieceAt run
   keyAt e = rule .keyOf (pieceAt e .group) (getD (run e) 0 (point 0 0))
 
   -- the node of e: the ends with its key, by piece, end 0 first
   unfoldable pub node : ℕ → List ℕ
-  unfolding keyAt keep upto sameKey
   node e = keep (λ f. sameKey (keyAt e) (keyAt f)) (upto (2 * length pieces))
 
   unfoldable pub endAt : ℕ → End
-  unfolding run directionOf
   endAt e = record { name = e; piece = pieceOf e; direction = directionOf (run e) }
 
   -- the selected pairs of a node's ends, if junction pairing is on
   unfoldable pub chosen : Option Float → List ℕ → List Pair
-  unfolding select endAt
   chosen none ends = []
   chosen (some limit) ends = select limit (map endAt ends)
 
   -- the pairs of ends that a node joins
   unfoldable pub joined : List ℕ → List (ℕ × ℕ)
-  unfolding chosen
   joined [] = []
   joined (a ∷ []) = []
   joined (a ∷ b ∷ []) = elim (eqb (pieceOf a) (pieceOf b)) [ true ↦ [] | false ↦ (a, b) ∷ [] ]
@@ -76,19 +63,16 @@ module _ (rule : Rule) (pieces : List Piece) where
 
   -- the end that e is joined to
   unfoldable pub partner : ℕ → Option ℕ
-  unfolding mate joined node
   partner e = mate e (joined (node e))
 
   -- a walk of one piece keeps its points; any other has its pieces' in walk direction
   unfoldable pub merged : List ℕ → List Point
-  unfolding run lay flatMap
   merged [] = []
   merged (e ∷ []) = pieceAt e .points
   merged (e ∷ f ∷ w) = lay none (flatMap run (e ∷ f ∷ w))
 
   -- lines piece by piece, never reversed within a piece; a mark says whether the line's piece was entered at end 1
   unfoldable pub merge : List ℕ → Piece
-  unfolding merged pieceAt flatMap
   merge w =
       record {
         lines = flatMap (λ e. pieceAt e .lines) w;
@@ -99,11 +83,9 @@ module _ (rule : Rule) (pieces : List Piece) where
 
   -- one round
   unfoldable pub join : List Piece
-  unfolding merge walks partner
   join = map merge (walks partner (length pieces))
 
 -- ---- a call
-
 pub record Line : Type 0 where
   pub points : List Point
   pub group : ℕ
@@ -124,7 +106,6 @@ alone k l = record { lines = k ∷ []; marks = 0 ∷ []; points = l .points; gro
 
 -- the lines that are plain (want = true), or that pass through (want = false), each as a piece; k is the position of the first
 unfoldable pub pieces : Bool → ℕ → List Line → List Piece
-unfolding plain alone
 pieces want k [] = []
 pieces want k (l ∷ ls) =
     elim (Bool·beq want (plain l)) [ true ↦ alone k l ∷ pieces want (suc k) ls | false ↦ pieces want (suc k) ls ]
@@ -133,19 +114,13 @@ unfoldable pub limitOf : Settings → Option Float
 limitOf s = elim (eqb (s .switch) 1) [ true ↦ some (s .limit) | false ↦ none ]
 
 unfoldable pub roundOne : Settings → List Piece → List Piece
-unfolding join exactKey limitOf
 roundOne s ps = join (record { keyOf = exactKey; limit = limitOf s }) ps
 
 -- only if the tolerance is above 0, which a NaN isn't
 unfoldable pub roundTwo : Settings → List Piece → List Piece
-unfolding join cellKey limitOf
 roundTwo s ps =
-    elim (lt nought (s .tolerance)) [
-      | true ↦ join (record { keyOf = cellKey (s .tolerance); limit = limitOf s }) ps
-      | false ↦ ps
-    ]
+    elim (lt nought (s .tolerance)) [ true ↦ join (record { keyOf = cellKey (s .tolerance); limit = limitOf s }) ps | false ↦ ps ]
 
 -- the chains of a call, as pieces: those joined, then the lines that pass through, by position
 unfoldable pub chains : Settings → List Line → List Piece
-unfolding roundOne roundTwo pieces
 chains s ls = roundTwo s (roundOne s (pieces true 0 ls)) ++ pieces false 0 ls

@@ -1,19 +1,11 @@
 -- 01, Input and output: numbers read as lines and ends, and chains and pairs written as numbers.
-use Prim.Native.Nat.{ℕ, zero, suc, _+_, _*_}
-use mathlib.Core.Bool.{Bool, true, false}
-use mathlib.Core.List.{List, [], _∷_, _++_, flatMap}
-use lib.Dec.{eqb}
-use lib.Ieee.{Float, nan}
-use lib.ListN.{length, getD, take, drop}
-use Rattle.rules.specs.declared.Direction.{Direction}
-use Rattle.rules.specs.declared.Direction.the-variants.{Absent, Toward}
+use Rattle.rules.specs.Library.{ℕ, zero, suc, _+_, _*_, Bool, true, false, List, [], _∷_, _++_, flatMap, eqb, Float, nan, length, getD, take, drop, Direction, Absent, Toward}
 use Rattle.rules.specs.Lists.{total}
 use Rattle.rules.specs.Plane.{Point, points, flat}
-use Rattle.rules.specs.Selecting.{End, Pair, select}
+use Rattle.rules.specs.Selecting.{End, Pair}
 use Rattle.rules.specs.Chaining.{Piece, Line, Settings, chains}
 
 -- ---- building
-
 -- the lines follow one another in the points
 unfoldable pub lines : List Point → List ℕ → List ℕ → List ℕ → List Line
 lines ps [] gs ks = []
@@ -25,23 +17,16 @@ unfoldable pub copied : Piece → Bool
 copied p = elim (eqb (length (p .lines)) 1) [ true ↦ false | false ↦ true ]
 
 unfoldable pub copy : Piece → List Point
-unfolding copied
 copy p = elim (copied p) [ true ↦ p .points | false ↦ [] ]
 
 -- A chain's record: first member, member count, source, first coordinate, coordinate count. m members and c merged points stand before;
 -- `counts` are the lines' own, and so a line's first coordinate is the sum of those before it.
 unfoldable pub five : List ℕ → ℕ → ℕ → Piece → List ℕ
-unfolding copied total
 five counts m c p =
-    m
-    ∷ length (p .lines)
-    ∷ elim (copied p) [
-      | true ↦ 1 ∷ c ∷ length (p .points) ∷ []
-      | false ↦ 0 ∷ total (take (getD (p .lines) 0 0) counts) ∷ length (p .points) ∷ []
-    ]
+    let own = total (take (getD (p .lines) 0 0) counts) in
+    m ∷ length (p .lines) ∷ elim (copied p) [ true ↦ 1 ∷ c ∷ length (p .points) ∷ [] | false ↦ 0 ∷ own ∷ length (p .points) ∷ [] ]
 
 unfoldable pub table : List ℕ → ℕ → ℕ → List Piece → List ℕ
-unfolding five copy
 table counts m c [] = []
 table counts m c (p ∷ l) = five counts m c p ++ table counts (m + length (p .lines)) (c + length (copy p)) l
 
@@ -54,7 +39,6 @@ pub record Laid : Type 0 where
   pub merged : List ℕ
 
 unfoldable pub laidOut : List ℕ → List Piece → Laid
-unfolding table flatMap flat copy
 laidOut counts ps =
     record {
       number = length ps;
@@ -65,18 +49,15 @@ laidOut counts ps =
     }
 
 unfoldable pub build : List ℕ → List ℕ → List ℕ → List ℕ → Settings → Laid
-unfolding laidOut chains lines points
 build coordinates counts groups kinds s = laidOut counts (chains s (lines (points coordinates) counts groups kinds))
 
 -- ---- pairing
-
 -- the direction numbers of an absent end aren't looked at
 unfoldable pub given : ℕ → Float → Float → Direction
 given mark x y = elim (eqb mark 1) [ true ↦ Toward x y | false ↦ Absent ]
 
 -- per end a presence mark, a direction as two numbers, and a piece number; an end is named by its place, and k is that of the first
 unfoldable pub ends : ℕ → List ℕ → List Float → List ℕ → List End
-unfolding given
 ends k marks ways [] = []
 ends k marks ways (p ∷ ps) =
     record { name = k; piece = p; direction = given (getD marks 0 0) (getD ways 0 nan) (getD ways 1 nan) }
@@ -84,9 +65,4 @@ ends k marks ways (p ∷ ps) =
 
 -- two numbers per pair, lower index first, in the order of selection
 unfoldable pub listed : List Pair → List ℕ
-unfolding flatMap
 listed ps = flatMap (λ p. p .i ∷ p .j ∷ []) ps
-
-unfoldable pub paired : List ℕ → List Float → List ℕ → Float → List Pair
-unfolding ends select
-paired present directions pieces limit = select limit (ends 0 present directions pieces)

@@ -1,14 +1,6 @@
 -- 01, Ends and Direction: points, the keys that group ends, directions, and the measure of a pair.
 -- A coordinate is its 64 bits: a NaN keeps its payload, and the exact key is the bits.
-use Prim.Native.Nat.{ℕ}
-use mathlib.Core.Bool.{Bool, true, false, _&&_, not, cond}
-use mathlib.Core.List.{List, [], _∷_}
-use mathlib.Core.Option.{Option, none, some}
-use lib.Dec.{eqb}
-use lib.IntN.{ℤ, pos, negsuc}
-use lib.Ieee.{Float, fin, binary64, ofBits, add, sub, mul, div, lt, eq}
-use Rattle.rules.specs.declared.Direction.{Direction}
-use Rattle.rules.specs.declared.Direction.the-variants.{Absent, Toward}
+use Rattle.rules.specs.Library.{ℕ, Bool, true, false, _&&_, not, cond, List, [], _∷_, Option, none, some, eqb, ℤ, pos, negsuc, Float, fin, binary64, ofBits, add, sub, mul, div, lt, eq, Direction, Absent, Toward}
 use Rattle.rules.specs.Lists.{first}
 use Rattle.rules.specs.Root.{root}
 use Rattle.rules.specs.Cell.{cell}
@@ -38,7 +30,6 @@ unfoldable pub equal : Point → Point → Bool
 equal p q = eq (float (p .x)) (float (q .x)) && eq (float (p .y)) (float (q .y))
 
 -- ---- keys: a group, and two numbers
-
 pub data Key : Type 0 where
   key : ℕ → ℤ → ℤ → Key
 
@@ -57,11 +48,9 @@ exactKey g p = key g (pos (p .x)) (pos (p .y))
 
 -- round two: the cells of x and y
 unfoldable pub cellKey : Float → ℕ → Point → Key
-unfolding cell
 cellKey tolerance g p = key g (cell tolerance (p .x)) (cell tolerance (p .y))
 
 -- ---- directions
-
 abbrev pub nought : Float
 nought = fin false 0 (pos 0)
 
@@ -69,33 +58,22 @@ nought = fin false 0 (pos 0)
 abbrev pub lengthOf : Float → Float → Float
 lengthOf dx dy = root binary64 (add binary64 (mul binary64 dx dx) (mul binary64 dy dy))
 
-abbrev pub over : Bool → Float → Float → Float → Direction
-over true dx dy l = Toward (div binary64 dx l) (div binary64 dy l)
-over false dx dy l = Absent
-
 -- each part by the length, where that is above 0
 unfoldable pub toward : Float → Float → Direction
-toward dx dy = over (lt nought (lengthOf dx dy)) dx dy (lengthOf dx dy)
+toward dx dy =
+    let l = lengthOf dx dy in
+    elim (lt nought l) [ true ↦ Toward (div binary64 dx l) (div binary64 dy l) | false ↦ Absent ]
 
 -- the direction from p to q
 unfoldable pub straight : Point → Point → Direction
-unfolding toward
 straight p q = toward (sub binary64 (float (q .x)) (float (p .x))) (sub binary64 (float (q .y)) (float (p .y)))
-
--- from p to the point that was found, if one was
-unfoldable pub aim : Point → Option Point → Direction
-unfolding straight
-aim p none = Absent
-aim p (some q) = straight p q
 
 -- a piece's direction at the first of its points: to the nearest later one that differs by `!=`
 unfoldable pub directionOf : List Point → Direction
-unfolding aim first equal
 directionOf [] = Absent
-directionOf (p ∷ l) = aim p (first (λ q. not (equal q p)) l)
+directionOf (p ∷ l) = elim (first (λ q. not (equal q p)) l) [ none ↦ Absent | some q ↦ straight p q ]
 
 -- ---- the measure: the dot product, clamped to -1..1. A NaN stays, since no comparison with it holds
-
 abbrev pub unity : Float
 unity = fin false 1 (pos 0)
 
@@ -109,5 +87,4 @@ unfoldable pub dot : Float → Float → Float → Float → Float
 dot ax ay bx by = add binary64 (mul binary64 ax bx) (mul binary64 ay by)
 
 unfoldable pub measure : Float → Float → Float → Float → Float
-unfolding clamp dot
 measure ax ay bx by = clamp (dot ax ay bx by)

@@ -1,16 +1,9 @@
 -- 01, Refusals, in order of checking: the number of the first that applies, and 0 where none does.
-use Prim.Native.Nat.{ℕ, zero, suc, _+_, _*_, _/_}
-use mathlib.Core.Bool.{Bool, true, false, not, _&&_, _||_}
-use mathlib.Core.List.{List, [], _∷_}
-use lib.ListN.{length, getD}
-use lib.Dec.{eqb, ltb}
-use lib.Ieee.{Float, nan, le}
-use lib.Ieee.Scale.{finite}
+use Rattle.rules.specs.Library.{ℕ, zero, suc, _+_, _*_, _/_, Bool, true, false, not, _&&_, _||_, List, [], _∷_, length, getD, eqb, ltb, Float, nan, le, finite}
 use Rattle.rules.specs.Lists.{count, total}
 use Rattle.rules.specs.Plane.{unity, minus-unity}
 
 -- ---- the numbers of 01: how much a call takes, and the room it asks for
-
 abbrev pub mostLines : ℕ
 mostLines = 4096
 
@@ -31,7 +24,6 @@ abbrev pub endRoom : ℕ
 endRoom = 64
 
 -- ---- the tests
-
 -- the number of the first test that holds
 unfoldable pub firstOf : List (ℕ × Bool) → ℕ
 firstOf [] = 0
@@ -41,12 +33,15 @@ unfoldable pub anyAbove : ℕ → List ℕ → Bool
 anyAbove m [] = false
 anyAbove m (x ∷ l) = elim (ltb m x) [ true ↦ true | false ↦ anyAbove m l ]
 
+-- a lent room shorter than what is needed
+abbrev pub short : List ℕ → ℕ → Bool
+short room needed = ltb (length room) needed
+
 -- a limit that is NaN, below -1 or above 1
 unfoldable pub limitBad : Float → Bool
 limitBad limit = not (le minus-unity limit && le limit unity)
 
 -- ---- building
-
 -- what a call lends, as it stands at entry
 pub record Lent : Type 0 where
   pub coordinates : List ℕ
@@ -63,33 +58,22 @@ pub record Lent : Type 0 where
   pub spare : List ℕ
   pub workspace : List ℕ
 
-unfoldable pub switchBad : ℕ → Float → Bool
-unfolding limitBad
-switchBad switch limit = ltb 1 switch || (eqb switch 1 && limitBad limit)
-
--- a room is shorter than n lines and numbers of coordinates ask for
-unfoldable pub roomShort : ℕ → ℕ → ℕ → ℕ → ℕ → ℕ → ℕ → ℕ → Bool
-roomShort n numbers table members marks merged spare workspace =
-    ltb table (n * recordSize)
-    || (ltb members n || (ltb marks n || (ltb merged numbers || (ltb spare numbers || ltb workspace (n * lineRoom)))))
-
 unfoldable pub refusalOf : Lent → ℕ
-unfolding firstOf anyAbove total switchBad roomShort
 refusalOf i =
     let n = length (i .counts) in
     let numbers = length (i .coordinates) in
+    let rest = short (i .merged) numbers || (short (i .spare) numbers || short (i .workspace) (n * lineRoom)) in
     firstOf
     ((1, ltb mostLines n)
     ∷ (2, not (eqb (length (i .groups)) n) || not (eqb (length (i .kinds)) n))
     ∷ (3, anyAbove 1 (i .kinds))
     ∷ (4, not (eqb (total (i .counts) * 2) numbers))
     ∷ (5, ltb (mostPoints * 2) numbers)
-    ∷ (6, switchBad (i .switch) (i .limit))
-    ∷ (7, roomShort n numbers (length (i .table)) (length (i .members)) (length (i .marks)) (length (i .merged)) (length (i .spare)) (length (i .workspace)))
+    ∷ (6, ltb 1 (i .switch) || (eqb (i .switch) 1 && limitBad (i .limit)))
+    ∷ (7, short (i .table) (n * recordSize) || (short (i .members) n || (short (i .marks) n || rest)))
     ∷ [])
 
 -- ---- pairing
-
 pub record LentEnds : Type 0 where
   pub present : List ℕ
   pub directions : List Float
@@ -100,7 +84,6 @@ pub record LentEnds : Type 0 where
 
 -- a number of l stands more than twice in all
 unfoldable pub moreThanTwice : List ℕ → List ℕ → Bool
-unfolding count
 moreThanTwice all [] = false
 moreThanTwice all (p ∷ l) = elim (ltb 2 (count p all)) [ true ↦ true | false ↦ moreThanTwice all l ]
 
@@ -113,7 +96,6 @@ anyWild (mark ∷ l) (x ∷ y ∷ ways) = elim (eqb mark 1 && not (finite x && f
 
 -- `alone`: the indexed route called on its own
 unfoldable pub pairRefusalOf : Bool → LentEnds → ℕ
-unfolding firstOf anyAbove limitBad moreThanTwice anyWild
 pairRefusalOf alone i =
     let d = length (i .pieces) in
     firstOf
@@ -121,22 +103,15 @@ pairRefusalOf alone i =
     ∷ (2, not (eqb (length (i .present)) d) || not (eqb (length (i .directions)) (d * 2)))
     ∷ (3, anyAbove 1 (i .present))
     ∷ (6, limitBad (i .limit))
-    ∷ (7, ltb (length (i .pairs)) d || ltb (length (i .workspace)) (d * endRoom))
+    ∷ (7, short (i .pairs) d || short (i .workspace) (d * endRoom))
     ∷ (8, moreThanTwice (i .pieces) (i .pieces))
     ∷ (9, alone && anyWild (i .present) (i .directions))
     ∷ [])
 
 -- ---- the chain question
-
--- record k of the table: its source, first coordinate and coordinate count
-abbrev pub sourceAt : List ℕ → ℕ → ℕ
-sourceAt table k = getD table (k * recordSize + 2) 0
-
-abbrev pub firstAt : List ℕ → ℕ → ℕ
-firstAt table k = getD table (k * recordSize + 3) 0
-
-abbrev pub countAt : List ℕ → ℕ → ℕ
-countAt table k = getD table (k * recordSize + 4) 0
+-- record k has its source at 2, its first coordinate at 3 and its coordinate count at 4
+abbrev pub entry : List ℕ → ℕ → ℕ → ℕ
+entry table k at = getD table (k * recordSize + at) 0
 
 -- the slice that a source names
 unfoldable pub sourceOf : {A : Type 0} → ℕ → A → A → A
@@ -145,11 +120,10 @@ sourceOf (suc k) input merged = merged
 
 -- record k isn't wholly in the table, its source is above 1, or its coordinates aren't in the named slice
 unfoldable pub noChain : List ℕ → List ℕ → List ℕ → ℕ → Bool
-unfolding sourceOf
 noChain input merged table k =
+    let source = entry table k 2 in
     ltb (length table) (k * recordSize + recordSize)
-    || (ltb 1 (sourceAt table k) || ltb (length (sourceOf (sourceAt table k) input merged)) ((firstAt table k + countAt table k) * 2))
+    || (ltb 1 source || ltb (length (sourceOf source input merged)) ((entry table k 3 + entry table k 4) * 2))
 
 unfoldable pub chainRefusalOf : List ℕ → List ℕ → List ℕ → ℕ → ℕ
-unfolding firstOf noChain
 chainRefusalOf input merged table k = firstOf ((10, noChain input merged table k) ∷ [])

@@ -4,7 +4,7 @@
 use Prim.Native.Nat.{ℕ, _<_}
 use mathlib.Core.Path.{_≡_, refl, sym, _∙_, ap, ap₂, subst}
 use mathlib.Core.Bool.{true, false, not, _&&_}
-use mathlib.Core.List.{List, [], _∷_, map}
+use mathlib.Core.List.{List, [], _∷_, map, flatMap}
 use native.Mathlib.Omega.{arith}
 use lib.ListN.{length, length-map}
 use lib.Dec.{T, eqb, leb}
@@ -45,7 +45,7 @@ key-toward ax ay bx by = refl
 
 -- two numbers per pair, with keys or with measures
 pub listed-keyed : (l : List Pair) → listed l ≡ taking.listed (map keyed l)
-unfolding listed taking.listed
+unfolding listed taking.listed flatMap
 listed-keyed [] = refl
 listed-keyed (p ∷ l) = ap (λ (m : List ℕ). p .i ∷ p .j ∷ m) (listed-keyed l)
 

@@ -12,7 +12,7 @@ use Rattle.rules.specs.declared.Answer.{Answer}
 use Rattle.rules.specs.declared.Answer.the-variants.{Accepted}
 use Rattle.rules.specs.Lists.{keep}
 use Rattle.rules.specs.Selecting.{End, Pair, select}
-use Rattle.rules.specs.Layout.{ends, listed, paired}
+use Rattle.rules.specs.Layout.{ends, listed}
 use Rattle.rules.specs.Refusals.{Lent, LentEnds, pairRefusalOf}
 use Rattle.rules.specs.Calls.{unless, answerOf, written, pairsOf, Built, Paired}
 use Rattle.selecting.specs.Taking.{listed as ranked-listed}
@@ -96,11 +96,11 @@ module _
   lent = ends 0 (i₂ .present) (i₂ .directions) (i₂ .pieces)
 
   first : pairsOf i₁ ≡ select (i₁ .limit) lent
-  unfolding pairsOf paired lent
+  unfolding pairsOf lent
   first = λ t. select (i₁ .limit) (ends 0 (present t) (directions t) (pieces t))
 
   second : pairsOf i₂ ≡ select (i₂ .limit) lent
-  unfolding pairsOf paired lent
+  unfolding pairsOf lent
   second = refl
 
   low-is : pairsOf i₁ ≡ keep (λ p. le (p .size) (i₁ .limit)) (pairsOf i₂)

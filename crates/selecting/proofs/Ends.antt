@@ -15,8 +15,8 @@ use borrow.Author.Tests.{eq-eqb, leb-true}
 use Rattle.rules.specs.declared.Direction.{Direction}
 use Rattle.rules.specs.declared.Direction.the-variants.{Absent, Toward}
 use Rattle.rules.specs.Plane.{measure}
-use Rattle.rules.specs.Selecting.{End}
-use Rattle.rules.specs.Layout.{given, ends, listed, paired}
+use Rattle.rules.specs.Selecting.{End, select}
+use Rattle.rules.specs.Layout.{given, ends, listed}
 use Rattle.order.specs.Key.{key-nan, key}
 use Rattle.order.proofs.Dot.{measure-sym}
 use Rattle.selecting.specs.Ranked as ranked
@@ -142,8 +142,7 @@ module _ (marks : List ℕ) (ways : List Float) (pieces : List ℕ) (i j : ℕ) 
 -- ---- what a call selects
 
 module _ (marks : List ℕ) (ways : List Float) (pieces : List ℕ) (limit : Float) where
-  pub paired-room : 2 * length (paired marks ways pieces limit) ≤ length pieces
-  unfolding paired
+  pub paired-room : 2 * length (select limit (ends 0 marks ways pieces)) ≤ length pieces
   paired-room =
       omega (
         arith,
@@ -152,10 +151,8 @@ module _ (marks : List ℕ) (ways : List Float) (pieces : List ℕ) (limit : Flo
       )
 
   module _ (fitting : T (fits binary64 limit)) (number : T (not (isNan limit))) where
-    pub paired-count : length (paired marks ways pieces limit) ≡ length (ranked.select (nodeOf (ends 0 marks ways pieces)) (key limit))
-    unfolding paired
+    pub paired-count : length (select limit (ends 0 marks ways pieces)) ≡ length (ranked.select (nodeOf (ends 0 marks ways pieces)) (key limit))
     paired-count = select-count limit fitting number (ends 0 marks ways pieces) (ends-placed marks ways pieces)
 
-    pub paired-listed : listed (paired marks ways pieces limit) ≡ taking.listed (ranked.select (nodeOf (ends 0 marks ways pieces)) (key limit))
-    unfolding paired
+    pub paired-listed : listed (select limit (ends 0 marks ways pieces)) ≡ taking.listed (ranked.select (nodeOf (ends 0 marks ways pieces)) (key limit))
     paired-listed = select-listed limit fitting number (ends 0 marks ways pieces) (ends-placed marks ways pieces)

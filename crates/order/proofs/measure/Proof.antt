@@ -1,6 +1,6 @@
 -- `order::measure` meets its contract: the callee clamps the sum of products.
 use borrow.Author.Needs.{needs}
-use Rattle.rules.specs.Plane.{measure}
+use Rattle.rules.specs.Plane.{measure, dot}
 use Rattle.order.proofs.measure.Statement.{statement}
 use Rattle.order.proofs.measure.Tie as tie
 
@@ -8,7 +8,7 @@ clamped-requires : tie.Need-clamped-requires
 clamped-requires c κs = search needs
 
 returns : tie.Need-returns
-unfolding measure
+unfolding measure dot
 returns c = c .clamped .ensures
 
 pub measure-spec : {M : Type 1} → statement M

@@ -1,6 +1,6 @@
 -- `room_short` is the book's test, room by room.
 use borrow.Author.Tests.{lt-ltb, le-ltb}
-use Rattle.rules.specs.Refusals.{roomShort}
+use Rattle.refusals.specs.Tests.{roomShort}
 use borrow.Author.Needs.{needs}
 use Rattle.refusals.proofs.room_short.Statement.{statement}
 use Rattle.refusals.proofs.room_short.Tie as tie

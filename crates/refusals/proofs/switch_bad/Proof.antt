@@ -1,6 +1,6 @@
 -- `switch_bad` is the book's test: the limit's is asked only where the switch is 1.
 use borrow.Author.Tests.{lt-ltb, le-ltb, eq-eqb, ne-eqb}
-use Rattle.rules.specs.Refusals.{switchBad}
+use Rattle.refusals.specs.Tests.{switchBad}
 use borrow.Author.Needs.{needs}
 use Rattle.refusals.proofs.switch_bad.Statement.{statement}
 use Rattle.refusals.proofs.switch_bad.Tie as tie

@@ -1,0 +1,15 @@
+-- Refusals 6 and 7 of building, as tests of numbers.
+use Prim.Native.Nat.{ℕ, _*_}
+use mathlib.Core.Bool.{Bool, _&&_, _||_}
+use lib.Dec.{eqb, ltb}
+use lib.Ieee.{Float}
+use Rattle.rules.specs.Refusals.{limitBad, recordSize, lineRoom}
+
+unfoldable pub switchBad : ℕ → Float → Bool
+switchBad switch limit = ltb 1 switch || (eqb switch 1 && limitBad limit)
+
+-- a room is shorter than n lines and numbers of coordinates ask for
+unfoldable pub roomShort : ℕ → ℕ → ℕ → ℕ → ℕ → ℕ → ℕ → ℕ → Bool
+roomShort n numbers table members marks merged spare workspace =
+    ltb table (n * recordSize)
+    || (ltb members n || (ltb marks n || (ltb merged numbers || (ltb spare numbers || ltb workspace (n * lineRoom)))))
