@@ -4,7 +4,7 @@ use Prim.Native.Nat.{ℕ, _+_, _*_, _≤_, _<_}
 use mathlib.Core.Path.{_≡_}
 use mathlib.Core.Logic.{_≢_}
 use mathlib.Core.List.{List, [], map, flatMap, flatten}
-use lib.ListN.{length, getD, take, drop}
+use lib.ListN.{length, getD, take, drop, replicate}
 use lib.Seq.{slice}
 use Rattle.rules.specs.Lists.{total}
 use Rattle.rules.specs.Plane.{flat}
@@ -67,6 +67,12 @@ pub record Emitted (w′ w : List ℕ) (merged′ merged counts : List ℕ) (p :
   pub copied : HoldsFrom merged′ merged (c * 2) (length (copy p) * 2) (flat (copy p))
 
 -- ---- the members and marks of all walks, whose m entries stand one after another
+
+-- the members of one piece are copied, and then its marks are set
+pub record Members (w′ w : List ℕ) (from at marks count mark : ℕ) : Type 0 where
+  pub copied : List ℕ
+  pub members : HoldsFrom copied w at count (slice from (from + count) w)
+  pub marked : HoldsFrom w′ copied marks count (replicate count mark)
 
 pub record Listable (w : List ℕ) (n old entries m : ℕ) : Type 0 where
   pub rule : Rule

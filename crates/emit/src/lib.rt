@@ -12,7 +12,7 @@ ghost use Rattle.rules.specs.Chaining.{lay, run, pieceAt, merge};
 ghost use Rattle.slices.specs.Holds.{Holds, HoldsFrom};
 ghost use Rattle.slices.specs.Run.{laid, walked};
 ghost use Rattle.pieces.specs.Held.{coordinatesAt, Recorded};
-ghost use Rattle.emit.specs.Emit.{Counted, Layable, Copyable, joinedOf, Emittable, Emitted, Listable, Listed, Walks, Tabled, Done};
+ghost use Rattle.emit.specs.Emit.{Counted, Layable, Copyable, joinedOf, Emittable, Emitted, Members, Listable, Listed, Walks, Tabled, Done};
 
 // The coordinates of the piece whose record stands at p, behind the first `have` numbers of `rest`. Returns how many numbers there are.
 fn append_piece(
@@ -179,6 +179,21 @@ fn emit_walks(
     }
 }
 
+// The members of one piece, `count` of them from `from` on, again from `at` on, and as many marks from `marks` on. Most pieces have one member.
+fn list_members(w: &mut [u64], from: usize, at: usize, marks: usize, count: usize, mark: u64)
+    requires { ⌜ (at + count ≤ from) × (from + count ≤ length (now w)) × (marks + count ≤ length (now w)) ⌝ }
+    ensures { λ _. ⌜ Members (now (w .exit)) (now (w .entry)) from at marks count mark ⌝ }
+{
+    if count == 1 {
+        let line = w[from];
+        w[at] = line;
+        w[marks] = mark;
+        return;
+    }
+    slices::copy_down(w, from, at, count);
+    slices::fill_from(w, marks, count, mark);
+}
+
 // The members of the pieces that are entered, piece by piece, and for each the mark of its piece's entry.
 fn list_pieces(w: &mut [u64], n: usize, old: usize, entries: usize, m: usize)
     requires { ⌜ Listable (now w) n old entries m ⌝ }
@@ -191,8 +206,7 @@ fn list_pieces(w: &mut [u64], n: usize, old: usize, entries: usize, m: usize)
         let p = old + e / 2 * 5;
         let count = w[p + 1] as usize;
         let from = old + n * 5 + w[p] as usize;
-        slices::copy_down(w, from, n * 5 + r, count);
-        slices::fill_from(w, n * 6 + r, count, e as u64 % 2);
+        list_members(w, from, n * 5 + r, n * 6 + r, count, e as u64 % 2);
         r += count;
         k += 1;
     }

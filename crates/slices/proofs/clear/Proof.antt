@@ -1,62 +1,44 @@
--- After i turns the first i numbers are zero.
-use Prim.Native.Nat.{ℕ, _-_, _≤_}
-use mathlib.Core.Path.{_≡_, refl, ap, _∙_}
-use mathlib.Core.List.{List, _++_}
+-- A room is filled with zeros, or wiped and the rest of it filled.
 use native.Mathlib.Omega.{arith}
-use lib.ListN.{length, drop, set, replicate, length-set}
-use Rattle.rules.specs.Calls.{cleared}
-use borrow.Author.Fill.{fill-more}
+use borrow.Author.Needs.{needs}
+use Rattle.slices.proofs.Zeros.{wiped-whole, wiped-done}
 use Rattle.slices.proofs.clear.Statement.{statement}
 use Rattle.slices.proofs.clear.Tie as tie
 
-abbrev Inv-loop : tie.InvT-loop
-Inv-loop w₀ n i₀ w i = (i ≤ n) × (length w ≡ length w₀) × (w ≡ replicate i 0 ++ drop i w₀)
+fill-from-requires : tie.Need-fill-from-requires
+fill-from-requires c κs = search needs
 
-abbrev μ-loop : tie.MeasureT-loop
-μ-loop w₀ n i₀ w i = n - i
+same-length : tie.Need-same-length
+same-length c = search needs
 
-loop-holds : tie.Need-loop-holds Inv-loop μ-loop
-loop-holds c = (omega arith, refl, refl)
+returns : tie.Need-returns
+returns c = wiped-whole (c .before .before .fill-from .ensures)
 
-mul-w : tie.Need-mul-w Inv-loop μ-loop
-mul-w c = omega arith
+fill-from-requires-2 : tie.Need-fill-from-requires-2
+fill-from-requires-2 c κs = search needs
 
-slice-write-w : tie.Need-slice-write-w Inv-loop μ-loop
-slice-write-w c = omega arith
+same-length-2 : tie.Need-same-length-2
+same-length-2 c = search needs
 
-add-i : tie.Need-add-i Inv-loop μ-loop
-add-i c = omega arith
+returns-2 : tie.Need-returns-2
+returns-2 c = wiped-whole (c .before .before .fill-from2 .ensures)
 
-loop-less : tie.Need-loop-less Inv-loop μ-loop
-loop-less c = omega arith
+wipe-all-requires : tie.Need-wipe-all-requires
+wipe-all-requires c κs = search needs
 
-loop-again : tie.Need-loop-again Inv-loop μ-loop
-loop-again c =
-    let at-loop = c .before in
-    let w₀ = at-loop .before .args .w .now in
-    (omega arith, simp length-set (omega arith), ap (λ (l : List ℕ). set l (at-loop .loop .i) 0) (at-loop .loop .inv .2) ∙ fill-more (at-loop .loop .i) 0 w₀ (omega arith))
+sub-fill-from : tie.Need-sub-fill-from
+sub-fill-from c = c .before .before .before .wipe-all .ensures .0
 
-same-length : tie.Need-same-length Inv-loop μ-loop
-same-length c = omega arith
+fill-from-requires-3 : tie.Need-fill-from-requires-3
+fill-from-requires-3 c κs = omega (arith, c .before .before .before .wipe-all .ensures .0, c .before .before .before .wipe-all .kept .0)
 
-returns : tie.Need-returns Inv-loop μ-loop
-unfolding cleared
-returns c =
-    let at-loop = c .before in
-    let e : at-loop .loop .i ≡ at-loop .before .args .n = omega arith in
-    rw (← e) (at-loop .loop .inv .2)
+same-length-3 : tie.Need-same-length-3
+same-length-3 c = search needs
+
+returns-3 : tie.Need-returns-3
+returns-3 c = let k = c .before .before .before .before .before .before in wiped-done (k .wipe-all .ensures .1) (k .wipe-all .ensures .0) (c .before .before .before .before .before .before .before .before .before .before .before .pre) (c .before .before .fill-from3 .ensures)
 
 pub clear-spec : {M : Type 1} → statement M
 clear-spec =
     tie.close
-    (tie.spec
-    Inv-loop
-    μ-loop
-    loop-holds
-    mul-w
-    slice-write-w
-    add-i
-    loop-less
-    loop-again
-    same-length
-    returns)
+    (tie.spec fill-from-requires same-length returns fill-from-requires-2 same-length-2 returns-2 wipe-all-requires sub-fill-from fill-from-requires-3 same-length-3 returns-3)

@@ -1,0 +1,42 @@
+-- The numbers passed are zero where what they make together is.
+use Prim.Native.Nat.{_-_, _≤_}
+use mathlib.Core.Path.{_≡_}
+use native.Mathlib.Omega.{arith}
+use borrow.Author.Needs.{needs}
+use borrow.Author.Tests.{eqb-true}
+use Rattle.slices.proofs.Zeros.{Blank, blank-more}
+use Rattle.slices.proofs.blank.Statement.{statement}
+use Rattle.slices.proofs.blank.Tie as tie
+
+abbrev Inv-loop : tie.InvT-loop
+Inv-loop w i any₀ k₀ any k = (k ≤ 8) × (any ≡ 0 → Blank w i k)
+
+abbrev μ-loop : tie.MeasureT-loop
+μ-loop w i any₀ k₀ any k = 8 - k
+
+loop-holds : tie.Need-loop-holds Inv-loop μ-loop
+loop-holds c = (omega arith, λ e j h. absurd (omega arith))
+
+add-any : tie.Need-add-any Inv-loop μ-loop
+add-any c = omega arith
+
+mul-any : tie.Need-mul-any Inv-loop μ-loop
+mul-any c = omega arith
+
+shared-slice-read-any : tie.Need-shared-slice-read-any Inv-loop μ-loop
+shared-slice-read-any c = omega arith
+
+add-k : tie.Need-add-k Inv-loop μ-loop
+add-k c = omega arith
+
+loop-less : tie.Need-loop-less Inv-loop μ-loop
+loop-less c = omega arith
+
+loop-again : tie.Need-loop-again Inv-loop μ-loop
+loop-again c = (let s = c .before .before .before in (omega arith, blank-more (s .args .w .now) (s .args .i) (c .before .before .loop .k) (c .before .before .loop .any) (c .before .before .loop .inv .1)))
+
+returns : tie.Need-returns Inv-loop μ-loop
+returns c = λ e j h. c .before .loop .inv .1 (eqb-true _ _ e) j (omega arith)
+
+pub blank-spec : {M : Type 1} → statement M
+blank-spec = tie.close (tie.spec Inv-loop μ-loop loop-holds add-any mul-any shared-slice-read-any add-k loop-less loop-again returns)
