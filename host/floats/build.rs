@@ -26,7 +26,7 @@ fn main() {
     }
     if sources.iter().any(|source| written(&archive) < written(source)) {
         let made = Command::new("rt").args(["staticlib", "probe"]).current_dir(&root).status();
-        assert!(made.is_ok_and(|status| status.success()), "`rt staticlib probe` failed");
+        assert!(matches!(made, Ok(status) if status.success()), "`rt staticlib probe` failed");
     }
     println!("cargo:rustc-link-search=native={}", folder.display());
     println!("cargo:rustc-link-lib=static=probe");

@@ -1,7 +1,7 @@
 //! Building: the port through the door and the Rust's `build_chains` on the same lines, with what
 //! stands beside them.
 
-use crate::clock::{best, timed, Patience};
+use crate::clock::{best, hidden, timed, Patience};
 use crate::geos::Geos;
 use crate::times::{measured, Times};
 use answers::{BuildCall, Built};
@@ -9,7 +9,6 @@ use lovasuku_chains::door::{self, RawSettings};
 use lovasuku_chains::size::{LINE_WORKSPACE, RECORD};
 use lovasuku_chains::Lines;
 use oracle::{chains::without_marks, switch, Oracle};
-use std::hint::black_box;
 
 /// The times of a call, taken after both sides have been seen to answer alike. The error is a
 /// sentence about the first difference.
@@ -22,7 +21,7 @@ pub fn compare(oracle: Oracle, call: &BuildCall, patience: Patience) -> Result<T
     let geometries = oracle.geometries(call);
     let ready = oracle.ready_build(&geometries, call);
     let mut port = || timed(|| build(call, &coordinates, &mut rooms));
-    let mut rust = || timed(|| black_box(&ready).run());
+    let mut rust = || timed(|| hidden(&ready).run());
     let times = || measured(&mut [&mut port, &mut rust], patience);
     Ok(switch::under(call.switch == 1, times))
 }
@@ -47,8 +46,8 @@ pub fn zeroing(call: &BuildCall, patience: Patience) -> f64 {
     let mut rooms = Rooms::dirty(call);
     let mut clear = || {
         timed(|| {
-            black_box(&mut rooms.spare).fill(0.0);
-            black_box(&mut rooms.workspace).fill(0);
+            hidden(&mut rooms.spare).fill(0.0);
+            hidden(&mut rooms.workspace).fill(0);
         })
     };
     best(&mut [&mut clear], patience)[0]
@@ -63,7 +62,7 @@ fn build(call: &BuildCall, coordinates: &[f64], rooms: &mut Rooms) -> i64 {
         switch: call.switch,
         limit: f64::from_bits(call.limit),
     };
-    door::build(black_box(lines), settings, rooms.lent())
+    door::build(hidden(lines), settings, rooms.lent())
 }
 
 /// The rooms of a call, each as long as the rules ask for.

@@ -1,6 +1,7 @@
 //! Time per call, the best of many, with the sides taken in turn.
 
-use std::hint::black_box;
+use std::mem::forget;
+use std::ptr::read_volatile;
 use std::time::{Duration, Instant};
 
 /// One side of a comparison: a run makes one call and gives its nanoseconds.
@@ -28,10 +29,19 @@ const TURN: f64 = 1e6;
 /// The most calls of a turn.
 const MOST_CALLS: f64 = 100.0;
 
+/// The same value, of which the compiler is to know nothing. Rust has such a function from 1.66 on.
+#[allow(unsafe_code)]
+pub fn hidden<T>(value: T) -> T {
+    // The value is read from a live place, which is then forgotten, so that it is dropped once.
+    let same = unsafe { read_volatile(&value) };
+    forget(value);
+    same
+}
+
 /// The nanoseconds of a call. What it answers is dropped after the clock has stopped.
 pub fn timed<T>(call: impl FnOnce() -> T) -> f64 {
     let start = Instant::now();
-    let answer = black_box(call());
+    let answer = hidden(call());
     let time = start.elapsed();
     drop(answer);
     time.as_nanos() as f64

@@ -1,12 +1,11 @@
 //! Pairing: a route of the port through the door and the Rust's on the same ends.
 
-use crate::clock::{timed, Patience};
+use crate::clock::{hidden, timed, Patience};
 use crate::times::{measured, Times};
 use answers::{Pair, PairingCall, Route};
 use lovasuku_chains::size::END_WORKSPACE;
 use lovasuku_chains::{door, Ends};
 use oracle::Oracle;
-use std::hint::black_box;
 
 /// The times of a call by a route, taken after both sides have been seen to answer alike. The
 /// error is a sentence about the first difference.
@@ -23,7 +22,7 @@ pub fn compare(
 
     let ready = oracle.ready_pairs(route, call);
     let mut port = || timed(|| pairs(route, call, &directions, &mut rooms));
-    let mut rust = || timed(|| black_box(&ready).run());
+    let mut rust = || timed(|| hidden(&ready).run());
     Ok(measured(&mut [&mut port, &mut rust], patience))
 }
 
@@ -36,7 +35,7 @@ fn pairs(route: Route, call: &PairingCall, directions: &[f64], rooms: &mut Rooms
         Route::Chosen => lovasuku_chains::Route::Chosen,
     };
     let rooms = door::PairRooms { pairs: &mut rooms.pairs, workspace: &mut rooms.workspace };
-    door::pairs(route, black_box(ends), f64::from_bits(call.limit), rooms)
+    door::pairs(route, hidden(ends), f64::from_bits(call.limit), rooms)
 }
 
 /// The rooms of a call, each as long as the rules ask for.
