@@ -1,6 +1,6 @@
 //! The lines of a building call.
 
-use crate::size::{MOST_LINES, POINT};
+use crate::size::{MOST_LINES, MOST_POINTS, POINT};
 use crate::Refusal;
 
 /// A line that may be joined.
@@ -46,16 +46,27 @@ impl Lines<'_> {
         self.counts.is_empty()
     }
 
-    /// Refusals 1 and 2, which speak of the tables' lengths alone.
+    /// Refusals 1 to 5: those that speak of the lengths, and the one about kinds between them.
     pub(crate) fn test_lengths(&self) -> Result<(), Refusal> {
-        let n = self.len();
+        let (n, numbers) = (self.len(), self.coordinates.len());
         if n > MOST_LINES {
             Err(Refusal::TooMany)
         } else if self.groups.len() != n || self.kinds.len() != n {
             Err(Refusal::TablesDiffer)
+        } else if self.kinds.iter().any(|&kind| kind > PASSING) {
+            Err(Refusal::MarkAboveOne)
+        } else if POINT as u64 * self.points() != numbers as u64 {
+            Err(Refusal::CountsDoNotAddUp)
+        } else if numbers > POINT * MOST_POINTS {
+            Err(Refusal::TooManyCoordinates)
         } else {
             Ok(())
         }
+    }
+
+    /// The sum of the counts.
+    fn points(&self) -> u64 {
+        self.counts.iter().map(|&count| u64::from(count)).sum()
     }
 }
 

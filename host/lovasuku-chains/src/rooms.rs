@@ -83,10 +83,8 @@ impl Rooms {
         settings: Settings,
     ) -> Result<Chains<'a>, Refusal> {
         lines.test_lengths()?;
-        let (n, numbers) = (lines.len(), lines.coordinates.len());
-        // Beyond this many numbers the call is refused by its counts or its coordinates, which
-        // are tested before the rooms.
-        self.grow_for_building(n, numbers.min(POINT * MOST_POINTS));
+        let n = lines.len();
+        self.grow_for_building(n, lines.coordinates.len());
         let (switch, limit) = settings.switch_and_limit();
         let raw = RawSettings { tolerance: settings.tolerance, switch, limit };
         let Rooms { table, members, marks, merged, spare, workspace, .. } = self;

@@ -111,6 +111,20 @@ fn building_names_its_refusals() {
 }
 
 #[test]
+fn the_first_refusal_that_applies_is_given() {
+    let wrong = Lines { coordinates: &[0.0; 140_001], counts: &[2], groups: &[0], kinds: &[0] };
+    let wide = Settings::default().with_limit(2.0);
+    let mut rooms = Rooms::default();
+    let mut refused = |lines| rooms.build(lines, wide).err().map(Refusal::number);
+    assert_eq!(refused(Lines { kinds: &[2, 2], ..wrong }), Some(2));
+    assert_eq!(refused(Lines { kinds: &[2], ..wrong }), Some(3));
+    assert_eq!(refused(wrong), Some(4));
+    let long = Lines { coordinates: &wrong.coordinates[1..], counts: &[70_000], ..wrong };
+    assert_eq!(refused(long), Some(5));
+    assert_eq!(refused(Lines { coordinates: &[0.0; 4], ..wrong }), Some(6));
+}
+
+#[test]
 fn pairing_names_its_refusals() {
     let good = Ends { present: &[1, 1], directions: &[1.0, 0.0, -1.0, 0.0], pieces: &[0, 1] };
     let mut rooms = Rooms::default();
