@@ -6,6 +6,9 @@ use answers::random::Random;
 /// What stands before and behind a lent room, in elements.
 const GUARD: usize = 8;
 
+/// One number in so many is not zero where few are.
+const FEW: u64 = 61;
+
 /// A number of a room, told from others by its bits.
 pub trait Number: Copy {
     /// The number of some bits.
@@ -57,6 +60,8 @@ pub enum Dirt {
     Marked(u64),
     /// Numbers as a call before might have left them: small whole ones, in the high bytes too.
     Likely(u64),
+    /// Zeros with a number here and there, as a host might have used a cleared room.
+    Few(u64),
     /// Zeros, as in a room that is lent for the first time.
     Zeros,
     /// Bits that are all 1.
@@ -70,7 +75,8 @@ impl Dirt {
         match random.below(8) {
             0 => Dirt::Zeros,
             1 => Dirt::Ones,
-            2 | 3 => Dirt::Likely(salt),
+            2 => Dirt::Few(salt),
+            3 | 4 => Dirt::Likely(salt),
             _ => Dirt::Marked(salt),
         }
     }
@@ -84,7 +90,8 @@ impl Dirt {
         match self {
             Dirt::Marked(salt) => mixed(salt) | 1 << 63,
             Dirt::Likely(salt) => (mixed(salt) & 0x0107).wrapping_mul(0x0100_0001_0000_0001),
-            Dirt::Zeros => 0,
+            Dirt::Few(salt) if mixed(salt) % FEW == 0 => mixed(salt),
+            Dirt::Few(_) | Dirt::Zeros => 0,
             Dirt::Ones => u64::MAX,
         }
     }
