@@ -1,5 +1,4 @@
 // The chosen route: few ends, or a direction that is not finite, go by the plain route, all others by the index.
-use rules::Direction;
 ghost use mathlib.Core.Path.{_≡_};
 ghost use mathlib.Core.Bool.{false};
 ghost use Rattle.rules.specs.Refusals.{limitBad};
@@ -7,38 +6,9 @@ ghost use Rattle.order.specs.Key.{key};
 ghost use Rattle.selecting.specs.Ends.{endAt};
 ghost use Rattle.selecting.specs.Owners.{AtMostTwice};
 ghost use Rattle.ends.specs.Ends.{Room, Selected, endsIn};
-ghost use Rattle.chosen.specs.Tame.{tame, AllTame};
 
 // How many ends the indexed route asks at the least.
 const FEW: usize = 32;
-
-// Whether a direction, if present, is finite.
-fn finite_way(way: Direction) -> bool
-    ensures { λ r. ⌜ r ≡ tame way ⌝ }
-{
-    let Direction::Toward(x, y) = way else {
-        return true;
-    };
-    if !order::is_finite(x) {
-        return false;
-    }
-    order::is_finite(y)
-}
-
-// Whether each present direction is finite.
-fn all_finite(w: &[u64], d: usize) -> bool
-    requires { ⌜ Room (now w) d ⌝ }
-    ensures { λ r. ⌜ AllTame (now (w .entry)) d r ⌝ }
-{
-    let mut e = 0;
-    while e < d {
-        if !finite_way(ends::direction_at(w, d, e)) {
-            return false;
-        }
-        e += 1;
-    }
-    true
-}
 
 // The selected pairs of a junction's d ends, by the route that fits; how many, and two words for each behind the piece numbers.
 pub fn junction_pairs(w: &mut [u64], d: usize, limit: f64) -> usize
@@ -48,7 +18,7 @@ pub fn junction_pairs(w: &mut [u64], d: usize, limit: f64) -> usize
     if d < FEW {
         return plain::plain(w, d, limit);
     }
-    if !all_finite(w, d) {
+    if !around::all_finite(w, d) {
         return plain::plain(w, d, limit);
     }
     indexed::indexed(w, d, order::key(limit))

@@ -3,13 +3,13 @@
 -- in either order.
 use Prim.Native.Nat.{ℕ, zero, suc, _+_, _-_, _*_, _^_, _≤_, _<_, min}
 use mathlib.Core.Path.{_≡_, refl, sym, ap, _∙_, subst}
-use mathlib.Core.Bool.{Bool, true, false}
+use mathlib.Core.Bool.{Bool, true, false, cond, _&&_}
 use mathlib.Core.List.{List}
 use mathlib.Core.Logic.{_⊎_, inl, inr, ⊎-elim}
 use native.Mathlib.Nat.{le-trans, le-of-eq, lt-of-lt-of-le, lt-irrefl, mul-assoc, add-mul, le-mul-of-pos-right, pow-succ'}
 use native.Mathlib.Omega.{arith}
 use lib.Dec.{T, ltb, eqb}
-use lib.ListN.{length}
+use lib.ListN.{length, getD}
 use lib.Pow.{pow-pos}
 use lib.Ieee.{Float}
 use borrow.Author.Tests.{ltb-true, ltb-false, eqb-true, eq-eqb, ne-eqb}
@@ -26,7 +26,7 @@ use Rattle.tree.specs.declared.Place.{Place}
 use Rattle.tree.specs.Places.{worth, gone, none}
 use Rattle.tree.proofs.Flat.{same-or}
 use Rattle.index.specs.Nodes.{node-at, Has}
-use Rattle.index.specs.Search.{Built, bound-of, pair-at, leaf-at, least-of, Ready}
+use Rattle.index.specs.Search.{Built, pointed, settled-at, bound-of, pair-at, leaf-at, least-of, Ready}
 use Rattle.index.proofs.Bounding.{under-none, chosen, left-out, sound, first-in, first-le, bound-some, leaf-some, bounded, first-under}
 
 -- ---- room for the nodes
@@ -55,6 +55,34 @@ room-left n h z p k = le-trans (less (2 * n + 1) (2 ^ (h - 1))) (room-right n h 
 
 one-less : (h : ℕ) → suc h - 1 ≡ h
 one-less h = omega arith
+
+-- ---- whether a node's directions are one
+
+module _ (w : List ℕ) (t n : ℕ) where
+  pub point-first : (getD w (t + 5 * n) 0 ≡ getD w (t + 5 * n + 2) 0 → ⊥) → false ≡ pointed w t n
+  unfolding pointed
+  point-first h = ap (λ (b : Bool). b && eqb (getD w (t + 5 * n + 1) 0) (getD w (t + 5 * n + 3) 0)) (sym (ne-eqb _ _ h))
+
+  pub point-second : getD w (t + 5 * n) 0 ≡ getD w (t + 5 * n + 2) 0 → eqb (getD w (t + 5 * n + 1) 0) (getD w (t + 5 * n + 3) 0) ≡ pointed w t n
+  unfolding pointed
+  point-second h = ap (λ (b : Bool). b && eqb (getD w (t + 5 * n + 1) 0) (getD w (t + 5 * n + 3) 0)) (sym (eq-eqb _ _ h))
+
+  module _ (d : ℕ) (ax ay : Float) (own e : ℕ) where
+    pub settled-one : {v : ℕ} {b : Bool} → v ≡ pair-at (directionAt w d) (pieceAt w d) ax ay own e → b ≡ pointed w t n → b ≡ true → v ≡ settled-at w d t ax ay own n e
+    unfolding settled-at
+    settled-one p q r = p ∙ ap (λ (z : Bool). cond z (pair-at (directionAt w d) (pieceAt w d) ax ay own e) none) (sym r ∙ q)
+
+    pub settled-none : {v : ℕ} {b : Bool} → v ≡ none → b ≡ pointed w t n → b ≡ false → v ≡ settled-at w d t ax ay own n e
+    unfolding settled-at
+    settled-none p q r = p ∙ ap (λ (z : Bool). cond z (pair-at (directionAt w d) (pieceAt w d) ax ay own e) none) (sym r ∙ q)
+
+    pub settled-either : {v : ℕ} → v ≡ settled-at w d t ax ay own n e → (v ≡ none) ⊎ (v ≡ pair-at (directionAt w d) (pieceAt w d) ax ay own e)
+    unfolding settled-at
+    settled-either {v} p = go (pointed w t n) p
+      where
+        go : (b : Bool) → v ≡ cond b (pair-at (directionAt w d) (pieceAt w d) ax ay own e) none → (v ≡ none) ⊎ (v ≡ pair-at (directionAt w d) (pieceAt w d) ax ay own e)
+        go true q = inr q
+        go false q = inl q
 
 -- ---- what the search asks, at a node and at its children
 

@@ -2,10 +2,10 @@
 -- directions, `piece` their piece numbers.
 use Prim.Native.Nat.{ℕ, zero, suc, _+_, _*_, _^_, _≤_, _<_, min}
 use mathlib.Core.Path.{_≡_}
-use mathlib.Core.Bool.{cond}
+use mathlib.Core.Bool.{Bool, cond, _&&_}
 use mathlib.Core.List.{List}
 use mathlib.Core.Logic.{_⊎_}
-use lib.ListN.{length}
+use lib.ListN.{length, getD}
 use lib.Dec.{T, eqb}
 use lib.Ieee.{Float}
 use lib.Ieee.Scale.{finite}
@@ -57,6 +57,14 @@ module _ (way : ℕ → Direction) (piece : ℕ → ℕ) (ax ay : Float) (own : 
   least-of N h n = least (leaf-at N) h n
 
 -- ---- over the words of a workspace
+
+-- all directions below node n are one, bit for bit, but for a zero's sign: each side of its box has one number at both ends
+unfoldable pub pointed : List ℕ → ℕ → ℕ → Bool
+pointed w t n = eqb (getD w (t + 5 * n) 0) (getD w (t + 5 * n + 2) 0) && eqb (getD w (t + 5 * n + 1) 0) (getD w (t + 5 * n + 3) 0)
+
+-- the place of the pair with end e where that is so, and else none
+unfoldable pub settled-at : List ℕ → ℕ → ℕ → Float → Float → ℕ → ℕ → ℕ → ℕ
+settled-at w d t ax ay own n e = cond (pointed w t n) (pair-at (directionAt w d) (pieceAt w d) ax ay own e) none
 
 -- what the search asks: the tree below n, and a direction that is finite
 pub record Ready (w : List ℕ) (d t : ℕ) (ax ay : Float) (h n : ℕ) : Type 0 where

@@ -3,14 +3,13 @@ use bounds::Bounds;
 use rules::Direction;
 use tree::Place;
 ghost use mathlib.Core.Path.{_≡_};
-ghost use mathlib.Core.Logic.{_⊎_};
 ghost use Prim.Native.Nat.{_+_, _*_, _<_, _≤_, min};
 ghost use lib.ListN.{length};
 ghost use Rattle.bounds.specs.Box.{Sound};
-ghost use Rattle.tree.specs.Places.{worth, gone, none};
+ghost use Rattle.tree.specs.Places.{worth, gone};
 ghost use Rattle.ends.specs.Ends.{Room, directionAt, pieceAt};
 ghost use Rattle.index.specs.Nodes.{node-at, Has, Children, Puts, Renews, Leaves, Joins, Whole, Removes};
-ghost use Rattle.index.specs.Search.{bound-of, pair-at, Ready, Finds};
+ghost use Rattle.index.specs.Search.{pointed, settled-at, bound-of, pair-at, Ready, Finds};
 ghost use Rattle.index.specs.Index.{Query, Answers};
 
 // The index of no end.
@@ -105,6 +104,7 @@ fn reach(w: &[u64], t: usize, n: usize, ax: f64, ay: f64) -> Place
 // Whether all directions below node n are one, bit for bit, but for a zero's sign.
 fn is_point(w: &[u64], t: usize, n: usize) -> bool
     requires { ⌜ t + 5 * n + 4 < length (now w) ⌝ }
+    ensures { λ r. ⌜ r ≡ pointed (now (w .entry)) t n ⌝ }
 {
     let k = t + 5 * n;
     if w[k] != w[k + 2] {
@@ -131,7 +131,7 @@ fn pair_with(w: &[u64], d: usize, ax: f64, ay: f64, own: u64, e: u64) -> Place
 // The pair with the first end below node n, where all directions there are one, so that it may be the first of all.
 fn settled(w: &[u64], d: usize, t: usize, ax: f64, ay: f64, own: u64, n: usize, e: u64) -> Place
     requires { ⌜ Room (now w) d × (e < d) × (t + 5 * n + 4 < length (now w)) ⌝ }
-    ensures { λ r. ⌜ (worth r ≡ none) ⊎ (worth r ≡ pair-at (directionAt (now (w .entry)) d) (pieceAt (now (w .entry)) d) ax ay own e) ⌝ }
+    ensures { λ r. ⌜ worth r ≡ settled-at (now (w .entry)) d t ax ay own n e ⌝ }
 {
     if is_point(w, t, n) {
         return pair_with(w, d, ax, ay, own, e);

@@ -2,26 +2,26 @@
 use Prim.Native.Nat.{ℕ, _+_, _-_, _*_, _^_, _≤_, _<_}
 use mathlib.Core.Path.{_≡_, refl, sym, _∙_, ap, subst}
 use mathlib.Core.List.{List, [], _∷_}
-use mathlib.Core.Bool.{Bool, cond}
+use mathlib.Core.Bool.{Bool, true, false, cond}
 use native.Mathlib.Omega.{arith}
 use lib.Dec.{ltb}
 use lib.ListN.{length, getD, take, drop, replicate}
-use lib.Seq.{slice, length-slice}
+use lib.Seq.{slice}
 use Rattle.rules.specs.Selecting.{End}
 use Rattle.selecting.specs.Ends.{endAt, nodeOf}
 use Rattle.selecting.specs.Owners.{AtMostTwice}
 use Rattle.selecting.specs.Ranked.{select, none as nobody}
 use Rattle.selecting.specs.Taking.{listed}
-use Rattle.selecting.proofs.Laws.{in-candidates, select-stop}
 use Rattle.slices.specs.Holds.{HoldsFrom}
 use Rattle.slices.proofs.Laws.{from-length, from-part, from-below, from-beyond}
-use Rattle.ends.specs.Ends.{Room, Selected, endsIn}
-use Rattle.ends.proofs.Reading.{ends-in-length}
+use Rattle.ends.specs.Ends.{Room, Selected, directionAt, endsIn}
 use Rattle.tree.specs.Words.{Changes}
 use Rattle.tree.proofs.Words.{changes-then, changes-wider}
 use Rattle.tree.proofs.Flat.{kept-same}
 use Rattle.bounds.specs.Box.{union-of, Sound}
 use Rattle.index.specs.Nodes as index
+use Rattle.around.specs.Around.{Every, around-of, beyond-of}
+use Rattle.around.proofs.Nothing.{finite-tame, apart-none}
 use Rattle.index.specs.Index.{leaf-of, Indexed, Finite}
 use Rattle.heap.specs.Heap.{node-at}
 use Rattle.owners.specs.Tables.{order-at}
@@ -99,28 +99,14 @@ module _ {w : List ℕ} {d base height slots limit : ℕ} (e : base ≡ 2 ^ heig
 
 -- ---- the whole
 
--- no end, no pair
-pub none-selected : (w : List ℕ) (d limit : ℕ) → Room w d → d ≡ 0 → Selected w d limit 0 w
-none-selected w d limit r e =
-    record {
-      count = sym (ap length empty);
-      pairs = short ∙ sym (ap listed empty ∙ (unfold listed in refl));
-      kept = refl;
-      beyond = refl;
-    }
-  where
-    empty : select (nodeOf (endsIn w d)) limit ≡ []
-    empty =
-        (unfold select in
-        select-stop (nodeOf (endsIn w d)) limit nobody (λ q m.
-        absurd (omega (arith, in-candidates (nodeOf (endsIn w d)) limit q m .0 .below, ends-in-length w d (omega (arith, r .long)), e))))
+-- each direction is beyond the box around all of them: no pair
+pub none-selected : {w : List ℕ} {d limit : ℕ} {r : Bool} → Asks w d limit → Every (λ e. beyond-of (around-of (directionAt w d) d) limit (directionAt w d e)) d r → r ≡ true
+    → Selected w d limit 0 w
+none-selected {w} {d} {limit} x s told = apart-none (x .room) limit (finite-tame (x .room) (x .finite-ends)) (s .yes told)
 
-    nothing : (l : List ℕ) → length l ≡ 0 → l ≡ []
-    nothing [] h = refl
-    nothing (x ∷ l) h = absurd (omega arith)
-
-    short : slice (d * 4) (d * 4 + 0 * 2) w ≡ []
-    short = nothing (slice (d * 4) (d * 4 + 0 * 2) w) (length-slice (d * 4) (d * 4 + 0 * 2) w (omega (arith, r .long)) ∙ omega arith)
+-- one is not: there is an end
+pub some-end : {p : ℕ → Bool} {d : ℕ} {r : Bool} → Every p d r → r ≡ false → d ≡ 0 → ⊥
+some-end s told e = let t = s .other told in absurd (omega (arith, t .1))
 
 -- the ends are those of a workspace whose words behind them were written
 pub selected-from : {w w₁ : List ℕ} {d limit r : ℕ} {w₂ : List ℕ} → Room w d → Changes w w₁ (d * 4) (d * 64) → Selected w₁ d limit r w₂ → Selected w d limit r w₂

@@ -257,7 +257,7 @@ pub fn indexed(w: &mut [u64], d: usize, limit: u64) -> usize
     requires { ⌜ Asks (now w) d limit ⌝ }
     ensures { λ r. ⌜ Selected (now (w .entry)) d limit r (now (w .exit)) ⌝ }
 {
-    if d == 0 {
+    if around::apart(w, d, limit) {
         return 0;
     }
     let a = tree_for(d);

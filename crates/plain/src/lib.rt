@@ -245,5 +245,8 @@ pub fn plain(w: &mut [u64], d: usize, limit: f64) -> usize
     if d <= BLOCK {
         return few(w, d, limit);
     }
+    if around::idle(w, d, order::key(limit)) {
+        return 0;
+    }
     many(w, d, limit)
 }

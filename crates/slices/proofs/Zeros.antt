@@ -28,6 +28,20 @@ blank-more w i k any b e j h =
       | no l ↦ let s : j ≡ k = omega arith in ap (λ (x : ℕ). getD w (i + x) 0) s ∙ or-none any (getD w (i + k) 0) e .1
     ]
 
+-- one of k numbers from i on is not zero
+abbrev pub Other : List ℕ → ℕ → ℕ → Type 0
+Other w i k = (j : ℕ) × (j < k) × (getD w (i + j) 0 ≡ 0 → ⊥)
+
+or-left-none : (a b : ℕ) → a ≡ 0 → bitOr a b ≡ b
+or-left-none a b e = omega (arith, or-add-and a b, and-le-l a b, and-le-r a b)
+
+pub other-more : (w : List ℕ) (i k any : ℕ) → ((any ≡ 0 → ⊥) → Other w i k) → (bitOr any (getD w (i + k) 0) ≡ 0 → ⊥) → Other w i (k + 1)
+other-more w i k any b e =
+    elim (decLt 0 any) [
+      | yes l ↦ let t = b (λ z. absurd (omega arith)) in (t .0, omega (arith, t .1), t .2)
+      | no l ↦ let s : any ≡ 0 = omega arith in (k, omega arith, λ z. e (or-left-none any (getD w (i + k) 0) s ∙ z))
+    ]
+
 zero-run : (l : List ℕ) (k : ℕ) → k ≤ length l → ((j : ℕ) → j < k → getD l j 0 ≡ 0) → l ≡ replicate k 0 ++ drop k l
 zero-run l zero h z = refl
 zero-run [] (suc k) h z = absurd (not-suc-le-zero h)

@@ -3,12 +3,12 @@
 ghost use mathlib.Core.Path.{_≡_};
 ghost use mathlib.Core.Bool.{true, false};
 ghost use mathlib.Core.List.{[], _∷_};
-ghost use Prim.Native.Nat.{ℕ, _+_, _≤_, _<_};
-ghost use lib.ListN.{length, take, getD, replicate};
+ghost use Prim.Native.Nat.{_+_, _≤_, _<_};
+ghost use lib.ListN.{length, take, replicate};
 ghost use lib.Seq.{slice};
 ghost use Rattle.rules.specs.Plane.{point, points, equal};
 ghost use Rattle.rules.specs.Calls.{cleared};
-ghost use Rattle.slices.specs.Holds.{Holds, HoldsFrom};
+ghost use Rattle.slices.specs.Holds.{Holds, HoldsFrom, Blanks};
 ghost use Rattle.slices.specs.Run.{laid, walked};
 
 // From so many numbers on a room is more than the nearest cache, and beyond so many more than the next one.
@@ -121,7 +121,7 @@ pub fn fill_from(w: &mut [u64], at: usize, n: usize, v: u64)
 // Whether the eight numbers from i on are zero.
 fn blank(w: &[u64], i: usize) -> bool
     requires { ⌜ i + 8 ≤ length (now w) ⌝ }
-    ensures { λ r. ⌜ (r ≡ true → (j : ℕ) → j < 8 → getD (now (w .entry)) (i + j) 0 ≡ 0) ⌝ }
+    ensures { λ r. ⌜ Blanks (now (w .entry)) i 8 r ⌝ }
 {
     let mut any: u64 = 0;
     let mut k: usize = 0;
@@ -146,7 +146,7 @@ fn wipe(w: &mut [u64], i: usize)
 // Zero in the first n numbers, but for fewer than eight at the end. Returns how many are zero.
 fn wipe_all(w: &mut [u64], n: usize) -> usize
     requires { ⌜ n ≤ length (now w) ⌝ }
-    ensures { λ r. ⌜ (r ≤ n) × HoldsFrom (now (w .exit)) (now (w .entry)) 0 r (replicate r 0) ⌝ }
+    ensures { λ r. ⌜ (r ≤ n) × (n < r + 8) × HoldsFrom (now (w .exit)) (now (w .entry)) 0 r (replicate r 0) ⌝ }
 {
     let mut i = 0;
     while i + 8 <= n {

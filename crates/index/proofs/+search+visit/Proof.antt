@@ -8,7 +8,7 @@ use mathlib.Core.Path.{ap}
 use Prim.Native.Nat.{min}
 use mathlib.Core.Path.{_∙_}
 use Rattle.tree.specs.Places.{worth, gone}
-use Rattle.index.proofs.Steps.{has, ready-left, ready-right, tie-below, leaf-pair, at-bound, passed-over, both-ways, both-turned, test-before, test-after, test-same}
+use Rattle.index.proofs.Steps.{has, ready-left, ready-right, tie-below, leaf-pair, settled-either, at-bound, passed-over, both-ways, both-turned, test-before, test-after, test-same}
 use Prim.Native.Nat.{ℕ, _<_}
 use borrow.Fn.Kinds.{In}
 use borrow.Fn.PlainCycle.{Measures, is, falls, and}
@@ -108,7 +108,7 @@ search-same-requires t c κs = tt
 search-returns-2 : (t : ℕ) → search-lts.Need-returns-2 (learnt t) (search-at t) search′.Post
 search-returns-2 t c =
     let a = c .before .before .before .before .before in
-    at-bound (a .pre .1 .0) (a .args .own) _ _ _ _ (small t a .0) (small t a .1) (a .pre .1 .1) (a .pre .1 .2) _ (c .before .before .settled .ensures) (test-same _ _ (c .before .same .ensures) (c .if2 .taken))
+    at-bound (a .pre .1 .0) (a .args .own) _ _ _ _ (small t a .0) (small t a .1) (a .pre .1 .1) (a .pre .1 .2) _ (settled-either (a .args .w .now) (a .args .t) (a .args .n) (a .args .d) (a .args .ax) (a .args .ay) (a .args .own) (a .args .at .tie) (c .before .before .settled .ensures)) (test-same _ _ (c .before .same .ensures) (c .if2 .taken))
 
 -- src/lib.rt:165:13
 search-mul-l : (t : ℕ) → search-lts.Need-mul-l (learnt t) (search-at t) search′.Post

@@ -1,33 +1,27 @@
-use mathlib.Core.Logic.{inl, inr}
+-- `index::settled` meets its contract: the pair with the end where the directions are one, and else none.
 use borrow.Author.Needs.{needs}
+use Rattle.index.proofs.Steps.{settled-one, settled-none}
 use Rattle.index.proofs.settled.Statement.{statement}
 use Rattle.index.proofs.settled.Tie as tie
-use Rattle.index.proofs.settled.Reads as reads
-use Rattle.index.proofs.settled.Lts as lts
-use Rattle.index.proofs.is_point.Reads as is-point-reads
-use Rattle.index.proofs.pair_with.Reads as pair-with-reads
-use Rattle.tree.proofs.Place.none.Reads as none-reads
 
--- src/lib.rt:136:8
 is-point-requires : tie.Need-is-point-requires
 is-point-requires c κs = search needs
 
--- src/lib.rt:137:9
 pair-with-requires : tie.Need-pair-with-requires
 pair-with-requires c κs = search needs
 
--- src/lib.rt:137:9
 returns : tie.Need-returns
-returns c = inr (c .pair-with .ensures)
+returns c =
+    let a = c .before .before .before .before .args in
+    settled-one (a .w .now) (a .t) (a .n) (a .d) (a .ax) (a .ay) (a .own) (a .e) (c .pair-with .ensures) (c .before .before .is-point .ensures) (c .before .if1 .taken)
 
--- src/lib.rt:139:5
 none-requires : tie.Need-none-requires
 none-requires c κs = search needs
 
--- src/lib.rt:132:1
 returns-2 : tie.Need-returns-2
-returns-2 c = inl (c .none .ensures)
+returns-2 c =
+    let a = c .before .before .before .before .args in
+    settled-none (a .w .now) (a .t) (a .n) (a .d) (a .ax) (a .ay) (a .own) (a .e) (c .none .ensures) (c .before .before .is-point .ensures) (c .before .if1 .left)
 
 pub settled-spec : {M : Type 1} → statement M
-settled-spec =
-    tie.close (tie.spec is-point-requires pair-with-requires returns none-requires returns-2)
+settled-spec = tie.close (tie.spec is-point-requires pair-with-requires returns none-requires returns-2)

@@ -1,67 +1,78 @@
-use mathlib.Core.Path.{_≡_, refl, sym, _∙_, ap}
+-- `indexed::indexed` meets its contract: where each direction is beyond the box around all there is no pair; else the ends are arranged, the index and the
+-- heap are built, and the pairs are chosen from them.
+use mathlib.Core.Path.{_≡_, refl, _∙_}
 use native.Mathlib.Omega.{arith}
-use Rattle.indexed.proofs.Beginning.{none-selected, cleared-room, begins, selected}
-use borrow.Author.Needs.{needs}
+use Rattle.indexed.proofs.Beginning.{none-selected, some-end, cleared-room, begins, selected}
 use Rattle.indexed.proofs.indexed.Statement.{statement}
 use Rattle.indexed.proofs.indexed.Tie as tie
-use Rattle.indexed.proofs.indexed.Reads as reads
-use Rattle.indexed.proofs.indexed.Lts as lts
-use Rattle.indexed.proofs.arrange.Reads as arrange-reads
-use Rattle.indexed.proofs.begin.Reads as begin-reads
-use Rattle.indexed.proofs.choose.Reads as choose-reads
-use Rattle.indexed.proofs.tree_for.Reads as tree-for-reads
-use Rattle.slices.proofs.fill_from.Reads as fill-from-reads
 
--- src/lib.rt:251:9
+apart-requires : tie.Need-apart-requires
+apart-requires c κs = c .before .before .pre .room
+
+same-length : tie.Need-same-length
+same-length c = refl
+
 returns : tie.Need-returns
-returns c = let a = c .before .before in none-selected (a .args .w .now) (a .args .d) (a .args .limit) (a .pre .room) (c .if1 .taken)
+returns c = none-selected (c .before .before .before .before .pre) (c .before .apart .ensures) (c .if1 .taken)
 
--- src/lib.rt:253:9
+-- ---- where one is not
+
+abbrev start : tie.Else1 → tie.Start
+start c = c .before .before .before .before
+
+some : (c : tie.Else1) → start c .args .d ≡ 0 → ⊥
+some c = some-end (c .before .apart .ensures) (c .if1 .left)
+
 tree-for-requires : tie.Need-tree-for-requires
-tree-for-requires c κs = c .before .before .pre .room .few
+tree-for-requires c κs = start c .pre .room .few
 
--- src/lib.rt:254:26
 mul-fill-from : tie.Need-mul-fill-from
-mul-fill-from c = omega (arith, c .before .before .before .before .pre .room .few)
+mul-fill-from c = omega (arith, start (c .before .before) .pre .room .few)
 
--- src/lib.rt:254:5
 fill-from-requires : tie.Need-fill-from-requires
-fill-from-requires c κs = omega (arith, c .before .before .before .before .pre .room .long)
+fill-from-requires c κs = omega (arith, start (c .before .before) .pre .room .long)
 
--- src/lib.rt:255:9
 arrange-requires : tie.Need-arrange-requires
-arrange-requires c κs = cleared-room (c .before .before .before .before .before .before .before .before .pre) (c .before .before .before .before .before .before .if1 .left) (c .before .before .before .fill-from .ensures)
+arrange-requires c κs =
+    let e = c .before .before .before .before .before .before in
+    cleared-room (start e .pre) (some e) (c .before .before .before .fill-from .ensures)
 
--- src/lib.rt:256:9
 tree-for-requires-2 : tie.Need-tree-for-requires-2
-tree-for-requires-2 c κs = omega (arith, c .before .before .before .before .before .before .before .before .before .before .before .pre .room .few, c .before .before .arrange .ensures .0 .started .few)
+tree-for-requires-2 c κs =
+    let e = c .before .before .before .before .before .before .before .before .before in
+    omega (arith, start e .pre .room .few, c .before .before .arrange .ensures .0 .started .few)
 
--- src/lib.rt:260:5
 begin-requires : tie.Need-begin-requires
 begin-requires c κs =
-    let a = c .before .before .before .before .before .before .before .before .before .before .before .before .before in
+    let t = c .before .before .before .before .before .before .before .before .before .before in
     let z = c .before .before .before .before .arrange .ensures in
-    (c .before .before .before .before .before .before .before .before .before .before .tree-for .ensures .power, begins (a .pre) (c .before .before .before .before .before .before .before .before .before .before .before .if1 .left) (c .before .before .before .before .before .before .before .before .fill-from .ensures) (z .0) (z .1) (c .before .before .before .before .before .before .before .before .before .before .tree-for .ensures) (c .before .tree-for2 .ensures))
+    let e = t .before in
+    (t .tree-for .ensures .power, begins (start e .pre) (some e) (c .before .before .before .before .before .before .before .before .fill-from .ensures) (z .0) (z .1) (t .tree-for .ensures) (c .before .tree-for2 .ensures))
 
--- src/lib.rt:261:5
 choose-requires : tie.Need-choose-requires
-choose-requires c κs = (c .before .before .before .before .before .before .before .before .before .before .before .before .before .before .tree-for .ensures .power, c .before .before .before .begin .ensures .0)
+choose-requires c κs =
+    let t = c .before .before .before .before .before .before .before .before .before .before .before .before .before .before in
+    (t .tree-for .ensures .power, c .before .before .before .begin .ensures .0)
 
--- src/lib.rt:246:1
-same-length : tie.Need-same-length
-same-length c = c .before .before .choose .kept .0 ∙ c .before .before .before .before .before .before .begin .kept .0 ∙ c .before .before .before .before .before .before .before .before .before .before .before .arrange .kept .0 ∙ c .before .before .before .before .before .before .before .before .before .before .before .before .before .before .before .fill-from .kept .0
+same-length-2 : tie.Need-same-length-2
+same-length-2 c =
+    let a = c .before .before .before .before .before .before .before .before .before .before .before in
+    c .before .before .choose .kept .0 ∙ c .before .before .before .before .before .before .begin .kept .0 ∙ a .arrange .kept .0 ∙ a .before .before .before .before .fill-from .kept .0
 
--- src/lib.rt:246:1
 returns-2 : tie.Need-returns-2
 returns-2 c =
-    let a = c .before .before .before .before .before .before .before .before .before .before .before .before .before .before .before .before .before .before .before .before in
-    let z = c .before .before .before .before .before .before .before .before .before .before .before .arrange .ensures in
-    selected (a .pre) (c .before .before .before .before .before .before .before .before .before .before .before .before .before .before .before .before .before .before .if1 .left) (c .before .before .before .before .before .before .before .before .before .before .before .before .before .before .before .fill-from .ensures) (z .0) (z .1) (c .before .before .before .before .before .before .begin .ensures .1) (c .before .before .choose .ensures)
+    let a = c .before .before .before .before .before .before .before .before .before .before .before in
+    let f = a .before .before .before .before in
+    let e = f .before .before .before in
+    let z = a .arrange .ensures in
+    selected (start e .pre) (some e) (f .fill-from .ensures) (z .0) (z .1) (c .before .before .before .before .before .before .begin .ensures .1) (c .before .before .choose .ensures)
 
 pub indexed-spec : {M : Type 1} → statement M
 indexed-spec =
     tie.close
     (tie.spec
+    apart-requires
+    same-length
     returns
     tree-for-requires
     mul-fill-from
@@ -70,5 +81,5 @@ indexed-spec =
     tree-for-requires-2
     begin-requires
     choose-requires
-    same-length
+    same-length-2
     returns-2)

@@ -11,7 +11,7 @@ same-length : tie.Need-same-length
 same-length c = search needs
 
 returns : tie.Need-returns
-returns c = let s = c .before .before .before .before in blank-holds (s .args .w .now) (s .args .i) (s .pre) (c .before .blank .ensures (c .if1 .taken))
+returns c = let s = c .before .before .before .before in blank-holds (s .args .w .now) (s .args .i) (s .pre) (c .before .blank .ensures .zeros (c .if1 .taken))
 
 fill-from-requires : tie.Need-fill-from-requires
 fill-from-requires c κs = search needs

@@ -41,7 +41,7 @@ same-length : tie.Need-same-length Inv-loop μ-loop
 same-length c = omega arith
 
 returns : tie.Need-returns Inv-loop μ-loop
-returns c = (c .before .loop .inv .0, c .before .loop .inv .2)
+returns c = (c .before .loop .inv .0, omega arith, c .before .loop .inv .2)
 
 pub wipe-all-spec : {M : Type 1} → statement M
 wipe-all-spec = tie.close (tie.spec Inv-loop μ-loop loop-holds add-loop wipe-requires add-i loop-less loop-again same-length returns)

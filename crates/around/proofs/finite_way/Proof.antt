@@ -1,9 +1,9 @@
--- `chosen::finite_way` meets its contract, by the cases of the direction: both its numbers are looked at.
+-- `around::finite_way` meets its contract, by the cases of the direction: both its numbers are looked at.
 use borrow.Author.Needs.{needs}
 use borrow.Author.Tests.{not-true, not-false}
-use Rattle.chosen.proofs.finite_way.Statement.{statement}
-use Rattle.chosen.proofs.finite_way.Tie as tie
-use Rattle.chosen.proofs.Asking.{tame-absent, tame-first, tame-second}
+use Rattle.around.proofs.finite_way.Statement.{statement}
+use Rattle.around.proofs.finite_way.Tie as tie
+use Rattle.around.proofs.Scan.{tame-absent, tame-first, tame-second}
 
 enum-known-way : tie.Need-enum-known-way
 enum-known-way c = search needs
