@@ -179,7 +179,20 @@ fn emit_walks(
     }
 }
 
-// The members of one piece, `count` of them from `from` on, again from `at` on, and as many marks from `marks` on. Most pieces have one member.
+// Two members of one piece, from `from` on, again from `at` on, and their two marks from `marks` on.
+fn list_two(w: &mut [u64], from: usize, at: usize, marks: usize, mark: u64)
+    requires { ⌜ (at + 2 ≤ from) × (from + 2 ≤ length (now w)) × (marks + 2 ≤ length (now w)) ⌝ }
+    ensures { λ _. ⌜ Members (now (w .exit)) (now (w .entry)) from at marks 2 mark ⌝ }
+{
+    let first = w[from];
+    let second = w[from + 1];
+    w[at] = first;
+    w[at + 1] = second;
+    w[marks] = mark;
+    w[marks + 1] = mark;
+}
+
+// The members of one piece, `count` of them from `from` on, again from `at` on, and as many marks from `marks` on. Most pieces have one member or two.
 fn list_members(w: &mut [u64], from: usize, at: usize, marks: usize, count: usize, mark: u64)
     requires { ⌜ (at + count ≤ from) × (from + count ≤ length (now w)) × (marks + count ≤ length (now w)) ⌝ }
     ensures { λ _. ⌜ Members (now (w .exit)) (now (w .entry)) from at marks count mark ⌝ }
@@ -188,6 +201,10 @@ fn list_members(w: &mut [u64], from: usize, at: usize, marks: usize, count: usiz
         let line = w[from];
         w[at] = line;
         w[marks] = mark;
+        return;
+    }
+    if count == 2 {
+        list_two(w, from, at, marks, mark);
         return;
     }
     slices::copy_down(w, from, at, count);
