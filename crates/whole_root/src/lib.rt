@@ -2,7 +2,9 @@
 use bits;
 ghost use Prim.Native.Nat.{_+_, _*_, _^_, _≤_, _<_};
 ghost use mathlib.Core.Path.{_≡_};
-ghost use Rattle.whole_root.specs.Near.{Near};
+ghost use Rattle.bits.specs.Bits.{bitsOf};
+ghost use Rattle.whole_root.specs.Near.{Near, Settles};
+ghost use Rattle.whole_root.specs.Guess.{leading-of, guess-of};
 
 const UNIT: u64 = 4503599627370496; // 2^52
 
@@ -34,7 +36,7 @@ fn squared(r: u64) -> Square
 // The whole number nearest to the root of w * 2^52, where that is g or next to g. Elsewhere 0.
 fn settled(w: u64, g: u64) -> u64
     requires { ⌜ (0 < w) × (w < 2 ^ 54) × (2 ≤ g) × (g ≤ 2 ^ 53) ⌝ }
-    ensures { λ r. ⌜ (0 < r → Near (w * 2 ^ 52) r) ⌝ }
+    ensures { λ r. ⌜ Settles (w * 2 ^ 52) g r ⌝ }
 {
     let s = squared(g);
     let high = s.high;
@@ -61,7 +63,7 @@ fn settled(w: u64, g: u64) -> u64
 
 // The digits of a v from 1 to 2 as a whole number, v * 2^52: they are its bits. Elsewhere some number.
 fn leading(v: f64) -> u64
-    ensures { λ r. ⌜ (2 ≤ r) × (r ≤ 2 ^ 53) ⌝ }
+    ensures { λ r. ⌜ (r ≡ leading-of (bitsOf v)) × (2 ≤ r) × (r ≤ 2 ^ 53) ⌝ }
 {
     let n = bits::bits_of(v);
     if n < 0x3FE0_0000_0000_0002 {
@@ -77,7 +79,7 @@ fn leading(v: f64) -> u64
 // the fifth order from there, and what is left is one of Newton's.
 fn guess(w: u64) -> u64
     requires { ⌜ w < 2 ^ 54 ⌝ }
-    ensures { λ r. ⌜ (2 ≤ r) × (r ≤ 2 ^ 53) ⌝ }
+    ensures { λ r. ⌜ (r ≡ guess-of w) × (2 ≤ r) × (r ≤ 2 ^ 53) ⌝ }
 {
     let x = (w / 2) as f64 / 2251799813685248.0;
     let y = 0.6862915003646809 + x * 0.34314575018234034;

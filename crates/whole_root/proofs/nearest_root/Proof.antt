@@ -10,7 +10,7 @@ settled-requires : tie.Need-settled-requires
 settled-requires c κs = search needs
 
 returns : tie.Need-returns
-returns c = c .before .settled .ensures (c .if1 .taken)
+returns c = c .before .settled .ensures .near (c .if1 .taken)
 
 digits-requires : tie.Need-digits-requires
 digits-requires c κs = search needs

@@ -1,8 +1,10 @@
--- `whole_root::settled` meets its contract: the distance of the square from w * 2 ^ 52, which is exact, says whether g or a neighbour is nearest.
+-- `whole_root::settled` meets its contract: the distance of the square from w * 2 ^ 52, which is exact, says whether g or a neighbour is nearest,
+-- and which.
 use Prim.Native.Nat.{_+_, _-_, _*_, _^_}
 use native.Mathlib.Omega.{arith}
 use lib.Dec.{ltb, leb}
-use Rattle.whole_root.proofs.Exact.{apart, byte-le, moved}
+use Rattle.whole_root.proofs.Exact.{apart, byte-le}
+use Rattle.whole_root.proofs.Elsewhere.{root-above, root-beneath, beside}
 use borrow.Author.Needs.{needs}
 use Rattle.whole_root.proofs.settled.Statement.{statement}
 use Rattle.whole_root.proofs.settled.Tie as tie
@@ -14,7 +16,7 @@ add-if1 : tie.Need-add-if1
 add-if1 c = search needs
 
 returns : tie.Need-returns
-returns c = search needs
+returns c = root-beneath (c .before .before .pre .2) (omega arith)
 
 add-z : tie.Need-add-z
 add-z c = search needs
@@ -23,7 +25,7 @@ sub-z : tie.Need-sub-z
 sub-z c = search needs
 
 returns-2 : tie.Need-returns-2
-returns-2 c = search needs
+returns-2 c = root-above (omega arith)
 
 mul-e : tie.Need-mul-e
 mul-e c = search needs
@@ -38,7 +40,7 @@ add-if3 : tie.Need-add-if3
 add-if3 c = search needs
 
 returns-3 : tie.Need-returns-3
-returns-3 c = search needs
+returns-3 c = root-above (omega arith)
 
 mul-if4 : tie.Need-mul-if4
 mul-if4 c = search needs
@@ -47,7 +49,7 @@ add-if4 : tie.Need-add-if4
 add-if4 c = search needs
 
 returns-4 : tie.Need-returns-4
-returns-4 c = search needs
+returns-4 c = root-beneath (c .before .before .before .before .before .pre .2) (omega arith)
 
 add-up : tie.Need-add-up
 add-up c = search needs
@@ -81,7 +83,7 @@ returns-5 : tie.Need-returns-5
 returns-5 c =
     let s = c .before .before .before .before .squared in
     let start = c .before .before .before .before .before in
-    λ o. moved (apart (start .args .w) (start .args .g) (s .result .high) (s .result .low) (s .ensures .0) (s .ensures .1) (omega arith)) (start .pre .2) (c .before .if3 .left) (c .if4 .left)
+    beside (apart (start .args .w) (start .args .g) (s .result .high) (s .result .low) (s .ensures .0) (s .ensures .1) (omega arith)) (start .pre .2) (c .before .if3 .left) (c .if4 .left)
 
 pub settled-spec : {M : Type 1} → statement M
 settled-spec =
