@@ -61,7 +61,7 @@ fn settled(w: u64, g: u64) -> u64
     g + up - down
 }
 
-// The digits of a v from 1 to 2 as a whole number, v * 2^52: they are its bits. Elsewhere some number.
+// The digits of a v from 1 to 2 as a whole number, v * 2^52: they are its bits. Elsewhere 2.
 fn leading(v: f64) -> u64
     ensures { λ r. ⌜ (r ≡ leading-of (bitsOf v)) × (2 ≤ r) × (r ≤ 2 ^ 53) ⌝ }
 {
