@@ -2,11 +2,11 @@
 -- groups of one direction, and of each group the cursor; and the slots that owners have in the heap. An entry of d stands for none.
 use Prim.Native.Nat.{ℕ, _+_, _*_, _-_, _≤_, _<_}
 use mathlib.Core.Path.{_≡_}
-use mathlib.Core.Bool.{Bool, true, cond}
+use mathlib.Core.Bool.{Bool, true, cond, _&&_}
 use mathlib.Core.List.{List}
 use mathlib.Core.Logic.{_⊎_}
 use lib.ListN.{getD, length}
-use lib.Dec.{eqb}
+use lib.Dec.{eqb, ltb}
 use Rattle.rules.specs.Selecting.{End}
 use Rattle.ends.specs.Ends.{Room, endsIn}
 use Rattle.selecting.proofs.Owners.{There, Alike}
@@ -56,6 +56,11 @@ pub record Like (l : List End) (a e : ℕ) : Type 0 where
   pub first : There l a
   pub second : There l e
   pub alike : Alike l a e
+
+-- a and e, the lower first, are both present, and the two words of their directions agree
+unfoldable pub alike-at : List ℕ → ℕ → ℕ → ℕ → Bool
+alike-at w d a e =
+    eqb (getD w a 0) 1 && (eqb (getD w e 0) 1 && (eqb (getD w (d + a * 2) 0) (getD w (d + e * 2) 0) && (eqb (getD w (d + a * 2 + 1) 0) (getD w (d + e * 2 + 1) 0) && ltb a e)))
 
 -- The first n positions: a group is a run of ends of one direction that rise, and is named by the position of its first end.
 pub record Runs (l : List End) (order group : ℕ → ℕ) (n : ℕ) : Type 0 where

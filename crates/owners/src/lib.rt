@@ -2,12 +2,12 @@
 // together, and near directions near each other.
 use rules::Direction;
 ghost use mathlib.Core.Path.{_≡_};
-ghost use mathlib.Core.Bool.{true, cond};
+ghost use mathlib.Core.Bool.{cond};
 ghost use Prim.Native.Nat.{_+_, _*_, _<_, _≤_};
 ghost use lib.Dec.{eqb};
-ghost use Rattle.tree.specs.Words.{Changes};
-ghost use Rattle.ends.specs.Ends.{Room, endsIn};
-ghost use Rattle.owners.specs.Tables.{Like, Sorted, Grouped, Slotted, Groups, Due};
+ghost use Rattle.ends.specs.Ends.{Room};
+ghost use Rattle.owners.specs.Tables.{alike-at, Sorted, Grouped, Slotted, Groups, Due};
+ghost use Rattle.owners.specs.Angles.{size-of, angle-toward, angle-at, Keys};
 
 // The tables' places in the workspace, counted in ends.
 const TAKEN: usize = 5;
@@ -26,12 +26,16 @@ const SLOTS: usize = 13;
 const OWNERS: usize = 3;
 
 // The greater of x and -x.
-fn size(x: f64) -> f64 {
+fn size(x: f64) -> f64
+    ensures { λ r. ⌜ r ≡ size-of x ⌝ }
+{
     if x < 0.0 { 0.0 - x } else { x }
 }
 
 // Where a direction stands on the way round. Nothing but speed depends on it.
-fn angle(x: f64, y: f64) -> u64 {
+fn angle(x: f64, y: f64) -> u64
+    ensures { λ r. ⌜ r ≡ angle-toward x y ⌝ }
+{
     let t = x / (size(x) + size(y));
     if y < 0.0 {
         return order::key(3.0 + t);
@@ -42,6 +46,7 @@ fn angle(x: f64, y: f64) -> u64 {
 // The angle of end e; where it has no direction, one behind all others.
 fn angle_of(w: &[u64], d: usize, e: usize) -> u64
     requires { ⌜ Room (now w) d × (e < d) ⌝ }
+    ensures { λ r. ⌜ r ≡ angle-at (now (w .entry)) d e ⌝ }
 {
     let Direction::Toward(x, y) = ends::direction_at(w, d, e) else {
         return 18446744073709551615;
@@ -52,7 +57,7 @@ fn angle_of(w: &[u64], d: usize, e: usize) -> u64
 // The keys that the ends are sorted by: the angle, and then the direction's bits.
 pub fn keys(w: &mut [u64], d: usize)
     requires { ⌜ Room (now w) d ⌝ }
-    ensures { λ r. ⌜ Changes (now (w .entry)) (now (w .exit)) (d * 8) (d * 11) ⌝ }
+    ensures { λ r. ⌜ Keys (now (w .entry)) (now (w .exit)) d ⌝ }
 {
     let mut e = 0;
     while e < d {
@@ -69,7 +74,7 @@ pub fn keys(w: &mut [u64], d: usize)
 // Whether the ends a and e, the lower first, have one direction, bit for bit.
 fn alike(w: &[u64], d: usize, a: usize, e: usize) -> bool
     requires { ⌜ Room (now w) d × (a < d) × (e < d) ⌝ }
-    ensures { λ r. ⌜ (r ≡ true → Like (endsIn (now (w .entry)) d) a e) ⌝ }
+    ensures { λ r. ⌜ r ≡ alike-at (now (w .entry)) d a e ⌝ }
 {
     if w[a] != 1 {
         return false;

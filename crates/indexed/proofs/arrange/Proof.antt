@@ -60,11 +60,11 @@ part-positions-end c = search needs
 
 -- src/lib.rt:66:5
 positions-requires : tie.Need-positions-requires
-positions-requires c κs = let a = c .before .before .before .before .before .before .before .before .before .before in part-permuted _ _ (a .args .d) (room-kept (c .before .before .before .before .before .before .before .keys .ensures) (a .pre)) (c .before .before .before .sort-ends .ensures)
+positions-requires c κs = let a = c .before .before .before .before .before .before .before .before .before .before in part-permuted _ _ (a .args .d) (room-kept (c .before .before .before .before .before .before .before .keys .ensures .kept) (a .pre)) (c .before .before .before .sort-ends .ensures)
 
 -- src/lib.rt:67:5
 groups-requires : tie.Need-groups-requires
-groups-requires c κs = let a = c .before .before .before .before .before .before .before .before .before .before .before .before .before .before in part-sorted _ _ (a .args .d) (room-kept (c .before .before .before .before .before .before .before .before .before .before .before .keys .ensures) (a .pre)) (c .before .before .before .before .before .before .before .sort-ends .ensures) (c .before .before .before .positions .ensures)
+groups-requires c κs = let a = c .before .before .before .before .before .before .before .before .before .before .before .before .before .before in part-sorted _ _ (a .args .d) (room-kept (c .before .before .before .before .before .before .before .before .before .before .before .keys .ensures .kept) (a .pre)) (c .before .before .before .before .before .before .before .sort-ends .ensures) (c .before .before .before .positions .ensures)
 
 -- src/lib.rt:59:1
 same-length : tie.Need-same-length
@@ -75,10 +75,10 @@ returns : tie.Need-returns
 returns c =
     let a = c .before .before .before .before .before .before .before .before .before .before .before .before .before .before .before .before .before in
     let d = a .args .d in
-    let room = room-kept (c .before .before .before .before .before .before .before .before .before .before .before .before .before .before .keys .ensures) (a .pre) in
+    let room = room-kept (c .before .before .before .before .before .before .before .before .before .before .before .before .before .before .keys .ensures .kept) (a .pre) in
     let g = c .before .before .groups .ensures in (
       arranged (part-sorted _ _ d room (c .before .before .before .before .before .before .before .before .before .before .sort-ends .ensures) (c .before .before .before .before .before .before .positions .ensures)) g,
-      changes-then (changes-wider (d * 6) (d * 14) (omega arith) (omega arith) (c .before .before .before .before .before .before .before .before .before .before .before .before .before .before .keys .ensures))
+      changes-then (changes-wider (d * 6) (d * 14) (omega arith) (omega arith) (c .before .before .before .before .before .before .before .before .before .before .before .before .before .before .keys .ensures .kept))
           (changes-then (changes-wider (d * 6) (d * 14) (omega arith) (omega arith) (part-changes _ _ d room (c .before .before .before .before .before .before .before .before .before .before .sort-ends .ensures) (c .before .before .before .before .before .before .positions .ensures)))
           (changes-wider (d * 6) (d * 14) (omega arith) (omega arith) (g .kept))),
     )

@@ -1,7 +1,5 @@
-use mathlib.Core.Path.{sym}
-use mathlib.Core.Bool.{true≢false}
-use borrow.Author.Tests.{ltb-true}
-use Rattle.owners.proofs.Turns.{like}
+-- `alike` answers whether two ends have one direction: the first test that fails decides, and where none does the numbers do.
+use Rattle.owners.proofs.Likeness.{first-absent, second-absent, first-differs, second-differs, lower-decides}
 use borrow.Author.Needs.{needs}
 use Rattle.owners.proofs.alike.Statement.{statement}
 use Rattle.owners.proofs.alike.Tie as tie
@@ -18,7 +16,9 @@ shared-slice-read-if1 c = search needs
 
 -- src/lib.rt:90:9
 returns : tie.Need-returns
-returns c = λ h. absurd (true≢false (sym h))
+returns c =
+    let a = c .before .before .args in
+    first-absent (a .w .now) (a .d) (a .a) (a .e) (c .if1 .taken)
 
 -- src/lib.rt:92:8
 mul-if2 : tie.Need-mul-if2
@@ -30,7 +30,9 @@ shared-slice-read-if2 c = search needs
 
 -- src/lib.rt:93:9
 returns-2 : tie.Need-returns-2
-returns-2 c = λ h. absurd (true≢false (sym h))
+returns-2 c =
+    let a = c .before .before .before .before .args in
+    second-absent (a .w .now) (a .d) (a .a) (a .e) (c .before .before .if1 .left) (c .if2 .taken)
 
 -- src/lib.rt:95:14
 mul-if3 : tie.Need-mul-if3
@@ -66,7 +68,9 @@ shared-slice-read-if3-2 c = search needs
 
 -- src/lib.rt:96:9
 returns-3 : tie.Need-returns-3
-returns-3 c = λ h. absurd (true≢false (sym h))
+returns-3 c =
+    let a = c .before .before .before .before .before .before .before .args in
+    first-differs (a .w .now) (a .d) (a .a) (a .e) (c .before .before .before .before .before .if1 .left) (c .before .before .before .if2 .left) (c .if3 .taken)
 
 -- src/lib.rt:98:14
 mul-if4 : tie.Need-mul-if4
@@ -110,13 +114,15 @@ shared-slice-read-if4-2 c = search needs
 
 -- src/lib.rt:99:9
 returns-4 : tie.Need-returns-4
-returns-4 c = λ h. absurd (true≢false (sym h))
+returns-4 c =
+    let a = c .before .before .before .before .before .before .before .before .before .before .args in
+    second-differs (a .w .now) (a .d) (a .a) (a .e) (c .before .before .before .before .before .before .before .before .if1 .left) (c .before .before .before .before .before .before .if2 .left) (c .before .before .before .if3 .left) (c .if4 .taken)
 
 -- src/lib.rt:85:1
 returns-5 : tie.Need-returns-5
 returns-5 c =
-    let a = c .before .before .before .before .before .before .before .before .before .before in
-    λ h. like (a .args .w .now) (a .args .d) (a .pre .0) (a .args .a) (a .args .e) (a .pre .1) (a .pre .2) (c .before .before .before .before .before .before .before .before .if1 .left) (c .before .before .before .before .before .before .if2 .left) (c .before .before .before .if3 .left) (c .if4 .left) (ltb-true (a .args .a) (a .args .e) h)
+    let a = c .before .before .before .before .before .before .before .before .before .before .args in
+    lower-decides (a .w .now) (a .d) (a .a) (a .e) (c .before .before .before .before .before .before .before .before .if1 .left) (c .before .before .before .before .before .before .if2 .left) (c .before .before .before .if3 .left) (c .if4 .left)
 
 pub alike-spec : {M : Type 1} → statement M
 alike-spec =

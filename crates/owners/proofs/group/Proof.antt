@@ -1,9 +1,11 @@
+-- `group` answers the position itself, or the group of the end before it, which is then of one direction with the end here.
 use Prim.Native.Nat.{_-_}
 use native.Mathlib.Omega.{arith}
-use mathlib.Core.Path.{refl}
+use mathlib.Core.Path.{refl, sym, _∙_}
 use mathlib.Core.Logic.{inl, inr}
 use native.Mathlib.Nat.{pos-of-ne-zero}
 use borrow.Author.Needs.{needs}
+use Rattle.owners.proofs.Likeness.{alike-like}
 use Rattle.owners.proofs.group.Statement.{statement}
 use Rattle.owners.proofs.group.Tie as tie
 use Rattle.owners.proofs.group.Reads as reads
@@ -72,7 +74,14 @@ shared-slice-read-result c = let a = c .before .before .before .before .before .
 
 -- src/lib.rt:116:9
 returns-2 : tie.Need-returns-2
-returns-2 c = inr (pos-of-ne-zero (c .before .before .before .before .before .if1 .left), refl, c .before .before .alike .ensures (c .before .if2 .taken))
+returns-2 c =
+    let s = c .before .before .before .before .before .before .before in
+    inr (
+      pos-of-ne-zero (c .before .before .before .before .before .if1 .left),
+      refl,
+      alike-like (s .args .w .now) (s .args .d) _ _ (s .pre .0 .room) (s .pre .0 .order .order-in (s .args .p - 1) (omega (arith, s .pre .1))) (s .pre .0 .order .order-in (s .args .p) (s .pre .1))
+          (sym (c .before .before .alike .ensures) ∙ c .before .if2 .taken),
+    )
 
 -- src/lib.rt:105:1
 returns-3 : tie.Need-returns-3

@@ -1,9 +1,9 @@
+-- `keys` writes the keys of the ends: those of the ends passed stand, and all before the keys is as it was.
 use native.Mathlib.Omega.{arith}
-use Prim.Native.Nat.{_-_, _+_, _*_, _≤_}
+use Prim.Native.Nat.{_-_}
 use lib.ListN.{length-set}
-use Rattle.tree.specs.Words.{Changes}
-use Rattle.tree.proofs.Words.{changes-none, changes-then, changes-set}
 use Rattle.owners.proofs.Turns.{room-kept}
+use Rattle.owners.proofs.Angles.{Keying, keying-start, keying-next, keying-stop}
 use Rattle.owners.proofs.keys.Statement.{statement}
 use Rattle.owners.proofs.keys.Tie as tie
 use Rattle.owners.proofs.keys.Reads as reads
@@ -11,14 +11,14 @@ use Rattle.owners.proofs.keys.Lts as lts
 use Rattle.owners.proofs.angle_of.Reads as angle-of-reads
 
 abbrev Inv-loop : tie.InvT-loop
-Inv-loop w₀ d e₀ w e = (e ≤ d) × Changes w₀ w (d * 8) (d * 11)
+Inv-loop w₀ d e₀ w e = Keying w₀ w d e
 
 abbrev μ-loop : tie.MeasureT-loop
 μ-loop w₀ d e₀ w e = d - e
 
 -- src/lib.rt:60:5
 loop-holds : tie.Need-loop-holds Inv-loop μ-loop
-loop-holds c = let a = c .before in (omega arith, changes-none (a .args .w .now) (a .args .d * 8) (a .args .d * 11))
+loop-holds c = let a = c .before in keying-start (a .args .w .now) (a .args .d)
 
 -- src/lib.rt:61:17
 mul-k : tie.Need-mul-k Inv-loop μ-loop
@@ -70,7 +70,7 @@ slice-read-y c = omega arith
 
 -- src/lib.rt:64:16
 angle-of-requires : tie.Need-angle-of-requires Inv-loop μ-loop
-angle-of-requires c κs = (room-kept (c .before .before .before .before .loop .inv .1) (c .before .before .before .before .before .before .pre), c .before .before .before .loop-test .taken)
+angle-of-requires c κs = (room-kept (c .before .before .before .before .loop .inv .kept) (c .before .before .before .before .before .before .pre), c .before .before .before .loop-test .taken)
 
 -- src/lib.rt:64:9
 mul-w : tie.Need-mul-w Inv-loop μ-loop
@@ -90,7 +90,7 @@ mul-w-2 c = omega arith
 
 -- src/lib.rt:65:9
 slice-write-w-2 : tie.Need-slice-write-w-2 Inv-loop μ-loop
-slice-write-w-2 c = simp length-set (omega (arith, c .before .before .before .before .before .before .before .pre .long, c .before .before .before .before .before .loop .inv .1 .long, c .before .before .before .before .loop-test .taken))
+slice-write-w-2 c = simp length-set (omega (arith, c .before .before .before .before .before .before .before .pre .long, c .before .before .before .before .before .loop .inv .kept .long, c .before .before .before .before .loop-test .taken))
 
 -- src/lib.rt:66:11
 add-w-2 : tie.Need-add-w-2 Inv-loop μ-loop
@@ -102,7 +102,7 @@ mul-w-3 c = omega arith
 
 -- src/lib.rt:66:9
 slice-write-w-3 : tie.Need-slice-write-w-3 Inv-loop μ-loop
-slice-write-w-3 c = simp length-set (omega (arith, c .before .before .before .before .before .before .before .pre .long, c .before .before .before .before .before .loop .inv .1 .long, c .before .before .before .before .loop-test .taken))
+slice-write-w-3 c = simp length-set (omega (arith, c .before .before .before .before .before .before .before .pre .long, c .before .before .before .before .before .loop .inv .kept .long, c .before .before .before .before .loop-test .taken))
 
 -- src/lib.rt:67:9
 add-e : tie.Need-add-e Inv-loop μ-loop
@@ -114,23 +114,15 @@ loop-less c = omega arith
 
 -- src/lib.rt:60:5
 loop-again : tie.Need-loop-again Inv-loop μ-loop
-loop-again c =
-    let a = c .before .before .before .before .before .before .before in
-    let k = a .args .d * 8 + c .before .before .before .before .before .loop .e * 3 in
-    let t = c .before .before .before .before .loop-test .taken in (
-      omega arith,
-      changes-then (c .before .before .before .before .before .loop .inv .1)
-          (changes-then (changes-set _ k _ (a .args .d * 8) (a .args .d * 11) (omega arith) (omega arith))
-          (changes-then (changes-set _ (k + 1) _ (a .args .d * 8) (a .args .d * 11) (omega arith) (omega arith)) (changes-set _ (k + 2) _ (a .args .d * 8) (a .args .d * 11) (omega arith) (omega arith)))),
-    )
+loop-again c = keying-next (c .before .before .before .before .before .before .before .pre) (c .before .before .before .before .before .loop .inv) (c .before .before .before .before .loop-test .taken) (c .angle-of .ensures)
 
 -- src/lib.rt:55:1
 same-length : tie.Need-same-length Inv-loop μ-loop
-same-length c = c .before .loop .inv .1 .long
+same-length c = c .before .loop .inv .kept .long
 
 -- src/lib.rt:55:1
 returns : tie.Need-returns Inv-loop μ-loop
-returns c = c .before .loop .inv .1
+returns c = keying-stop (c .before .loop .inv) (c .loop-test .left)
 
 pub keys-spec : {M : Type 1} → statement M
 keys-spec =
