@@ -1,14 +1,16 @@
 -- Two ends are alike where all tests of `alike-at` pass, and then they are `Like`. The first test that fails decides, and where the words agree the numbers do.
-use Prim.Native.Nat.{ℕ, _+_, _*_, _<_}
-use mathlib.Core.Path.{_≡_}
-use mathlib.Core.Bool.{true, false, _&&_}
+use Prim.Native.Nat.{ℕ, _+_, _-_, _*_, _<_}
+use mathlib.Core.Path.{_≡_, sym, ap, _∙_}
+use mathlib.Core.Bool.{Bool, true, false, cond, _&&_}
 use mathlib.Core.List.{List}
+use native.Mathlib.Nat.{pos-of-ne-zero}
+use native.Mathlib.Omega.{arith}
 use lib.Dec.{eqb, ltb}
 use lib.ListN.{getD}
-use borrow.Author.Tests.{eq-eqb, ne-eqb, eqb-true, ltb-true}
+use borrow.Author.Tests.{eq-eqb, ne-eqb, eqb-true, ltb-true, lt-ltb, le-ltb}
 use Rattle.selecting.proofs.Order.{and-left, and-right}
 use Rattle.ends.specs.Ends.{Room, endsIn}
-use Rattle.owners.specs.Tables.{Like, alike-at}
+use Rattle.owners.specs.Tables.{order-at, group-at, Like, alike-at, group-of}
 use Rattle.owners.proofs.Turns.{like}
 
 module _ (w : List ℕ) (d a e : ℕ) where
@@ -62,3 +64,23 @@ module _ (w : List ℕ) (d a e : ℕ) where
       (eqb-true (getD w (d + a * 2) 0) (getD w (d + e * 2) 0) (and-left x (y && ltb a e) past-second))
       (eqb-true (getD w (d + a * 2 + 1) 0) (getD w (d + e * 2 + 1) 0) (and-left y (ltb a e) past-x))
       (ltb-true a e (and-right y (ltb a e) past-x))
+
+-- ---- the group at a position
+
+module _ (w : List ℕ) (d p : ℕ) where
+  chosen : {b : Bool} → (ltb 0 p && alike-at w d (order-at w d (p - 1)) (order-at w d p)) ≡ b → cond b (group-at w d (order-at w d (p - 1))) p ≡ group-of w d p
+  unfolding group-of
+  chosen e = ap (λ (t : Bool). cond t (group-at w d (order-at w d (p - 1))) p) (sym e)
+
+  pub group-first : p ≡ 0 → 0 ≡ group-of w d p
+  group-first e = sym e ∙ chosen {b = false} (ap (λ (t : Bool). t && alike-at w d (order-at w d (p - 1)) (order-at w d p)) (le-ltb 0 p (omega arith)))
+
+  module _ (some : p ≡ 0 → ⊥) where
+    positive : {b : Bool} → alike-at w d (order-at w d (p - 1)) (order-at w d p) ≡ b → (ltb 0 p && alike-at w d (order-at w d (p - 1)) (order-at w d p)) ≡ b
+    positive e = ap (λ (t : Bool). t && alike-at w d (order-at w d (p - 1)) (order-at w d p)) (lt-ltb 0 p (pos-of-ne-zero some)) ∙ e
+
+    pub group-alike : {t : Bool} → t ≡ alike-at w d (order-at w d (p - 1)) (order-at w d p) → t ≡ true → group-at w d (order-at w d (p - 1)) ≡ group-of w d p
+    group-alike q e = chosen {b = true} (positive (sym q ∙ e))
+
+    pub group-own : {t : Bool} → t ≡ alike-at w d (order-at w d (p - 1)) (order-at w d p) → t ≡ false → p ≡ group-of w d p
+    group-own q e = chosen {b = false} (positive (sym q ∙ e))

@@ -69,7 +69,11 @@ pub record Runs (l : List End) (order group : ℕ → ℕ) (n : ℕ) : Type 0 wh
   pub rises : (p q : ℕ) → p ≤ q → q < n → group (order p) ≤ group (order q)
   pub alike : (p q : ℕ) → p < q → q < n → group (order p) ≡ group (order q) → Like l (order p) (order q)
 
--- the group of the end at position p: its predecessor's, or its own
+-- the group of the end at position p: its predecessor's where the two are alike, else its own
+unfoldable pub group-of : List ℕ → ℕ → ℕ → ℕ
+group-of w d p = cond (ltb 0 p && alike-at w d (order-at w d (p - 1)) (order-at w d p)) (group-at w d (order-at w d (p - 1))) p
+
+-- what that tells: an end of its predecessor's group has its direction
 abbrev pub Grouped : List ℕ → ℕ → ℕ → ℕ → Type 0
 Grouped w d p r = (r ≡ p) ⊎ ((0 < p) × (r ≡ group-at w d (order-at w d (p - 1))) × Like (endsIn w d) (order-at w d (p - 1)) (order-at w d p))
 

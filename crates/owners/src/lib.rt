@@ -6,7 +6,7 @@ ghost use mathlib.Core.Bool.{cond};
 ghost use Prim.Native.Nat.{_+_, _*_, _<_, _≤_};
 ghost use lib.Dec.{eqb};
 ghost use Rattle.ends.specs.Ends.{Room};
-ghost use Rattle.owners.specs.Tables.{alike-at, Sorted, Grouped, Slotted, Groups, Due};
+ghost use Rattle.owners.specs.Tables.{alike-at, group-of, Sorted, Grouped, Slotted, Groups, Due};
 ghost use Rattle.owners.specs.Angles.{size-of, angle-toward, angle-at, Keys};
 
 // The tables' places in the workspace, counted in ends.
@@ -94,7 +94,7 @@ fn alike(w: &[u64], d: usize, a: usize, e: usize) -> bool
 // The group of the end at position p, which is the position of the group's first end.
 fn group(w: &[u64], d: usize, p: usize) -> u64
     requires { ⌜ Sorted (now w) d × (p < d) ⌝ }
-    ensures { λ r. ⌜ Grouped (now (w .entry)) d p r ⌝ }
+    ensures { λ r. ⌜ (r ≡ group-of (now (w .entry)) d p) × Grouped (now (w .entry)) d p r ⌝ }
 {
     if p == 0 {
         return 0;

@@ -27,7 +27,7 @@ group-requires c κs = (grouping-sorted (c .before .before .before .before .pre)
 
 -- src/lib.rt:156:13
 slot-requires : tie.Need-slot-requires Inv-loop μ-loop
-slot-requires c κs = (grouping-sorted (c .before .before .before .before .before .before .pre) (c .before .before .before .before .loop .inv), c .before .before .before .loop-test .taken, grouping-low (c .before .before .before .before .before .before .pre) (c .before .before .before .before .loop .inv) (c .before .before .before .loop-test .taken) _ (c .before .group .ensures))
+slot-requires c κs = (grouping-sorted (c .before .before .before .before .before .before .pre) (c .before .before .before .before .loop .inv), c .before .before .before .loop-test .taken, grouping-low (c .before .before .before .before .before .before .pre) (c .before .before .before .before .loop .inv) (c .before .before .before .loop-test .taken) _ (c .before .group .ensures .1))
 
 -- src/lib.rt:157:19
 mul-e : tie.Need-mul-e Inv-loop μ-loop
@@ -43,39 +43,39 @@ mul-e-2 c = omega (arith, c .before .before .before .before .before .before .bef
 
 -- src/lib.rt:157:17
 slice-read-e : tie.Need-slice-read-e Inv-loop μ-loop
-slice-read-e c = omega (arith, c .before .before .before .before .before .before .before .before .pre .room .long, c .before .before .before .before .before .before .loop .inv .frame .long, grouping-in (c .before .before .before .before .before .before .before .before .pre) (c .before .before .before .before .before .before .loop .inv) (c .before .before .before .before .before .loop-test .taken) _ (c .before .before .before .group .ensures))
+slice-read-e c = omega (arith, c .before .before .before .before .before .before .before .before .pre .room .long, c .before .before .before .before .before .before .loop .inv .frame .long, grouping-in (c .before .before .before .before .before .before .before .before .pre) (c .before .before .before .before .before .before .loop .inv) (c .before .before .before .before .before .loop-test .taken) _ (c .before .before .before .group .ensures .1))
 
 -- src/lib.rt:158:11
 mul-w : tie.Need-mul-w Inv-loop μ-loop
-mul-w c = omega (arith, c .before .before .before .before .before .before .before .before .pre .room .long, c .before .before .before .before .before .before .loop .inv .frame .long, grouping-in (c .before .before .before .before .before .before .before .before .pre) (c .before .before .before .before .before .before .loop .inv) (c .before .before .before .before .before .loop-test .taken) _ (c .before .before .before .group .ensures))
+mul-w c = omega (arith, c .before .before .before .before .before .before .before .before .pre .room .long, c .before .before .before .before .before .before .loop .inv .frame .long, grouping-in (c .before .before .before .before .before .before .before .before .pre) (c .before .before .before .before .before .before .loop .inv) (c .before .before .before .before .before .loop-test .taken) _ (c .before .before .before .group .ensures .1))
 
 -- src/lib.rt:158:11
 add-w : tie.Need-add-w Inv-loop μ-loop
-add-w c = omega (arith, c .before .before .before .before .before .before .before .before .pre .room .long, c .before .before .before .before .before .before .loop .inv .frame .long, grouping-in (c .before .before .before .before .before .before .before .before .pre) (c .before .before .before .before .before .before .loop .inv) (c .before .before .before .before .before .loop-test .taken) _ (c .before .before .before .group .ensures))
+add-w c = omega (arith, c .before .before .before .before .before .before .before .before .pre .room .long, c .before .before .before .before .before .before .loop .inv .frame .long, grouping-in (c .before .before .before .before .before .before .before .before .pre) (c .before .before .before .before .before .before .loop .inv) (c .before .before .before .before .before .loop-test .taken) _ (c .before .before .before .group .ensures .1))
 
 -- src/lib.rt:158:9
 mul-w-2 : tie.Need-mul-w-2 Inv-loop μ-loop
-mul-w-2 c = omega (arith, c .before .before .before .before .before .before .before .before .pre .room .long, c .before .before .before .before .before .before .loop .inv .frame .long, grouping-in (c .before .before .before .before .before .before .before .before .pre) (c .before .before .before .before .before .before .loop .inv) (c .before .before .before .before .before .loop-test .taken) _ (c .before .before .before .group .ensures))
+mul-w-2 c = omega (arith, c .before .before .before .before .before .before .before .before .pre .room .long, c .before .before .before .before .before .before .loop .inv .frame .long, grouping-in (c .before .before .before .before .before .before .before .before .pre) (c .before .before .before .before .before .before .loop .inv) (c .before .before .before .before .before .loop-test .taken) _ (c .before .before .before .group .ensures .1))
 
 -- src/lib.rt:158:9
 slice-write-w : tie.Need-slice-write-w Inv-loop μ-loop
-slice-write-w c = omega (arith, c .before .before .before .before .before .before .before .before .pre .room .long, c .before .before .before .before .before .before .loop .inv .frame .long, grouping-in (c .before .before .before .before .before .before .before .before .pre) (c .before .before .before .before .before .before .loop .inv) (c .before .before .before .before .before .loop-test .taken) _ (c .before .before .before .group .ensures))
+slice-write-w c = omega (arith, c .before .before .before .before .before .before .before .before .pre .room .long, c .before .before .before .before .before .before .loop .inv .frame .long, grouping-in (c .before .before .before .before .before .before .before .before .pre) (c .before .before .before .before .before .before .loop .inv) (c .before .before .before .before .before .loop-test .taken) _ (c .before .before .before .group .ensures .1))
 
 -- src/lib.rt:159:31
 add-w-2 : tie.Need-add-w-2 Inv-loop μ-loop
-add-w-2 c = omega (arith, c .before .before .before .before .before .before .before .before .pre .room .long, c .before .before .before .before .before .before .loop .inv .frame .long, grouping-in (c .before .before .before .before .before .before .before .before .pre) (c .before .before .before .before .before .before .loop .inv) (c .before .before .before .before .before .loop-test .taken) _ (c .before .before .before .group .ensures))
+add-w-2 c = omega (arith, c .before .before .before .before .before .before .before .before .pre .room .long, c .before .before .before .before .before .before .loop .inv .frame .long, grouping-in (c .before .before .before .before .before .before .before .before .pre) (c .before .before .before .before .before .before .loop .inv) (c .before .before .before .before .before .loop-test .taken) _ (c .before .before .before .group .ensures .1))
 
 -- src/lib.rt:159:11
 mul-w-3 : tie.Need-mul-w-3 Inv-loop μ-loop
-mul-w-3 c = omega (arith, c .before .before .before .before .before .before .before .before .pre .room .long, c .before .before .before .before .before .before .loop .inv .frame .long, grouping-in (c .before .before .before .before .before .before .before .before .pre) (c .before .before .before .before .before .before .loop .inv) (c .before .before .before .before .before .loop-test .taken) _ (c .before .before .before .group .ensures))
+mul-w-3 c = omega (arith, c .before .before .before .before .before .before .before .before .pre .room .long, c .before .before .before .before .before .before .loop .inv .frame .long, grouping-in (c .before .before .before .before .before .before .before .before .pre) (c .before .before .before .before .before .before .loop .inv) (c .before .before .before .before .before .loop-test .taken) _ (c .before .before .before .group .ensures .1))
 
 -- src/lib.rt:159:11
 add-w-3 : tie.Need-add-w-3 Inv-loop μ-loop
-add-w-3 c = omega (arith, c .before .before .before .before .before .before .before .before .pre .room .long, c .before .before .before .before .before .before .loop .inv .frame .long, grouping-in (c .before .before .before .before .before .before .before .before .pre) (c .before .before .before .before .before .before .loop .inv) (c .before .before .before .before .before .loop-test .taken) _ (c .before .before .before .group .ensures))
+add-w-3 c = omega (arith, c .before .before .before .before .before .before .before .before .pre .room .long, c .before .before .before .before .before .before .loop .inv .frame .long, grouping-in (c .before .before .before .before .before .before .before .before .pre) (c .before .before .before .before .before .before .loop .inv) (c .before .before .before .before .before .loop-test .taken) _ (c .before .before .before .group .ensures .1))
 
 -- src/lib.rt:159:9
 mul-w-4 : tie.Need-mul-w-4 Inv-loop μ-loop
-mul-w-4 c = omega (arith, c .before .before .before .before .before .before .before .before .pre .room .long, c .before .before .before .before .before .before .loop .inv .frame .long, grouping-in (c .before .before .before .before .before .before .before .before .pre) (c .before .before .before .before .before .before .loop .inv) (c .before .before .before .before .before .loop-test .taken) _ (c .before .before .before .group .ensures))
+mul-w-4 c = omega (arith, c .before .before .before .before .before .before .before .before .pre .room .long, c .before .before .before .before .before .before .loop .inv .frame .long, grouping-in (c .before .before .before .before .before .before .before .before .pre) (c .before .before .before .before .before .before .loop .inv) (c .before .before .before .before .before .loop-test .taken) _ (c .before .before .before .group .ensures .1))
 
 -- src/lib.rt:159:9
 slice-write-w-2 : tie.Need-slice-write-w-2 Inv-loop μ-loop
@@ -83,19 +83,19 @@ slice-write-w-2 c = simp length-set (omega (arith, c .before .before .before .be
 
 -- src/lib.rt:160:11
 mul-w-5 : tie.Need-mul-w-5 Inv-loop μ-loop
-mul-w-5 c = omega (arith, c .before .before .before .before .before .before .before .before .pre .room .long, c .before .before .before .before .before .before .loop .inv .frame .long, grouping-in (c .before .before .before .before .before .before .before .before .pre) (c .before .before .before .before .before .before .loop .inv) (c .before .before .before .before .before .loop-test .taken) _ (c .before .before .before .group .ensures))
+mul-w-5 c = omega (arith, c .before .before .before .before .before .before .before .before .pre .room .long, c .before .before .before .before .before .before .loop .inv .frame .long, grouping-in (c .before .before .before .before .before .before .before .before .pre) (c .before .before .before .before .before .before .loop .inv) (c .before .before .before .before .before .loop-test .taken) _ (c .before .before .before .group .ensures .1))
 
 -- src/lib.rt:160:11
 add-w-4 : tie.Need-add-w-4 Inv-loop μ-loop
-add-w-4 c = omega (arith, c .before .before .before .before .before .before .before .before .pre .room .long, c .before .before .before .before .before .before .loop .inv .frame .long, grouping-in (c .before .before .before .before .before .before .before .before .pre) (c .before .before .before .before .before .before .loop .inv) (c .before .before .before .before .before .loop-test .taken) _ (c .before .before .before .group .ensures))
+add-w-4 c = omega (arith, c .before .before .before .before .before .before .before .before .pre .room .long, c .before .before .before .before .before .before .loop .inv .frame .long, grouping-in (c .before .before .before .before .before .before .before .before .pre) (c .before .before .before .before .before .before .loop .inv) (c .before .before .before .before .before .loop-test .taken) _ (c .before .before .before .group .ensures .1))
 
 -- src/lib.rt:160:9
 mul-w-6 : tie.Need-mul-w-6 Inv-loop μ-loop
-mul-w-6 c = omega (arith, c .before .before .before .before .before .before .before .before .pre .room .long, c .before .before .before .before .before .before .loop .inv .frame .long, grouping-in (c .before .before .before .before .before .before .before .before .pre) (c .before .before .before .before .before .before .loop .inv) (c .before .before .before .before .before .loop-test .taken) _ (c .before .before .before .group .ensures))
+mul-w-6 c = omega (arith, c .before .before .before .before .before .before .before .before .pre .room .long, c .before .before .before .before .before .before .loop .inv .frame .long, grouping-in (c .before .before .before .before .before .before .before .before .pre) (c .before .before .before .before .before .before .loop .inv) (c .before .before .before .before .before .loop-test .taken) _ (c .before .before .before .group .ensures .1))
 
 -- src/lib.rt:160:9
 slice-write-w-3 : tie.Need-slice-write-w-3 Inv-loop μ-loop
-slice-write-w-3 c = simp length-set (omega (arith, c .before .before .before .before .before .before .before .before .pre .room .long, c .before .before .before .before .before .before .loop .inv .frame .long, grouping-in (c .before .before .before .before .before .before .before .before .pre) (c .before .before .before .before .before .before .loop .inv) (c .before .before .before .before .before .loop-test .taken) _ (c .before .before .before .group .ensures)))
+slice-write-w-3 c = simp length-set (omega (arith, c .before .before .before .before .before .before .before .before .pre .room .long, c .before .before .before .before .before .before .loop .inv .frame .long, grouping-in (c .before .before .before .before .before .before .before .before .pre) (c .before .before .before .before .before .before .loop .inv) (c .before .before .before .before .before .loop-test .taken) _ (c .before .before .before .group .ensures .1)))
 
 -- src/lib.rt:161:9
 counted-requires : tie.Need-counted-requires Inv-loop μ-loop
@@ -111,7 +111,7 @@ loop-less c = omega (arith, c .before .before .before .before .before .before .l
 
 -- src/lib.rt:154:5
 loop-again : tie.Need-loop-again Inv-loop μ-loop
-loop-again c = grouping-next (c .before .before .before .before .before .before .before .before .before .pre) (c .before .before .before .before .before .before .before .loop .inv) (c .before .before .before .before .before .before .loop-test .taken) _ (c .before .before .before .before .group .ensures) _ (c .before .before .slot .ensures) _ (c .counted .ensures)
+loop-again c = grouping-next (c .before .before .before .before .before .before .before .before .before .pre) (c .before .before .before .before .before .before .before .loop .inv) (c .before .before .before .before .before .before .loop-test .taken) _ (c .before .before .before .before .group .ensures .1) _ (c .before .before .slot .ensures) _ (c .counted .ensures)
 
 -- src/lib.rt:148:1
 same-length : tie.Need-same-length Inv-loop μ-loop
