@@ -5,26 +5,19 @@ use Rattle.heap.proofs.Top.{owner-i, owner-j}
 use borrow.Author.Needs.{needs}
 use Rattle.heap.proofs.first.Statement.{statement}
 use Rattle.heap.proofs.first.Tie as tie
-use Rattle.heap.proofs.first.Reads as reads
-use Rattle.heap.proofs.first.Lts as lts
 
--- src/lib.rt:102:18
 add-code : tie.Need-add-code
 add-code c = search needs
 
--- src/lib.rt:102:16
 mul-code : tie.Need-mul-code
 mul-code c = search needs
 
--- src/lib.rt:102:16
 shared-slice-read-code : tie.Need-shared-slice-read-code
 shared-slice-read-code c = search needs
 
--- src/lib.rt:104:9
 returns : tie.Need-returns
 returns c = search needs
 
--- src/lib.rt:113:9
 returns-2 : tie.Need-returns-2
 returns-2 c =
     record {
@@ -35,7 +28,6 @@ returns-2 c =
       owner-is = λ _. owner-j _ _ _ (c .if2 .taken);
     }
 
--- src/lib.rt:98:1
 returns-3 : tie.Need-returns-3
 returns-3 c =
     record {

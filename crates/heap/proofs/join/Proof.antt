@@ -2,9 +2,6 @@ use native.Mathlib.Omega.{arith}
 use Rattle.heap.proofs.Nodes.{Joining, joining-start, joining-room, joining-next, joining-stop}
 use Rattle.heap.proofs.join.Statement.{statement}
 use Rattle.heap.proofs.join.Tie as tie
-use Rattle.heap.proofs.join.Reads as reads
-use Rattle.heap.proofs.join.Lts as lts
-use Rattle.heap.proofs.renew.Reads as renew-reads
 
 abbrev Inv-loop : tie.InvT-loop
 Inv-loop w₀ h base n₀ w n = Joining w₀ w h base n
@@ -12,31 +9,24 @@ Inv-loop w₀ h base n₀ w n = Joining w₀ w h base n
 abbrev μ-loop : tie.MeasureT-loop
 μ-loop w₀ h base n₀ w n = n
 
--- src/lib.rt:55:5
 loop-holds : tie.Need-loop-holds Inv-loop μ-loop
 loop-holds c = joining-start (c .before .pre)
 
--- src/lib.rt:56:9
 sub-n : tie.Need-sub-n Inv-loop μ-loop
 sub-n c = omega (arith, c .before .loop .inv .tree .some)
 
--- src/lib.rt:57:9
 renew-requires : tie.Need-renew-requires Inv-loop μ-loop
 renew-requires c κs = joining-room (c .before .before .loop .inv) (c .before .loop-test .taken)
 
--- src/lib.rt:55:5
 loop-less : tie.Need-loop-less Inv-loop μ-loop
 loop-less c = omega (arith, c .before .before .before .before .loop-test .taken)
 
--- src/lib.rt:55:5
 loop-again : tie.Need-loop-again Inv-loop μ-loop
 loop-again c = joining-next (c .before .before .before .before .before .loop .inv) (c .before .before .before .before .loop-test .taken) (c .before .before .renew .ensures)
 
--- src/lib.rt:50:1
 same-length : tie.Need-same-length Inv-loop μ-loop
 same-length c = c .before .loop .inv .frame .long
 
--- src/lib.rt:50:1
 returns : tie.Need-returns Inv-loop μ-loop
 returns c = joining-stop (c .before .loop .inv) (c .loop-test .left)
 

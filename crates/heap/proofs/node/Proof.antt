@@ -3,38 +3,28 @@ use Rattle.heap.specs.Heap.{node-at}
 use borrow.Author.Needs.{needs}
 use Rattle.heap.proofs.node.Statement.{statement}
 use Rattle.heap.proofs.node.Tie as tie
-use Rattle.heap.proofs.node.Reads as reads
-use Rattle.heap.proofs.node.Lts as lts
 
--- src/lib.rt:22:17
 mul-k : tie.Need-mul-k
 mul-k c = search needs
 
--- src/lib.rt:22:13
 add-k : tie.Need-add-k
 add-k c = search needs
 
--- src/lib.rt:24:14
 mul-t5 : tie.Need-mul-t5
 mul-t5 c = search needs
 
--- src/lib.rt:24:14
 shared-slice-read-t7 : tie.Need-shared-slice-read-t7
 shared-slice-read-t7 c = search needs
 
--- src/lib.rt:25:16
 add-t8 : tie.Need-add-t8
 add-t8 c = search needs
 
--- src/lib.rt:25:14
 mul-t9 : tie.Need-mul-t9
 mul-t9 c = search needs
 
--- src/lib.rt:25:14
 shared-slice-read-t11 : tie.Need-shared-slice-read-t11
 shared-slice-read-t11 c = search needs
 
--- src/lib.rt:18:1
 returns : tie.Need-returns
 unfolding node-at
 returns c = refl

@@ -3,10 +3,6 @@ use mathlib.Core.Path.{_∙_}
 use Rattle.heap.proofs.Nodes.{Climbing, climbing-start, climbing-room, climbing-next, climbing-stop}
 use Rattle.heap.proofs.set.Statement.{statement}
 use Rattle.heap.proofs.set.Tie as tie
-use Rattle.heap.proofs.set.Reads as reads
-use Rattle.heap.proofs.set.Lts as lts
-use Rattle.heap.proofs.put.Reads as put-reads
-use Rattle.heap.proofs.renew.Reads as renew-reads
 
 abbrev Inv-loop : tie.InvT-loop
 Inv-loop w₀ h base s q₀ w q = Climbing w₀ w h base q
@@ -14,39 +10,30 @@ Inv-loop w₀ h base s q₀ w q = Climbing w₀ w h base q
 abbrev μ-loop : tie.MeasureT-loop
 μ-loop w₀ h base s q₀ w q = q
 
--- src/lib.rt:66:15
 add-put : tie.Need-add-put Inv-loop μ-loop
 add-put c = omega (arith, c .before .before .pre .within, c .before .before .pre .wide .inside, c .before .before .good)
 
--- src/lib.rt:66:5
 put-requires : tie.Need-put-requires Inv-loop μ-loop
 put-requires c κs = omega (arith, c .before .before .pre .within, c .before .before .pre .wide .inside)
 
--- src/lib.rt:67:18
 add-q : tie.Need-add-q Inv-loop μ-loop
 add-q c = omega (arith, c .before .before .before .before .before .pre .within, c .before .before .before .before .before .pre .wide .inside, c .before .before .before .before .before .good)
 
--- src/lib.rt:68:5
 loop-holds : tie.Need-loop-holds Inv-loop μ-loop
 loop-holds c = climbing-start (c .before .before .before .before .before .pre) (c .before .before .put .ensures)
 
--- src/lib.rt:69:9
 renew-requires : tie.Need-renew-requires Inv-loop μ-loop
 renew-requires c κs = climbing-room (c .before .before .loop .inv) (c .before .loop-test .taken)
 
--- src/lib.rt:68:5
 loop-less : tie.Need-loop-less Inv-loop μ-loop
 loop-less c = omega (arith, c .before .before .before .before .loop-test .taken)
 
--- src/lib.rt:68:5
 loop-again : tie.Need-loop-again Inv-loop μ-loop
 loop-again c = climbing-next (c .before .before .before .before .before .loop .inv) (c .before .before .before .before .loop-test .taken) (c .before .before .renew .ensures)
 
--- src/lib.rt:62:1
 same-length : tie.Need-same-length Inv-loop μ-loop
 same-length c = c .before .loop .inv .frame .long ∙ c .before .before .before .before .put .kept .0
 
--- src/lib.rt:62:1
 returns : tie.Need-returns Inv-loop μ-loop
 returns c = climbing-stop (c .before .before .before .before .before .before .before .pre) (c .before .before .before .before .put .ensures) (c .before .loop .inv) (c .loop-test .left)
 

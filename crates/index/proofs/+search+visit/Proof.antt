@@ -79,114 +79,92 @@ small t a =
     let q = a .good .1 .1 .1 .1 .1 .1 .1 .1 .1 .0 in
     (omega (arith, p), (omega (arith, q), omega (arith, q)))
 
--- src/lib.rt:159:35
 search-pair-with-requires : (t : ℕ) → search-lts.Need-pair-with-requires (learnt t) (search-at t) search′.Post
 search-pair-with-requires t c κs = let a = c .before .before in (a .pre .1 .0 .room, tie-below (a .pre .1 .0) (a .args .own) _ _ _ _ (small t a .0) (small t a .1) (a .pre .1 .1) (a .pre .1 .2))
 
--- src/lib.rt:159:9
 search-lesser-requires : (t : ℕ) → search-lts.Need-lesser-requires (learnt t) (search-at t) search′.Post
 search-lesser-requires t c κs = tt
 
--- src/lib.rt:159:9
 search-returns : (t : ℕ) → search-lts.Need-returns (learnt t) (search-at t) search′.Post
 search-returns t c =
     let a = c .before .before .before .before in
     c .lesser .ensures ∙ ap (min (worth (a .args .best)))
     (leaf-pair (a .pre .1 .0) (a .args .own) _ _ _ _ (small t a .0) (small t a .1) (a .pre .1 .1) (a .pre .1 .2) (c .before .before .if1 .taken) _ (c .before .pair-with .ensures))
 
--- src/lib.rt:161:9
 search-settled-requires : (t : ℕ) → search-lts.Need-settled-requires (learnt t) (search-at t) search′.Post
 search-settled-requires t c κs =
     let a = c .before .before in
     (a .pre .1 .0 .room, tie-below (a .pre .1 .0) (a .args .own) _ _ _ _ (small t a .0) (small t a .1) (a .pre .1 .1) (a .pre .1 .2), has (a .pre .1 .0) .inside)
 
--- src/lib.rt:162:8
 search-same-requires : (t : ℕ) → search-lts.Need-same-requires (learnt t) (search-at t) search′.Post
 search-same-requires t c κs = tt
 
--- src/lib.rt:163:9
 search-returns-2 : (t : ℕ) → search-lts.Need-returns-2 (learnt t) (search-at t) search′.Post
 search-returns-2 t c =
     let a = c .before .before .before .before .before in
     at-bound (a .pre .1 .0) (a .args .own) _ _ _ _ (small t a .0) (small t a .1) (a .pre .1 .1) (a .pre .1 .2) _ (settled-either (a .args .w .now) (a .args .t) (a .args .n) (a .args .d) (a .args .ax) (a .args .ay) (a .args .own) (a .args .at .tie) (c .before .before .settled .ensures)) (test-same _ _ (c .before .same .ensures) (c .if2 .taken))
 
--- src/lib.rt:165:13
 search-mul-l : (t : ℕ) → search-lts.Need-mul-l (learnt t) (search-at t) search′.Post
 search-mul-l t c = let a = c .before .before .before .before .before in omega (arith, has (ready-right (a .pre .1 .0) (pos-of-ne-zero (c .before .before .before .if1 .left))) .inside, a .good .0 .1)
 
--- src/lib.rt:166:13
 search-add-r : (t : ℕ) → search-lts.Need-add-r (learnt t) (search-at t) search′.Post
 search-add-r t c = let a = c .before .before .before .before .before in omega (arith, has (ready-right (a .pre .1 .0) (pos-of-ne-zero (c .before .before .before .if1 .left))) .inside, a .good .0 .1)
 
--- src/lib.rt:167:16
 search-sub-down : (t : ℕ) → search-lts.Need-sub-down (learnt t) (search-at t) search′.Post
 search-sub-down t c = omega (arith, pos-of-ne-zero (c .before .before .before .if1 .left))
 
--- src/lib.rt:168:9
 search-reach-requires : (t : ℕ) → search-lts.Need-reach-requires (learnt t) (search-at t) search′.Post
 search-reach-requires t c κs = let a = c .before .before .before .before .before in has (ready-left (a .pre .1 .0) (pos-of-ne-zero (c .before .before .before .if1 .left)))
 
--- src/lib.rt:169:9
 search-reach-requires-2 : (t : ℕ) → search-lts.Need-reach-requires-2 (learnt t) (search-at t) search′.Post
 search-reach-requires-2 t c κs = let a = c .before .before .before .before .before .before in has (ready-right (a .pre .1 .0) (pos-of-ne-zero (c .before .before .before .before .if1 .left)))
 
--- src/lib.rt:170:8
 search-sooner-requires : (t : ℕ) → search-lts.Need-sooner-requires (learnt t) (search-at t) search′.Post
 search-sooner-requires t c κs = tt
 
--- src/lib.rt:171:13
 search-visit-requires : (t : ℕ) → search-lts.Need-visit-requires (learnt t) (search-at t) search′.Post
 search-visit-requires t c κs =
     let a = c .before .before .before .before .before .before .before .before .before in
     let p = pos-of-ne-zero (c .before .before .before .before .before .before .before .if1 .left) in
     (omega (arith, a .pre .0, p), (ready-right (a .pre .1 .0) p, c .before .before .reach2 .ensures))
 
--- src/lib.rt:172:9
 search-visit-requires-2 : (t : ℕ) → search-lts.Need-visit-requires-2 (learnt t) (search-at t) search′.Post
 search-visit-requires-2 t c κs =
     let a = c .before .before .before .before .before .before .before .before .before .before in
     let p = pos-of-ne-zero (c .before .before .before .before .before .before .before .before .if1 .left) in
     (omega (arith, a .pre .0, p), (ready-left (a .pre .1 .0) p, c .before .before .before .before .reach .ensures))
 
--- src/lib.rt:172:9
 search-returns-3 : (t : ℕ) → search-lts.Need-returns-3 (learnt t) (search-at t) search′.Post
 search-returns-3 t c =
     let a = c .before .before .before .before .before .before .before .before .before .before .before in
     both-turned (a .pre .1 .0) (a .args .own) _ _ _ (pos-of-ne-zero (c .before .before .before .before .before .before .before .before .before .if1 .left)) (c .before .visit .ensures) (c .visit2 .ensures)
 
--- src/lib.rt:174:9
 search-visit-requires-3 : (t : ℕ) → search-lts.Need-visit-requires-3 (learnt t) (search-at t) search′.Post
 search-visit-requires-3 t c κs =
     let a = c .before .before .before .before .before .before .before .before .before in
     let p = pos-of-ne-zero (c .before .before .before .before .before .before .before .if1 .left) in
     (omega (arith, a .pre .0, p), (ready-left (a .pre .1 .0) p, c .before .before .before .reach .ensures))
 
--- src/lib.rt:175:5
 search-visit-requires-4 : (t : ℕ) → search-lts.Need-visit-requires-4 (learnt t) (search-at t) search′.Post
 search-visit-requires-4 t c κs =
     let a = c .before .before .before .before .before .before .before .before .before .before in
     let p = pos-of-ne-zero (c .before .before .before .before .before .before .before .before .if1 .left) in
     (omega (arith, a .pre .0, p), (ready-right (a .pre .1 .0) p, c .before .before .before .reach2 .ensures))
 
--- src/lib.rt:143:1
 search-returns-4 : (t : ℕ) → search-lts.Need-returns-4 (learnt t) (search-at t) search′.Post
 search-returns-4 t c =
     let a = c .before .before .before .before .before .before .before .before .before .before .before in
     both-ways (a .pre .1 .0) (a .args .own) _ _ _ (pos-of-ne-zero (c .before .before .before .before .before .before .before .before .before .if1 .left)) (c .before .visit3 .ensures) (c .visit4 .ensures)
 
--- src/lib.rt:194:8
 visit-sooner-requires : (t : ℕ) → visit-lts.Need-sooner-requires (known t) (visit-at t) visit.Post
 visit-sooner-requires t c κs = tt
 
--- src/lib.rt:195:9
 visit-search-requires : (t : ℕ) → visit-lts.Need-search-requires (known t) (visit-at t) visit.Post
 visit-search-requires t c κs = let a = c .before .before .before in (omega (arith, a .pre .0), (a .pre .1 .0, a .pre .1 .1, test-before _ _ (c .before .sooner .ensures) (c .if1 .taken)))
 
--- src/lib.rt:195:9
 visit-returns : (t : ℕ) → visit-lts.Need-returns (known t) (visit-at t) visit.Post
 visit-returns t c = c .search .ensures
 
--- src/lib.rt:179:1
 visit-returns-2 : (t : ℕ) → visit-lts.Need-returns-2 (known t) (visit-at t) visit.Post
 visit-returns-2 t c = let a = c .before .before .before in passed-over (a .pre .1 .0) (a .args .own) _ _ (a .pre .1 .1) (test-after _ _ (c .before .sooner .ensures) (c .if1 .left))
 

@@ -5,45 +5,31 @@ use Rattle.index.proofs.Owner.{answers-absent, answers-none, answers-lo
 use borrow.Author.Needs.{needs}
 use Rattle.index.proofs.first_pair.Statement.{statement}
 use Rattle.index.proofs.first_pair.Tie as tie
-use Rattle.index.proofs.first_pair.Reads as reads
-use Rattle.index.proofs.first_pair.Lts as lts
-use Rattle.ends.proofs.direction_at.Reads as direction-at-reads
-use Rattle.ends.proofs.piece_at.Reads as piece-at-reads
-use Rattle.index.proofs.partner.Reads as partner-reads
 
--- src/lib.rt:230:37
 direction-at-requires : tie.Need-direction-at-requires
 direction-at-requires c κs = search needs
 
--- src/lib.rt:230:27
 enum-known-ax : tie.Need-enum-known-ax
 enum-known-ax c = search needs
 
--- src/lib.rt:231:9
 enum-told : tie.Need-enum-told
 enum-told c = search needs
 
--- src/lib.rt:231:9
 returns : tie.Need-returns
 returns c = answers-absent (c .before .before .before .before .pre) (sym (c .enum-told .given .1) ∙ c .before .before .direction-at .ensures)
 
--- src/lib.rt:233:9
 piece-at-requires : tie.Need-piece-at-requires
 piece-at-requires c κs = search needs
 
--- src/lib.rt:234:9
 partner-requires : tie.Need-partner-requires
 partner-requires c κs = ready (c .before .before .before .before .before .before .pre) _ _ (sym (c .before .before .ax .given .1) ∙ c .before .before .before .before .direction-at .ensures)
 
--- src/lib.rt:238:9
 returns-2 : tie.Need-returns-2
 returns-2 c = answers-none (c .before .before .before .before .before .before .before .before .pre) _ _ (sym (c .before .before .before .before .ax .given .1) ∙ c .before .before .before .before .before .before .direction-at .ensures) _ (c .before .before .piece-at .ensures) (c .before .partner .result) (omega (arith, c .if1 .taken)) (c .before .partner .ensures) (c .if1 .taken)
 
--- src/lib.rt:242:9
 returns-3 : tie.Need-returns-3
 returns-3 c = answers-lower (c .before .before .before .before .before .before .before .before .before .pre) _ _ (sym (c .before .before .before .before .before .ax .given .1) ∙ c .before .before .before .before .before .before .before .direction-at .ensures) _ (c .before .before .before .piece-at .ensures) (c .before .before .partner .result) (omega (arith, c .if2 .taken, c .before .before .before .before .before .before .before .before .before .pre .within, c .before .before .before .before .before .before .before .before .before .pre .room .few)) (c .before .before .partner .ensures) (c .before .if1 .left) (c .if2 .taken)
 
--- src/lib.rt:226:1
 returns-4 : tie.Need-returns-4
 returns-4 c = answers-upper (c .before .before .before .before .before .before .before .before .before .pre) _ _ (sym (c .before .before .before .before .before .ax .given .1) ∙ c .before .before .before .before .before .before .before .direction-at .ensures) _ (c .before .before .before .piece-at .ensures) (c .before .before .partner .result) (search needs) (c .before .before .partner .ensures) (c .before .if1 .left) (c .if2 .left)
 

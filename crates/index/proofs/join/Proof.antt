@@ -1,8 +1,5 @@
 use Rattle.index.proofs.join.Statement.{statement}
 use Rattle.index.proofs.join.Tie as tie
-use Rattle.index.proofs.join.Reads as reads
-use Rattle.index.proofs.join.Lts as lts
-use Rattle.index.proofs.renew.Reads as renew-reads
 use Prim.Native.Nat.{_≤_, _<_}
 use native.Mathlib.Omega.{arith}
 use borrow.Author.Needs.{needs}
@@ -14,31 +11,24 @@ Inv-loop w₀ t base n₀ w n = Joining w₀ w t base n
 abbrev μ-loop : tie.MeasureT-loop
 μ-loop w₀ t base n₀ w n = n
 
--- src/lib.rt:70:5
 loop-holds : tie.Need-loop-holds Inv-loop μ-loop
 loop-holds c = joining-start (c .before .pre)
 
--- src/lib.rt:71:9
 sub-n : tie.Need-sub-n Inv-loop μ-loop
 sub-n c = omega (arith, c .before .loop .inv .tree .some)
 
--- src/lib.rt:72:9
 renew-requires : tie.Need-renew-requires Inv-loop μ-loop
 renew-requires c κs = joining-children (c .before .before .loop .inv) (c .before .loop-test .taken)
 
--- src/lib.rt:70:5
 loop-less : tie.Need-loop-less Inv-loop μ-loop
 loop-less c = omega (arith, c .before .before .before .before .loop-test .taken)
 
--- src/lib.rt:70:5
 loop-again : tie.Need-loop-again Inv-loop μ-loop
 loop-again c = joining-next (c .before .before .before .before .before .loop .inv) (c .before .before .before .before .loop-test .taken) (c .before .before .renew .ensures)
 
--- src/lib.rt:65:1
 same-length : tie.Need-same-length Inv-loop μ-loop
 same-length c = c .before .loop .inv .frame .long
 
--- src/lib.rt:65:1
 returns : tie.Need-returns Inv-loop μ-loop
 returns c = joining-stop (c .before .loop .inv) (c .loop-test .left)
 

@@ -1,92 +1,69 @@
 use borrow.Author.Needs.{needs}
 use Rattle.index.proofs.node.Statement.{statement}
 use Rattle.index.proofs.node.Tie as tie
-use Rattle.index.proofs.node.Reads as reads
-use Rattle.index.proofs.node.Lts as lts
 use mathlib.Core.Path.{refl}
 use Rattle.index.proofs.Nodes.{numbers, node-is}
 
--- src/lib.rt:31:17
 mul-k : tie.Need-mul-k
 mul-k c = search needs
 
--- src/lib.rt:31:13
 add-k : tie.Need-add-k
 add-k c = search needs
 
--- src/lib.rt:33:31
 mul-t5 : tie.Need-mul-t5
 mul-t5 c = search needs
 
--- src/lib.rt:33:31
 shared-slice-read-t7 : tie.Need-shared-slice-read-t7
 shared-slice-read-t7 c = search needs
 
--- src/lib.rt:33:16
 float-from-bits-t8 : tie.Need-float-from-bits-t8
 float-from-bits-t8 c = numbers _ _ _ (c .before .pre .sound) .low-x
 
--- src/lib.rt:34:33
 add-t9 : tie.Need-add-t9
 add-t9 c = search needs
 
--- src/lib.rt:34:31
 mul-t10 : tie.Need-mul-t10
 mul-t10 c = search needs
 
--- src/lib.rt:34:31
 shared-slice-read-t12 : tie.Need-shared-slice-read-t12
 shared-slice-read-t12 c = search needs
 
--- src/lib.rt:34:16
 float-from-bits-t13 : tie.Need-float-from-bits-t13
 float-from-bits-t13 c = numbers _ _ _ (c .before .before .pre .sound) .low-y
 
--- src/lib.rt:35:34
 add-t14 : tie.Need-add-t14
 add-t14 c = search needs
 
--- src/lib.rt:35:32
 mul-t15 : tie.Need-mul-t15
 mul-t15 c = search needs
 
--- src/lib.rt:35:32
 shared-slice-read-t17 : tie.Need-shared-slice-read-t17
 shared-slice-read-t17 c = search needs
 
--- src/lib.rt:35:17
 float-from-bits-t18 : tie.Need-float-from-bits-t18
 float-from-bits-t18 c = numbers _ _ _ (c .before .before .before .pre .sound) .high-x
 
--- src/lib.rt:36:34
 add-t19 : tie.Need-add-t19
 add-t19 c = search needs
 
--- src/lib.rt:36:32
 mul-t20 : tie.Need-mul-t20
 mul-t20 c = search needs
 
--- src/lib.rt:36:32
 shared-slice-read-t22 : tie.Need-shared-slice-read-t22
 shared-slice-read-t22 c = search needs
 
--- src/lib.rt:36:17
 float-from-bits-t23 : tie.Need-float-from-bits-t23
 float-from-bits-t23 c = numbers _ _ _ (c .before .before .before .before .pre .sound) .high-y
 
--- src/lib.rt:37:18
 add-t24 : tie.Need-add-t24
 add-t24 c = search needs
 
--- src/lib.rt:37:16
 mul-t25 : tie.Need-mul-t25
 mul-t25 c = search needs
 
--- src/lib.rt:37:16
 shared-slice-read-t27 : tie.Need-shared-slice-read-t27
 shared-slice-read-t27 c = search needs
 
--- src/lib.rt:27:1
 returns : tie.Need-returns
 returns c = node-is _ _ _ _ refl refl refl refl refl
 

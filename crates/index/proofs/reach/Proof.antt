@@ -3,34 +3,22 @@ use Rattle.index.proofs.Steps.{bound-none, bound-is}
 use borrow.Author.Needs.{needs}
 use Rattle.index.proofs.reach.Statement.{statement}
 use Rattle.index.proofs.reach.Tie as tie
-use Rattle.index.proofs.reach.Reads as reads
-use Rattle.index.proofs.reach.Lts as lts
-use Rattle.bounds.proofs.Bounds.lower_measure.Reads as lower-measure-reads
-use Rattle.index.proofs.node.Reads as node-reads
-use Rattle.order.proofs.low_key.Reads as low-key-reads
-use Rattle.tree.proofs.Place.none.Reads as none-reads
 
--- src/lib.rt:94:9
 node-requires : tie.Need-node-requires
 node-requires c κs = search needs
 
--- src/lib.rt:97:9
 none-requires : tie.Need-none-requires
 none-requires c κs = search needs
 
--- src/lib.rt:97:9
 returns : tie.Need-returns
 returns c = let a = c .before .before .before .before in bound-none (a .args .ax) (a .args .ay) (c .before .before .node .result) (node-at (a .args .w .now) (a .args .t) (a .args .n)) (c .before .before .node .ensures) _ (c .before .if1 .taken) (c .none .ensures)
 
--- src/lib.rt:100:29
 lower-measure-requires : tie.Need-lower-measure-requires
 lower-measure-requires c κs = search needs
 
--- src/lib.rt:100:14
 low-key-requires : tie.Need-low-key-requires
 low-key-requires c κs = search needs
 
--- src/lib.rt:90:1
 returns-2 : tie.Need-returns-2
 returns-2 c =
     let a = c .before .before .before .before .before in

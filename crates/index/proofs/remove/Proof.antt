@@ -5,11 +5,6 @@ use Rattle.bounds.proofs.Union.{empty-sound}
 use Rattle.index.specs.Nodes.{Puts}
 use Rattle.index.proofs.remove.Statement.{statement}
 use Rattle.index.proofs.remove.Tie as tie
-use Rattle.index.proofs.remove.Reads as reads
-use Rattle.index.proofs.remove.Lts as lts
-use Rattle.bounds.proofs.Bounds.empty.Reads as empty-reads
-use Rattle.index.proofs.put.Reads as put-reads
-use Rattle.index.proofs.renew.Reads as renew-reads
 use Prim.Native.Nat.{_+_}
 use native.Mathlib.Omega.{arith}
 use borrow.Author.Needs.{needs}
@@ -21,43 +16,33 @@ Inv-loop w₀ t base p q₀ w q = Climbing w₀ w t base q
 abbrev μ-loop : tie.MeasureT-loop
 μ-loop w₀ t base p q₀ w q = q
 
--- src/lib.rt:81:15
 add-put : tie.Need-add-put Inv-loop μ-loop
 add-put c = omega (arith, c .before .before .pre .within, c .before .before .pre .wide .inside, c .before .before .good)
 
--- src/lib.rt:81:25
 empty-requires : tie.Need-empty-requires Inv-loop μ-loop
 empty-requires c κs = tt
 
--- src/lib.rt:81:5
 put-requires : tie.Need-put-requires Inv-loop μ-loop
 put-requires c κs = let a = c .before .before .before in (omega (arith, a .pre .within, a .pre .wide .inside), subst (λ (v : Bounds). Sound v) (sym (c .empty .ensures)) empty-sound)
 
--- src/lib.rt:82:18
 add-q : tie.Need-add-q Inv-loop μ-loop
 add-q c = omega (arith, c .before .before .before .before .before .before .pre .within, c .before .before .before .before .before .before .pre .wide .inside, c .before .before .before .before .before .before .good)
 
--- src/lib.rt:83:5
 loop-holds : tie.Need-loop-holds Inv-loop μ-loop
 loop-holds c = let a = c .before .before .before .before .before .before in climbing-start (a .pre) (subst (λ (v : Bounds). Puts (a .args .w .now) (c .before .before .put .last .0) (a .args .t) (a .args .base + a .args .p) v) (c .before .before .before .empty .ensures) (c .before .before .put .ensures))
 
--- src/lib.rt:84:9
 renew-requires : tie.Need-renew-requires Inv-loop μ-loop
 renew-requires c κs = climbing-children (c .before .before .loop .inv) (c .before .loop-test .taken)
 
--- src/lib.rt:83:5
 loop-less : tie.Need-loop-less Inv-loop μ-loop
 loop-less c = omega (arith, c .before .before .before .before .loop-test .taken)
 
--- src/lib.rt:83:5
 loop-again : tie.Need-loop-again Inv-loop μ-loop
 loop-again c = climbing-next (c .before .before .before .before .before .loop .inv) (c .before .before .before .before .loop-test .taken) (c .before .before .renew .ensures)
 
--- src/lib.rt:77:1
 same-length : tie.Need-same-length Inv-loop μ-loop
 same-length c = c .before .loop .inv .frame .long ∙ c .before .before .before .before .put .kept .0
 
--- src/lib.rt:77:1
 returns : tie.Need-returns Inv-loop μ-loop
 returns c = let a = c .before .before .before .before .before .before .before .before in climbing-stop (a .pre) (subst (λ (v : Bounds). Puts (a .args .w .now) (c .before .before .before .before .put .last .0) (a .args .t) (a .args .base + a .args .p) v) (c .before .before .before .before .before .empty .ensures) (c .before .before .before .before .put .ensures)) (c .before .loop .inv) (c .loop-test .left)
 

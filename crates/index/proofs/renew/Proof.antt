@@ -1,11 +1,6 @@
 use borrow.Author.Needs.{needs}
 use Rattle.index.proofs.renew.Statement.{statement}
 use Rattle.index.proofs.renew.Tie as tie
-use Rattle.index.proofs.renew.Reads as reads
-use Rattle.index.proofs.renew.Lts as lts
-use Rattle.bounds.proofs.Bounds.union.Reads as union-reads
-use Rattle.index.proofs.node.Reads as node-reads
-use Rattle.index.proofs.put.Reads as put-reads
 use native.Mathlib.Omega.{arith}
 use mathlib.Core.Path.{sym, subst, ap₂, _∙_}
 use Rattle.bounds.specs.declared.Bounds.{Bounds}
@@ -13,31 +8,24 @@ use Rattle.bounds.specs.Box.{Sound, union-of}
 use Rattle.bounds.proofs.Union.{union-sound}
 use Rattle.index.specs.Nodes.{Puts}
 
--- src/lib.rt:59:24
 mul-node : tie.Need-mul-node
 mul-node c = search needs
 
--- src/lib.rt:59:9
 node-requires : tie.Need-node-requires
 node-requires c κs = search needs
 
--- src/lib.rt:60:24
 mul-node-2 : tie.Need-mul-node-2
 mul-node-2 c = search needs
 
--- src/lib.rt:60:24
 add-node : tie.Need-add-node
 add-node c = search needs
 
--- src/lib.rt:60:9
 node-requires-2 : tie.Need-node-requires-2
 node-requires-2 c κs = search needs
 
--- src/lib.rt:61:18
 union-requires : tie.Need-union-requires
 union-requires c κs = search needs
 
--- src/lib.rt:61:5
 put-requires : tie.Need-put-requires
 put-requires c κs =
     let a = c .before .before .before .before .before .before .before in (
@@ -48,11 +36,9 @@ put-requires c κs =
           (subst (λ (v : Bounds). Sound v) (sym (c .before .before .node2 .ensures)) (a .pre .right))),
     )
 
--- src/lib.rt:55:1
 same-length : tie.Need-same-length
 same-length c = search needs
 
--- src/lib.rt:55:1
 returns : tie.Need-returns
 returns c =
     let a = c .before .before .before .before .before .before .before .before .before .before in

@@ -7,70 +7,49 @@ use Rattle.indexed.proofs.Arranging.{part-permuted, part-sorted, part-c
 use borrow.Author.Needs.{needs}
 use Rattle.indexed.proofs.arrange.Statement.{statement}
 use Rattle.indexed.proofs.arrange.Tie as tie
-use Rattle.indexed.proofs.arrange.Reads as reads
-use Rattle.indexed.proofs.arrange.Lts as lts
-use Rattle.owners.proofs.groups.Reads as groups-reads
-use Rattle.owners.proofs.keys.Reads as keys-reads
-use Rattle.sorting.proofs.positions.Reads as positions-reads
-use Rattle.sorting.proofs.sort_ends.Reads as sort-ends-reads
 
--- src/lib.rt:63:14
 mul-at : tie.Need-mul-at
 mul-at c = search needs
 
--- src/lib.rt:64:5
 keys-requires : tie.Need-keys-requires
 keys-requires c κs = search needs
 
--- src/lib.rt:65:24
 mul-sort-ends : tie.Need-mul-sort-ends
 mul-sort-ends c = search needs
 
--- src/lib.rt:65:24
 sub-sort-ends : tie.Need-sub-sort-ends
 sub-sort-ends c = search needs
 
--- src/lib.rt:65:24
 part-sort-ends-start : tie.Need-part-sort-ends-start
 part-sort-ends-start c = search needs
 
--- src/lib.rt:65:24
 part-sort-ends-end : tie.Need-part-sort-ends-end
 part-sort-ends-end c = search needs
 
--- src/lib.rt:65:5
 sort-ends-requires : tie.Need-sort-ends-requires
 sort-ends-requires c κs = search needs
 
--- src/lib.rt:66:24
 mul-positions : tie.Need-mul-positions
 mul-positions c = search needs
 
--- src/lib.rt:66:24
 sub-positions : tie.Need-sub-positions
 sub-positions c = search needs
 
--- src/lib.rt:66:24
 part-positions-start : tie.Need-part-positions-start
 part-positions-start c = search needs
 
--- src/lib.rt:66:24
 part-positions-end : tie.Need-part-positions-end
 part-positions-end c = search needs
 
--- src/lib.rt:66:5
 positions-requires : tie.Need-positions-requires
 positions-requires c κs = let a = c .before .before .before .before .before .before .before .before .before .before in part-permuted _ _ (a .args .d) (room-kept (c .before .before .before .before .before .before .before .keys .ensures .kept) (a .pre)) (c .before .before .before .sort-ends .ensures)
 
--- src/lib.rt:67:5
 groups-requires : tie.Need-groups-requires
 groups-requires c κs = let a = c .before .before .before .before .before .before .before .before .before .before .before .before .before .before in part-sorted _ _ (a .args .d) (room-kept (c .before .before .before .before .before .before .before .before .before .before .before .keys .ensures .kept) (a .pre)) (c .before .before .before .before .before .before .before .sort-ends .ensures) (c .before .before .before .positions .ensures)
 
--- src/lib.rt:59:1
 same-length : tie.Need-same-length
 same-length c = search needs
 
--- src/lib.rt:59:1
 returns : tie.Need-returns
 returns c =
     let a = c .before .before .before .before .before .before .before .before .before .before .before .before .before .before .before .before .before in

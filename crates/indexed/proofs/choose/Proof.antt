@@ -5,12 +5,6 @@ use native.Mathlib.Omega.{arith}
 use Rattle.indexed.proofs.Turns.{Going, remaining, going-start, first-in, few-pairs, both-free, one-taken, going-stop, i-in, j-in, going-stale, going-again, again-falls, going-takes, going-took, took-falls}
 use Rattle.indexed.proofs.choose.Statement.{statement}
 use Rattle.indexed.proofs.choose.Tie as tie
-use Rattle.indexed.proofs.choose.Reads as reads
-use Rattle.indexed.proofs.choose.Lts as lts
-use Rattle.heap.proofs.first.Reads as first-reads
-use Rattle.indexed.proofs.live.Reads as live-reads
-use Rattle.indexed.proofs.refresh.Reads as refresh-reads
-use Rattle.indexed.proofs.take.Reads as take-reads
 
 abbrev Inv-loop : tie.InvT-loop
 Inv-loop w₀ d base slots height limit n₀ w n = Going w₀ w d height slots limit n
@@ -18,69 +12,56 @@ Inv-loop w₀ d base slots height limit n₀ w n = Going w₀ w d height slots l
 abbrev μ-loop : tie.MeasureT-loop
 μ-loop w₀ d base slots height limit n₀ w n = remaining w d slots
 
--- src/lib.rt:228:5
 loop-holds : tie.Need-loop-holds Inv-loop μ-loop
 loop-holds c = let a = c .before in going-start (a .args .w .now) (a .args .d) (a .args .height) (a .args .slots) (a .args .limit) (a .pre .1)
 
--- src/lib.rt:229:32
 mul-first : tie.Need-mul-first Inv-loop μ-loop
 mul-first c = omega (arith, c .before .loop .inv .owning .ground .room .few)
 
--- src/lib.rt:229:13
 first-requires : tie.Need-first-requires Inv-loop μ-loop
 first-requires c κs = first-in (c .before .loop .inv)
 
--- src/lib.rt:235:12
 live-requires : tie.Need-live-requires Inv-loop μ-loop
 live-requires c κs =
     let g = c .before .before .before .before .loop .inv in let f = c .before .before .first in
     (g .owning .ground .room, i-in g (f .result) (f .ensures) (c .before .if1 .left), j-in g (f .result) (f .ensures) (c .before .if1 .left))
 
--- src/lib.rt:236:13
 take-requires : tie.Need-take-requires Inv-loop μ-loop
 take-requires c κs =
     let g = c .before .before .before .before .before .before .before .loop .inv in
     let f = c .before .before .before .before .before .first in
     (c .before .before .before .before .before .before .before .before .before .pre .0, going-takes g (f .result) (f .ensures) (c .before .before .before .before .if1 .left) (both-free (c .before .before .live .ensures) (c .before .if2 .taken)))
 
--- src/lib.rt:237:13
 add-n : tie.Need-add-n Inv-loop μ-loop
 add-n c = omega (arith, few-pairs (c .before .before .before .before .before .before .before .before .before .before .loop .inv))
 
--- src/lib.rt:228:5
 loop-less : tie.Need-loop-less Inv-loop μ-loop
 loop-less c =
     let g = c .before .before .before .before .before .before .before .before .before .before .loop .inv in
     let f = c .before .before .before .before .before .before .before .before .first in
     took-falls g (f .result) (f .ensures) (c .before .before .before .before .before .before .before .if1 .left) (both-free (c .before .before .before .before .before .live .ensures) (c .before .before .before .before .if2 .taken)) (c .before .before .take .ensures)
 
--- src/lib.rt:228:5
 loop-again : tie.Need-loop-again Inv-loop μ-loop
 loop-again c =
     let g = c .before .before .before .before .before .before .before .before .before .before .loop .inv in
     let f = c .before .before .before .before .before .before .before .before .first in
     going-took g (f .result) (f .ensures) (c .before .before .before .before .before .before .before .if1 .left) (both-free (c .before .before .before .before .before .live .ensures) (c .before .before .before .before .if2 .taken)) (c .before .before .take .ensures)
 
--- src/lib.rt:240:9
 refresh-requires : tie.Need-refresh-requires Inv-loop μ-loop
 refresh-requires c κs = let g = c .before .before .before .before .before .before .before .loop .inv in let f = c .before .before .before .before .before .first in going-stale g (f .result) (f .ensures) (c .before .before .before .before .if1 .left)
 
--- src/lib.rt:228:5
 loop-less-2 : tie.Need-loop-less-2 Inv-loop μ-loop
 loop-less-2 c =
     let g = c .before .before .before .before .before .before .before .before .before .before .loop .inv in
     let f = c .before .before .before .before .before .before .before .before .first in
     again-falls g (f .result) (f .ensures) (c .before .before .before .before .before .before .before .if1 .left) (c .before .before .refresh .ensures) (one-taken (c .before .before .before .before .before .live .ensures) (c .before .before .before .before .if2 .left))
 
--- src/lib.rt:228:5
 loop-again-2 : tie.Need-loop-again-2 Inv-loop μ-loop
 loop-again-2 c = let g = c .before .before .before .before .before .before .before .before .before .before .loop .inv in let f = c .before .before .before .before .before .before .before .before .first in going-again g (f .result) (f .ensures) (c .before .before .before .before .before .before .before .if1 .left) (c .before .before .refresh .ensures)
 
--- src/lib.rt:223:1
 same-length : tie.Need-same-length Inv-loop μ-loop
 same-length c = c .before .before .before .loop .inv .kept .long
 
--- src/lib.rt:223:1
 returns : tie.Need-returns Inv-loop μ-loop
 returns c = let g = c .before .before .before .loop .inv in let f = c .before .first in going-stop g (f .result) (f .ensures) (c .if1 .taken)
 

@@ -5,52 +5,37 @@ use Rattle.owners.specs.Tables.{order-at}
 use borrow.Author.Needs.{needs}
 use Rattle.indexed.proofs.leaf.Statement.{statement}
 use Rattle.indexed.proofs.leaf.Tie as tie
-use Rattle.indexed.proofs.leaf.Reads as reads
-use Rattle.indexed.proofs.leaf.Lts as lts
-use Rattle.bounds.proofs.Bounds.empty.Reads as empty-reads
-use Rattle.ends.proofs.direction_at.Reads as direction-at-reads
 
--- src/lib.rt:76:9
 empty-requires : tie.Need-empty-requires
 empty-requires c κs = search needs
 
--- src/lib.rt:76:9
 returns : tie.Need-returns
 returns c = let a = c .before .before .before in c .empty .ensures ∙ leaf-out (a .pre .room) (order-at (a .args .w .now) (a .args .d)) (a .args .p) (c .before .if1 .taken)
 
--- src/lib.rt:78:15
 mul-e : tie.Need-mul-e
 mul-e c = search needs
 
--- src/lib.rt:78:15
 add-e : tie.Need-add-e
 add-e c = search needs
 
--- src/lib.rt:78:13
 mul-e-2 : tie.Need-mul-e-2
 mul-e-2 c = search needs
 
--- src/lib.rt:78:13
 shared-slice-read-e : tie.Need-shared-slice-read-e
 shared-slice-read-e c = search needs
 
--- src/lib.rt:79:35
 direction-at-requires : tie.Need-direction-at-requires
 direction-at-requires c κs = let a = c .before .before .before in (a .pre .room, a .pre .order .order-in (a .args .p) (c .before .if1 .left))
 
--- src/lib.rt:79:27
 enum-known-x : tie.Need-enum-known-x
 enum-known-x c = search needs
 
--- src/lib.rt:80:9
 enum-told : tie.Need-enum-told
 enum-told c = search needs
 
--- src/lib.rt:80:9
 empty-requires-2 : tie.Need-empty-requires-2
 empty-requires-2 c κs = search needs
 
--- src/lib.rt:80:9
 returns-2 : tie.Need-returns-2
 returns-2 c =
     let a = c .before .before .before .before .before .before .before in
@@ -58,7 +43,6 @@ returns-2 c =
     ∙ leaf-in (a .pre .room) (order-at (a .args .w .now) (a .args .d)) (a .args .p) (c .before .before .before .before .before .if1 .left) (a .pre .order .order-in (a .args .p) (c .before .before .before .before .before .if1 .left)) _
     (sym (c .before .enum-told .given .1) ∙ c .before .before .before .direction-at .ensures)
 
--- src/lib.rt:71:1
 returns-3 : tie.Need-returns-3
 returns-3 c =
     let a = c .before .before .before .before .before .before .before in

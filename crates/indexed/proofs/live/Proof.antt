@@ -5,46 +5,34 @@ use Rattle.indexed.proofs.Parts.{is-taken, free-both}
 use borrow.Author.Needs.{needs}
 use Rattle.indexed.proofs.live.Statement.{statement}
 use Rattle.indexed.proofs.live.Tie as tie
-use Rattle.indexed.proofs.live.Reads as reads
-use Rattle.indexed.proofs.live.Lts as lts
 
--- src/lib.rt:203:10
 mul-if1 : tie.Need-mul-if1
 mul-if1 c = search needs
 
--- src/lib.rt:203:10
 add-if1 : tie.Need-add-if1
 add-if1 c = search needs
 
--- src/lib.rt:203:8
 mul-if1-2 : tie.Need-mul-if1-2
 mul-if1-2 c = search needs
 
--- src/lib.rt:203:8
 shared-slice-read-if1 : tie.Need-shared-slice-read-if1
 shared-slice-read-if1 c = search needs
 
--- src/lib.rt:204:9
 returns : tie.Need-returns
 returns c = let a = c .before .before in simp (is-taken (a .args .w .now) (a .args .d) (a .args .i) (a .pre .1) (c .if1 .taken))
 
--- src/lib.rt:206:7
 mul-result : tie.Need-mul-result
 mul-result c = search needs
 
--- src/lib.rt:206:7
 add-result : tie.Need-add-result
 add-result c = search needs
 
--- src/lib.rt:206:5
 mul-result-2 : tie.Need-mul-result-2
 mul-result-2 c = search needs
 
--- src/lib.rt:206:5
 shared-slice-read-result : tie.Need-shared-slice-read-result
 shared-slice-read-result c = search needs
 
--- src/lib.rt:199:1
 returns-2 : tie.Need-returns-2
 returns-2 c = let a = c .before .before .before in free-both (a .args .w .now) (a .args .d) (a .args .i) (a .args .j) (a .pre .1) (a .pre .2) (c .before .if1 .left)
 

@@ -4,11 +4,6 @@ use native.Mathlib.Omega.{arith}
 use Rattle.indexed.proofs.Planting.{Planting, planting-start, planting-sorted, planting-room, planting-sound, planting-next, planting-leaves, planting-stop}
 use Rattle.indexed.proofs.plant.Statement.{statement}
 use Rattle.indexed.proofs.plant.Tie as tie
-use Rattle.indexed.proofs.plant.Reads as reads
-use Rattle.indexed.proofs.plant.Lts as lts
-use Rattle.index.proofs.join.Reads as join-reads
-use Rattle.index.proofs.put.Reads as put-reads
-use Rattle.indexed.proofs.leaf.Reads as leaf-reads
 
 abbrev Inv-loop : tie.InvT-loop
 Inv-loop w₀ d base t p₀ w p = (t ≡ d * 22) × Planting w₀ w d base p
@@ -16,49 +11,38 @@ Inv-loop w₀ d base t p₀ w p = (t ≡ d * 22) × Planting w₀ w d base p
 abbrev μ-loop : tie.MeasureT-loop
 μ-loop w₀ d base t p₀ w p = base - p
 
--- src/lib.rt:96:13
 mul-t : tie.Need-mul-t Inv-loop μ-loop
 mul-t c = omega (arith, c .before .pre .sorted .room .few)
 
--- src/lib.rt:98:5
 loop-holds : tie.Need-loop-holds Inv-loop μ-loop
 loop-holds c = (refl, planting-start (c .before .args .w .now) (c .before .args .d) (c .before .args .base))
 
--- src/lib.rt:99:13
 leaf-requires : tie.Need-leaf-requires Inv-loop μ-loop
 leaf-requires c κs = planting-sorted (c .before .before .before .before .pre) (c .before .before .loop .inv .1)
 
--- src/lib.rt:100:26
 add-put : tie.Need-add-put Inv-loop μ-loop
 add-put c = let b = planting-room (c .before .before .before .before .before .before .pre) (c .before .before .before .before .loop .inv .1) in omega (arith, b .0, c .before .before .before .before .before .before .pre .sorted .room .few, c .before .before .before .loop-test .taken, c .before .before .before .before .before .before .pre .most)
 
--- src/lib.rt:100:9
 put-requires : tie.Need-put-requires Inv-loop μ-loop
 put-requires c κs =
     let b = planting-room (c .before .before .before .before .before .before .pre) (c .before .before .before .before .loop .inv .1) in
     (omega (arith, b .0, b .1, c .before .before .before .loop-test .taken), planting-sound (c .before .before .before .before .before .before .pre) (c .before .before .before .before .loop .inv .1) (c .before .before .before .loop-test .taken) (c .before .leaf .ensures))
 
--- src/lib.rt:101:9
 add-p : tie.Need-add-p Inv-loop μ-loop
 add-p c = omega (arith, c .before .before .before .before .before .before .before .before .before .pre .sorted .room .few, c .before .before .before .before .before .before .loop-test .taken, c .before .before .before .before .before .before .before .before .before .pre .most)
 
--- src/lib.rt:98:5
 loop-less : tie.Need-loop-less Inv-loop μ-loop
 loop-less c = omega (arith, c .before .before .before .before .before .before .loop-test .taken)
 
--- src/lib.rt:98:5
 loop-again : tie.Need-loop-again Inv-loop μ-loop
 loop-again c = (refl, planting-next (c .before .before .before .before .before .before .before .before .before .pre) (c .before .before .before .before .before .before .before .loop .inv .1) (c .before .before .before .before .before .before .loop-test .taken) (c .before .before .before .before .leaf .ensures) (c .before .before .put .ensures))
 
--- src/lib.rt:103:5
 join-requires : tie.Need-join-requires Inv-loop μ-loop
 join-requires c κs = planting-leaves (c .before .before .before .before .pre) (c .before .before .loop .inv .1) (c .before .loop-test .left)
 
--- src/lib.rt:92:1
 same-length : tie.Need-same-length Inv-loop μ-loop
 same-length c = planting-stop (c .before .before .before .before .before .before .before .pre) (c .before .before .before .before .before .loop .inv .1) (c .before .before .before .before .loop-test .left) (c .before .before .join .ensures) .kept .long
 
--- src/lib.rt:92:1
 returns : tie.Need-returns Inv-loop μ-loop
 returns c = planting-stop (c .before .before .before .before .before .before .before .pre) (c .before .before .before .before .before .loop .inv .1) (c .before .before .before .before .loop-test .left) (c .before .before .join .ensures)
 

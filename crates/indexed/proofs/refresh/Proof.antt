@@ -4,44 +4,31 @@ use native.Mathlib.Omega.{arith}
 use borrow.Author.Needs.{needs}
 use Rattle.indexed.proofs.refresh.Statement.{statement}
 use Rattle.indexed.proofs.refresh.Tie as tie
-use Rattle.indexed.proofs.refresh.Reads as reads
-use Rattle.indexed.proofs.refresh.Lts as lts
-use Rattle.heap.proofs.set.Reads as set-reads
-use Rattle.indexed.proofs.first_of.Reads as first-of-reads
 
--- src/lib.rt:119:15
 mul-s : tie.Need-mul-s
 mul-s c = search needs
 
--- src/lib.rt:119:15
 add-s : tie.Need-add-s
 add-s c = search needs
 
--- src/lib.rt:119:13
 mul-s-2 : tie.Need-mul-s-2
 mul-s-2 c = search needs
 
--- src/lib.rt:119:13
 slice-read-s : tie.Need-slice-read-s
 slice-read-s c = search needs
 
--- src/lib.rt:120:9
 first-of-requires : tie.Need-first-of-requires
 first-of-requires c κs = search needs
 
--- src/lib.rt:121:18
 mul-set : tie.Need-mul-set
 mul-set c = search needs
 
--- src/lib.rt:121:5
 set-requires : tie.Need-set-requires
 set-requires c κs = search needs
 
--- src/lib.rt:115:1
 same-length : tie.Need-same-length
 same-length c = search needs
 
--- src/lib.rt:115:1
 returns : tie.Need-returns
 returns c = refreshed (c .before .before .before .before .first-of .ensures) (c .before .before .set .ensures)
 

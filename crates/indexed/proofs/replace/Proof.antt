@@ -8,130 +8,94 @@ use Rattle.indexed.proofs.Handing.{ground-sorted, group-in, due-below, 
 use borrow.Author.Needs.{needs}
 use Rattle.indexed.proofs.replace.Statement.{statement}
 use Rattle.indexed.proofs.replace.Tie as tie
-use Rattle.indexed.proofs.replace.Reads as reads
-use Rattle.indexed.proofs.replace.Lts as lts
-use Rattle.heap.proofs.set.Reads as set-reads
-use Rattle.indexed.proofs.refresh.Reads as refresh-reads
-use Rattle.owners.proofs.due.Reads as due-reads
-use Rattle.tree.proofs.Place.none.Reads as none-reads
 
--- src/lib.rt:180:15
 mul-s : tie.Need-mul-s
 mul-s c = omega (arith, c .before .pre .owning .ground .room .few)
 
--- src/lib.rt:180:15
 add-s : tie.Need-add-s
 add-s c = omega (arith, c .before .pre .owning .ground .room .few, c .before .pre .within)
 
--- src/lib.rt:180:13
 mul-s-2 : tie.Need-mul-s-2
 mul-s-2 c = omega (arith, c .before .pre .owning .ground .room .few, c .before .pre .within)
 
--- src/lib.rt:180:13
 slice-read-s : tie.Need-slice-read-s
 slice-read-s c = omega (arith, c .before .before .pre .owning .ground .room .long, c .before .before .pre .within)
 
--- src/lib.rt:182:9
 returns : tie.Need-returns
 returns c = replaces-idle (c .before .before .before .pre) (c .if1 .taken)
 
--- src/lib.rt:184:15
 mul-g : tie.Need-mul-g
 mul-g c = omega (arith, c .before .before .before .pre .owning .ground .room .few)
 
--- src/lib.rt:184:15
 add-g : tie.Need-add-g
 add-g c = omega (arith, c .before .before .before .pre .owning .ground .room .few, c .before .before .before .pre .within)
 
--- src/lib.rt:184:13
 mul-g-2 : tie.Need-mul-g-2
 mul-g-2 c = omega (arith, c .before .before .before .pre .owning .ground .room .few, c .before .before .before .pre .within)
 
--- src/lib.rt:184:13
 slice-read-g : tie.Need-slice-read-g
 slice-read-g c = omega (arith, c .before .before .before .before .pre .owning .ground .room .long, c .before .before .before .before .pre .within)
 
--- src/lib.rt:185:13
 mul-k : tie.Need-mul-k
 mul-k c = omega (arith, c .before .before .before .before .pre .owning .ground .room .few)
 
--- src/lib.rt:185:13
 add-k : tie.Need-add-k
 add-k c = let r = c .before .before .before .before .pre in omega (arith, r .owning .ground .room .few, group-in (r .owning) _ (r .within) (r .taken) (r .holds))
 
--- src/lib.rt:186:16
 mul-from : tie.Need-mul-from
 mul-from c = let r = c .before .before .before .before .pre in omega (arith, r .owning .ground .room .few, group-in (r .owning) _ (r .within) (r .taken) (r .holds))
 
--- src/lib.rt:186:16
 slice-read-from : tie.Need-slice-read-from
 slice-read-from c = let r = c .before .before .before .before .before .pre in omega (arith, r .owning .ground .room .long, group-in (r .owning) _ (r .within) (r .taken) (r .holds))
 
--- src/lib.rt:187:9
 due-requires : tie.Need-due-requires
 due-requires c κs = ground-sorted (c .before .before .before .before .before .before .pre .owning .ground)
 
--- src/lib.rt:189:22
 mul-set : tie.Need-mul-set
 mul-set c = omega (arith, c .before .before .before .before .before .before .before .before .before .pre .owning .ground .room .few)
 
--- src/lib.rt:189:42
 none-requires : tie.Need-none-requires
 none-requires c κs = tt
 
--- src/lib.rt:189:9
 set-requires : tie.Need-set-requires
 set-requires c κs = let r = c .before .before .before .before .before .before .before .before .before .before .pre in heap-whole (r .owning) _ (r .within) (omega (arith, slot-here (r .owning) _ (r .within), c .before .before .before .before .before .before .before .if1 .left)) (r .holds)
 
--- src/lib.rt:190:9
 same-length : tie.Need-same-length
 same-length c = c .before .before .set .ensures .kept .long
 
--- src/lib.rt:190:9
 returns-2 : tie.Need-returns-2
 returns-2 c = replaces-none (c .before .before .before .before .before .before .before .before .before .before .before .before .before .pre) (c .before .before .before .before .before .before .before .before .before .before .if1 .left) (c .before .before .before .before .before .before .due .ensures) (c .before .before .before .before .before .if2 .taken) (c .before .before .before .none .ensures) (c .before .before .set .ensures)
 
--- src/lib.rt:192:15
 mul-o : tie.Need-mul-o
 mul-o c = omega (arith, c .before .before .before .before .before .before .before .before .pre .owning .ground .room .few)
 
--- src/lib.rt:192:15
 add-o : tie.Need-add-o
 add-o c = let r = c .before .before .before .before .before .before .before .before .pre in omega (arith, r .owning .ground .room .few, due-below (r .owning) _ (r .within) (r .taken) (r .holds) (c .before .before .before .before .before .if1 .left) (c .before .due .ensures) (c .if2 .left))
 
--- src/lib.rt:192:13
 mul-o-2 : tie.Need-mul-o-2
 mul-o-2 c = let r = c .before .before .before .before .before .before .before .before .pre in omega (arith, r .owning .ground .room .few, due-below (r .owning) _ (r .within) (r .taken) (r .holds) (c .before .before .before .before .before .if1 .left) (c .before .due .ensures) (c .if2 .left))
 
--- src/lib.rt:192:13
 slice-read-o : tie.Need-slice-read-o
 slice-read-o c = let r = c .before .before .before .before .before .before .before .before .before .pre in omega (arith, r .owning .ground .room .long, due-below (r .owning) _ (r .within) (r .taken) (r .holds) (c .before .before .before .before .before .before .if1 .left) (c .before .before .due .ensures) (c .before .if2 .left))
 
--- src/lib.rt:193:13
 add-w : tie.Need-add-w
 add-w c = let r = c .before .before .before .before .before .before .before .before .before .pre in omega (arith, r .owning .ground .room .few, due-below (r .owning) _ (r .within) (r .taken) (r .holds) (c .before .before .before .before .before .before .if1 .left) (c .before .before .due .ensures) (c .before .if2 .left))
 
--- src/lib.rt:193:5
 mul-w : tie.Need-mul-w
 mul-w c = let r = c .before .before .before .before .before .before .before .before .before .pre in omega (arith, r .owning .ground .room .few, group-in (r .owning) _ (r .within) (r .taken) (r .holds))
 
--- src/lib.rt:193:5
 slice-write-w : tie.Need-slice-write-w
 slice-write-w c = let r = c .before .before .before .before .before .before .before .before .before .pre in omega (arith, r .owning .ground .room .long, group-in (r .owning) _ (r .within) (r .taken) (r .holds))
 
--- src/lib.rt:194:7
 mul-w-2 : tie.Need-mul-w-2
 mul-w-2 c = omega (arith, c .before .before .before .before .before .before .before .before .before .pre .owning .ground .room .few)
 
--- src/lib.rt:194:7
 add-w-2 : tie.Need-add-w-2
 add-w-2 c = let r = c .before .before .before .before .before .before .before .before .before .pre in omega (arith, r .owning .ground .room .few, due-end (r .owning) _ (r .within) (r .taken) (r .holds) (c .before .before .before .before .before .before .if1 .left) (c .before .before .due .ensures) (c .before .if2 .left))
 
--- src/lib.rt:194:5
 mul-w-3 : tie.Need-mul-w-3
 mul-w-3 c = let r = c .before .before .before .before .before .before .before .before .before .pre in omega (arith, r .owning .ground .room .few, due-end (r .owning) _ (r .within) (r .taken) (r .holds) (c .before .before .before .before .before .before .if1 .left) (c .before .before .due .ensures) (c .before .if2 .left))
 
--- src/lib.rt:194:5
 slice-write-w-2 : tie.Need-slice-write-w-2
 slice-write-w-2 c =
     let a = c .before .before .before .before .before .before .before .before .before in
@@ -143,15 +107,12 @@ slice-write-w-2 c =
       length-set (a .args .w .now) (a .args .d * 12 + group-at (a .args .w .now) (a .args .d) (a .args .x)) (c .before .before .due .result + 1),
     )
 
--- src/lib.rt:195:5
 refresh-requires : tie.Need-refresh-requires
 refresh-requires c κs = let r = c .before .before .before .before .before .before .before .before .before .before .pre in stale-next (r .owning) _ (r .within) (r .taken) (r .holds) (c .before .before .before .before .before .before .before .if1 .left) (c .before .before .before .due .ensures) (c .before .before .if2 .left)
 
--- src/lib.rt:176:1
 same-length-2 : tie.Need-same-length-2
 same-length-2 c = replaces-next (c .before .before .before .before .before .before .before .before .before .before .before .before .before .pre) (c .before .before .before .before .before .before .before .before .before .before .if1 .left) (c .before .before .before .before .before .before .due .ensures) (c .before .before .before .before .before .if2 .left) (c .before .before .refresh .ensures) .kept .long
 
--- src/lib.rt:176:1
 returns-3 : tie.Need-returns-3
 returns-3 c = replaces-next (c .before .before .before .before .before .before .before .before .before .before .before .before .before .pre) (c .before .before .before .before .before .before .before .before .before .before .if1 .left) (c .before .before .before .before .before .before .due .ensures) (c .before .before .before .before .before .if2 .left) (c .before .before .refresh .ensures)
 

@@ -5,76 +5,55 @@ use lib.ListN.{length, set, length-set}
 use Rattle.indexed.proofs.Taking.{takes-i, takes-j, hands-i, hands-j, takings}
 use Rattle.indexed.proofs.take.Statement.{statement}
 use Rattle.indexed.proofs.take.Tie as tie
-use Rattle.indexed.proofs.take.Reads as reads
-use Rattle.indexed.proofs.take.Lts as lts
-use Rattle.indexed.proofs.replace.Reads as replace-reads
-use Rattle.indexed.proofs.retire.Reads as retire-reads
 
--- src/lib.rt:214:7
 mul-w : tie.Need-mul-w
 mul-w c = let a = c .before in omega (arith, a .pre .1 .owning .ground .room .few, a .pre .1 .place)
 
--- src/lib.rt:214:19
 mul-w-2 : tie.Need-mul-w-2
 mul-w-2 c = let a = c .before in omega (arith, a .pre .1 .owning .ground .room .few, a .pre .1 .place)
 
--- src/lib.rt:214:7
 add-w : tie.Need-add-w
 add-w c = let a = c .before in omega (arith, a .pre .1 .owning .ground .room .few, a .pre .1 .place)
 
--- src/lib.rt:214:5
 mul-w-3 : tie.Need-mul-w-3
 mul-w-3 c = let a = c .before in omega (arith, a .pre .1 .owning .ground .room .few, a .pre .1 .place)
 
--- src/lib.rt:214:5
 slice-write-w : tie.Need-slice-write-w
 slice-write-w c = let a = c .before in omega (arith, a .pre .1 .owning .ground .room .long, a .pre .1 .place)
 
--- src/lib.rt:215:7
 mul-w-4 : tie.Need-mul-w-4
 mul-w-4 c = let a = c .before in omega (arith, a .pre .1 .owning .ground .room .few, a .pre .1 .place)
 
--- src/lib.rt:215:19
 mul-w-5 : tie.Need-mul-w-5
 mul-w-5 c = let a = c .before in omega (arith, a .pre .1 .owning .ground .room .few, a .pre .1 .place)
 
--- src/lib.rt:215:7
 add-w-2 : tie.Need-add-w-2
 add-w-2 c = let a = c .before in omega (arith, a .pre .1 .owning .ground .room .few, a .pre .1 .place)
 
--- src/lib.rt:215:7
 add-w-3 : tie.Need-add-w-3
 add-w-3 c = let a = c .before in omega (arith, a .pre .1 .owning .ground .room .few, a .pre .1 .place)
 
--- src/lib.rt:215:5
 mul-w-6 : tie.Need-mul-w-6
 mul-w-6 c = let a = c .before in omega (arith, a .pre .1 .owning .ground .room .few, a .pre .1 .place)
 
--- src/lib.rt:215:5
 slice-write-w-2 : tie.Need-slice-write-w-2
 slice-write-w-2 c = let a = c .before in omega (arith, a .pre .1 .owning .ground .room .long, a .pre .1 .place, length-set (a .args .w .now) (a .args .d * 4 + a .args .n * 2) (a .args .i))
 
--- src/lib.rt:216:5
 retire-requires : tie.Need-retire-requires
 retire-requires c κs = takes-i (c .before .before .pre .0) (c .before .before .pre .1)
 
--- src/lib.rt:217:5
 retire-requires-2 : tie.Need-retire-requires-2
 retire-requires-2 c κs = takes-j (c .before .before .before .before .before .before .pre .0) (c .before .before .before .before .before .before .pre .1) (c .before .before .before .retire .ensures)
 
--- src/lib.rt:218:5
 replace-requires : tie.Need-replace-requires
 replace-requires c κs = hands-i (c .before .before .before .before .before .before .before .before .before .before .pre .0) (c .before .before .before .before .before .before .before .before .before .before .pre .1) (c .before .before .before .before .before .before .before .retire .ensures) (c .before .before .before .retire2 .ensures)
 
--- src/lib.rt:219:5
 replace-requires-2 : tie.Need-replace-requires-2
 replace-requires-2 c κs = hands-j (c .before .before .before .before .before .before .before .before .before .before .before .before .before .before .pre .0) (c .before .before .before .before .before .before .before .before .before .before .before .before .before .before .pre .1) (c .before .before .before .before .before .before .before .before .before .before .before .retire .ensures) (c .before .before .before .before .before .before .before .retire2 .ensures) (c .before .before .before .replace .ensures)
 
--- src/lib.rt:210:1
 same-length : tie.Need-same-length
 same-length c = takings (c .before .before .before .before .before .before .before .before .before .before .before .before .before .before .before .before .before .pre .0) (c .before .before .before .before .before .before .before .before .before .before .before .before .before .before .before .before .before .pre .1) (c .before .before .before .before .before .before .before .before .before .before .before .before .before .before .retire .ensures) (c .before .before .before .before .before .before .before .before .before .before .retire2 .ensures) (c .before .before .before .before .before .before .replace .ensures) (c .before .before .replace2 .ensures) .kept .long
 
--- src/lib.rt:210:1
 returns : tie.Need-returns
 returns c = takings (c .before .before .before .before .before .before .before .before .before .before .before .before .before .before .before .before .before .pre .0) (c .before .before .before .before .before .before .before .before .before .before .before .before .before .before .before .before .before .pre .1) (c .before .before .before .before .before .before .before .before .before .before .before .before .before .before .retire .ensures) (c .before .before .before .before .before .before .before .before .before .before .retire2 .ensures) (c .before .before .before .before .before .before .replace .ensures) (c .before .before .replace2 .ensures)
 

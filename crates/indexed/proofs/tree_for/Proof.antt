@@ -5,8 +5,6 @@ use native.Mathlib.Omega.{arith}
 use Rattle.indexed.proofs.Sizes.{Sizing, sizing-start, sizing-next, sizing-stop}
 use Rattle.indexed.proofs.tree_for.Statement.{statement}
 use Rattle.indexed.proofs.tree_for.Tie as tie
-use Rattle.indexed.proofs.tree_for.Reads as reads
-use Rattle.indexed.proofs.tree_for.Lts as lts
 
 abbrev Inv-loop : tie.InvT-loop
 Inv-loop n base₀ height₀ base height = Sizing n base height
@@ -14,27 +12,21 @@ Inv-loop n base₀ height₀ base height = Sizing n base height
 abbrev μ-loop : tie.MeasureT-loop
 μ-loop n base₀ height₀ base height = n - base
 
--- src/lib.rt:51:5
 loop-holds : tie.Need-loop-holds Inv-loop μ-loop
 loop-holds c = sizing-start (c .args .n)
 
--- src/lib.rt:52:16
 mul-base : tie.Need-mul-base Inv-loop μ-loop
 mul-base c = omega (arith, c .before .before .pre, c .loop-test .taken)
 
--- src/lib.rt:53:9
 add-height : tie.Need-add-height Inv-loop μ-loop
 add-height c = omega (arith, c .before .before .pre, c .loop-test .taken, c .before .loop .inv .some)
 
--- src/lib.rt:51:5
 loop-less : tie.Need-loop-less Inv-loop μ-loop
 loop-less c = omega (arith, c .loop-test .taken, c .before .loop .inv .some)
 
--- src/lib.rt:51:5
 loop-again : tie.Need-loop-again Inv-loop μ-loop
 loop-again c = sizing-next (c .before .loop .inv) (c .loop-test .taken)
 
--- src/lib.rt:45:1
 returns : tie.Need-returns Inv-loop μ-loop
 returns c = sizing-stop (c .before .before .args .n) (c .before .loop .base) (c .before .loop .height) (c .before .loop .inv) (c .loop-test .left)
 

@@ -3,122 +3,93 @@ use Rattle.owners.proofs.Likeness.{first-absent, second-absent, first-d
 use borrow.Author.Needs.{needs}
 use Rattle.owners.proofs.alike.Statement.{statement}
 use Rattle.owners.proofs.alike.Tie as tie
-use Rattle.owners.proofs.alike.Reads as reads
-use Rattle.owners.proofs.alike.Lts as lts
 
--- src/lib.rt:89:8
 mul-if1 : tie.Need-mul-if1
 mul-if1 c = search needs
 
--- src/lib.rt:89:8
 shared-slice-read-if1 : tie.Need-shared-slice-read-if1
 shared-slice-read-if1 c = search needs
 
--- src/lib.rt:90:9
 returns : tie.Need-returns
 returns c =
     let a = c .before .before .args in
     first-absent (a .w .now) (a .d) (a .a) (a .e) (c .if1 .taken)
 
--- src/lib.rt:92:8
 mul-if2 : tie.Need-mul-if2
 mul-if2 c = search needs
 
--- src/lib.rt:92:8
 shared-slice-read-if2 : tie.Need-shared-slice-read-if2
 shared-slice-read-if2 c = search needs
 
--- src/lib.rt:93:9
 returns-2 : tie.Need-returns-2
 returns-2 c =
     let a = c .before .before .before .before .args in
     second-absent (a .w .now) (a .d) (a .a) (a .e) (c .before .before .if1 .left) (c .if2 .taken)
 
--- src/lib.rt:95:14
 mul-if3 : tie.Need-mul-if3
 mul-if3 c = search needs
 
--- src/lib.rt:95:10
 add-if3 : tie.Need-add-if3
 add-if3 c = search needs
 
--- src/lib.rt:95:8
 mul-if3-2 : tie.Need-mul-if3-2
 mul-if3-2 c = search needs
 
--- src/lib.rt:95:8
 shared-slice-read-if3 : tie.Need-shared-slice-read-if3
 shared-slice-read-if3 c = search needs
 
--- src/lib.rt:95:30
 mul-if3-3 : tie.Need-mul-if3-3
 mul-if3-3 c = search needs
 
--- src/lib.rt:95:26
 add-if3-2 : tie.Need-add-if3-2
 add-if3-2 c = search needs
 
--- src/lib.rt:95:24
 mul-if3-4 : tie.Need-mul-if3-4
 mul-if3-4 c = search needs
 
--- src/lib.rt:95:24
 shared-slice-read-if3-2 : tie.Need-shared-slice-read-if3-2
 shared-slice-read-if3-2 c = search needs
 
--- src/lib.rt:96:9
 returns-3 : tie.Need-returns-3
 returns-3 c =
     let a = c .before .before .before .before .before .before .before .args in
     first-differs (a .w .now) (a .d) (a .a) (a .e) (c .before .before .before .before .before .if1 .left) (c .before .before .before .if2 .left) (c .if3 .taken)
 
--- src/lib.rt:98:14
 mul-if4 : tie.Need-mul-if4
 mul-if4 c = search needs
 
--- src/lib.rt:98:10
 add-if4 : tie.Need-add-if4
 add-if4 c = search needs
 
--- src/lib.rt:98:10
 add-if4-2 : tie.Need-add-if4-2
 add-if4-2 c = search needs
 
--- src/lib.rt:98:8
 mul-if4-2 : tie.Need-mul-if4-2
 mul-if4-2 c = search needs
 
--- src/lib.rt:98:8
 shared-slice-read-if4 : tie.Need-shared-slice-read-if4
 shared-slice-read-if4 c = search needs
 
--- src/lib.rt:98:34
 mul-if4-3 : tie.Need-mul-if4-3
 mul-if4-3 c = search needs
 
--- src/lib.rt:98:30
 add-if4-3 : tie.Need-add-if4-3
 add-if4-3 c = search needs
 
--- src/lib.rt:98:30
 add-if4-4 : tie.Need-add-if4-4
 add-if4-4 c = search needs
 
--- src/lib.rt:98:28
 mul-if4-4 : tie.Need-mul-if4-4
 mul-if4-4 c = search needs
 
--- src/lib.rt:98:28
 shared-slice-read-if4-2 : tie.Need-shared-slice-read-if4-2
 shared-slice-read-if4-2 c = search needs
 
--- src/lib.rt:99:9
 returns-4 : tie.Need-returns-4
 returns-4 c =
     let a = c .before .before .before .before .before .before .before .before .before .before .args in
     second-differs (a .w .now) (a .d) (a .a) (a .e) (c .before .before .before .before .before .before .before .before .if1 .left) (c .before .before .before .before .before .before .if2 .left) (c .before .before .before .if3 .left) (c .if4 .taken)
 
--- src/lib.rt:85:1
 returns-5 : tie.Need-returns-5
 returns-5 c =
     let a = c .before .before .before .before .before .before .before .before .before .before .args in

@@ -56,13 +56,15 @@ shared-slice-read-result c = let a = c .before .before .before .before .before .
 
 returns-2 : tie.Need-returns-2
 returns-2 c =
-    let s = c .before .before .before .before .before .before .before in
-    (group-alike (s .args .w .now) (s .args .d) (s .args .p) (c .before .before .before .before .before .if1 .left) (c .before .before .alike .ensures) (c .before .if2 .taken), inr (
-      pos-of-ne-zero (c .before .before .before .before .before .if1 .left),
-      refl,
-      alike-like (s .args .w .now) (s .args .d) _ _ (s .pre .0 .room) (s .pre .0 .order .order-in (s .args .p - 1) (omega (arith, s .pre .1))) (s .pre .0 .order .order-in (s .args .p) (s .pre .1))
-          (sym (c .before .before .alike .ensures) ∙ c .before .if2 .taken),
-    ))
+    let s = c .before .before .before .before .before .before .before in (
+      group-alike (s .args .w .now) (s .args .d) (s .args .p) (c .before .before .before .before .before .if1 .left) (c .before .before .alike .ensures) (c .before .if2 .taken),
+      inr (
+        pos-of-ne-zero (c .before .before .before .before .before .if1 .left),
+        refl,
+        alike-like (s .args .w .now) (s .args .d) _ _ (s .pre .0 .room) (s .pre .0 .order .order-in (s .args .p - 1) (omega (arith, s .pre .1))) (s .pre .0 .order .order-in (s .args .p) (s .pre .1))
+            (sym (c .before .before .alike .ensures) ∙ c .before .if2 .taken),
+      ),
+    )
 
 returns-3 : tie.Need-returns-3
 returns-3 c = let s = c .before .before .before .before .before .before in (group-own (s .args .w .now) (s .args .d) (s .args .p) (c .before .before .before .before .if1 .left) (c .before .alike .ensures) (c .if2 .left), inl refl)

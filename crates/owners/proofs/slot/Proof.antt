@@ -5,50 +5,38 @@ use Rattle.owners.proofs.Turns.{there-is, there-not}
 use borrow.Author.Needs.{needs}
 use Rattle.owners.proofs.slot.Statement.{statement}
 use Rattle.owners.proofs.slot.Tie as tie
-use Rattle.owners.proofs.slot.Reads as reads
-use Rattle.owners.proofs.slot.Lts as lts
 
--- src/lib.rt:126:15
 mul-e : tie.Need-mul-e
 mul-e c = search needs
 
--- src/lib.rt:126:15
 add-e : tie.Need-add-e
 add-e c = search needs
 
--- src/lib.rt:126:13
 mul-e-2 : tie.Need-mul-e-2
 mul-e-2 c = search needs
 
--- src/lib.rt:126:13
 shared-slice-read-e : tie.Need-shared-slice-read-e
 shared-slice-read-e c = search needs
 
--- src/lib.rt:127:8
 mul-if1 : tie.Need-mul-if1
 mul-if1 c = omega (arith, c .before .pre .0 .order .order-in (c .before .args .p) (c .before .pre .1), c .before .pre .0 .room .long)
 
--- src/lib.rt:127:8
 shared-slice-read-if1 : tie.Need-shared-slice-read-if1
 shared-slice-read-if1 c = omega (arith, c .before .before .pre .0 .order .order-in (c .before .before .args .p) (c .before .before .pre .1), c .before .before .pre .0 .room .long)
 
--- src/lib.rt:128:9
 returns : tie.Need-returns
 returns c =
     let a = c .before .before .before in
     record { one-of = inl refl; due = λ t. absurd (there-not (a .args .w .now) (a .args .d) (a .pre .0 .room) _ (a .pre .0 .order .order-in (a .args .p) (a .pre .1)) (c .if1 .taken) t) }
 
--- src/lib.rt:130:12
 add-if2 : tie.Need-add-if2
 add-if2 c = search needs
 
--- src/lib.rt:131:9
 returns-2 : tie.Need-returns-2
 returns-2 c =
     let a = c .before .before .before .before in
     record { one-of = inr (refl, there-is (a .args .w .now) (a .args .d) (a .pre .0 .room) _ (a .pre .0 .order .order-in (a .args .p) (a .pre .1)) (c .before .if1 .left), c .if2 .taken); due = λ _ _. refl }
 
--- src/lib.rt:122:1
 returns-3 : tie.Need-returns-3
 returns-3 c = record { one-of = inl refl; due = λ _ h. absurd (omega (arith, h, c .if2 .left)) }
 
