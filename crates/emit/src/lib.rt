@@ -192,7 +192,7 @@ fn list_two(w: &mut [u64], from: usize, at: usize, marks: usize, mark: u64)
     w[marks + 1] = mark;
 }
 
-// The members of one piece, `count` of them from `from` on, again from `at` on, and as many marks from `marks` on. Most pieces have one member or two.
+// The members of one piece, `count` of them from `from` on, again from `at` on, and as many marks from `marks` on. One member or two are listed without a loop.
 fn list_members(w: &mut [u64], from: usize, at: usize, marks: usize, count: usize, mark: u64)
     requires { ⌜ (at + count ≤ from) × (from + count ≤ length (now w)) × (marks + count ≤ length (now w)) ⌝ }
     ensures { λ _. ⌜ Members (now (w .exit)) (now (w .entry)) from at marks count mark ⌝ }
