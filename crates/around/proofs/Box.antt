@@ -12,9 +12,9 @@ use Rattle.rules.specs.declared.Direction.{Direction}
 use Rattle.rules.specs.declared.Direction.the-variants.{Absent, Toward}
 use Rattle.order.specs.Key.{low-key}
 use Rattle.bounds.specs.declared.Bounds.{Bounds}
-use Rattle.bounds.specs.Box.{empty-of, point-of, union-of, lower-of, Sound, Holds}
+use Rattle.bounds.specs.Box.{empty-of, point-of, union-of, corner-of, Sound, Holds}
 use Rattle.bounds.proofs.Union.{empty-sound, point-sound, point-holds, union-sound, union-left, union-right}
-use Rattle.bounds.proofs.Bound.{key-bound}
+use Rattle.bounds.proofs.Bound.{corner-key}
 use Rattle.selecting.specs.Ends.{keyOf}
 use Rattle.tree.proofs.Flat.{same-or}
 use Rattle.around.specs.Around.{tame, joined-of, around-of, beyond-of}
@@ -85,18 +85,18 @@ pub beyond-absent : (b : Bounds) (limit : ℕ) {a : Direction} → a ≡ Absent 
 unfolding beyond-of
 beyond-absent b limit e = sym (ap (beyond-of b limit) e)
 
-pub beyond-toward : (b : Bounds) (limit : ℕ) {a : Direction} {x y m : Float} {k : ℕ} → a ≡ Toward x y → m ≡ lower-of b x y → k ≡ low-key m → ltb limit k ≡ beyond-of b limit a
+pub beyond-toward : (b : Bounds) (limit : ℕ) {a : Direction} {x y m : Float} {k : ℕ} → a ≡ Toward x y → m ≡ corner-of b x y → k ≡ low-key m → ltb limit k ≡ beyond-of b limit a
 unfolding beyond-of
 beyond-toward b limit e p q = ap (ltb limit) (q ∙ ap low-key p) ∙ sym (ap (beyond-of b limit) e)
 
-beyond-key : (b : Bounds) (limit : ℕ) (x y : Float) → beyond-of b limit (Toward x y) ≡ true → limit < low-key (lower-of b x y)
+beyond-key : (b : Bounds) (limit : ℕ) (x y : Float) → beyond-of b limit (Toward x y) ≡ true → limit < low-key (corner-of b x y)
 unfolding beyond-of
-beyond-key b limit x y h = ltb-true limit (low-key (lower-of b x y)) h
+beyond-key b limit x y h = ltb-true limit (low-key (corner-of b x y)) h
 
-above-lower : (b : Bounds) → Sound b → (ax ay bx by : Float) → T (finite ax) × T (finite ay) → T (finite bx) × T (finite by) → Holds b bx by
-    → low-key (lower-of b ax ay) ≤ keyOf (Toward ax ay) (Toward bx by)
+above-corner : (b : Bounds) → Sound b → (ax ay bx by : Float) → T (finite ax) × T (finite ay) → T (finite bx) × T (finite by) → Holds b bx by
+    → low-key (corner-of b ax ay) ≤ keyOf (Toward ax ay) (Toward bx by)
 unfolding keyOf
-above-lower b s ax ay bx by m n h = key-bound b s ax ay bx by (m .0) (m .1) (n .0) (n .1) h
+above-corner b s ax ay bx by m n h = corner-key b s ax ay bx by (m .0) (m .1) (n .0) (n .1) h
 
 pub beyond-above : (way : ℕ → Direction) (d limit : ℕ) → ((e : ℕ) → e < d → tame (way e) ≡ true)
     → ((e : ℕ) → e < d → beyond-of (around-of way d) limit (way e) ≡ true)
@@ -106,6 +106,6 @@ beyond-above way d limit t f i j ax ay bx by hi hj p q =
     let m = tame-parts ax ay (ap tame (sym p) ∙ t i hi) in
     let n = tame-parts bx by (ap tame (sym q) ∙ t j hj) in
     let low = beyond-key b limit ax ay (ap (beyond-of b limit) (sym p) ∙ f i hi) in
-    let up = above-lower b (around-sound way d t) ax ay bx by m n (around-holds way d t j bx by hj q) in
+    let up = above-corner b (around-sound way d t) ax ay bx by m n (around-holds way d t j bx by hj q) in
     let same : keyOf (way i) (way j) ≡ keyOf (Toward ax ay) (Toward bx by) = ap (λ (a : Direction). keyOf a (way j)) p ∙ ap (keyOf (Toward ax ay)) q in
     omega (arith, low, up, same)

@@ -1,4 +1,4 @@
--- A scan that asks each number below d the same question, and the question whether a direction is tame.
+-- A scan that asks each number below d the same question, and the questions whether a direction is tame, and whether it is in the disk.
 use Prim.Native.Nat.{ℕ, _+_, _<_}
 use mathlib.Core.Path.{_≡_, refl, sym, _∙_, ap, subst}
 use mathlib.Core.Bool.{Bool, true, false, _&&_}
@@ -11,7 +11,8 @@ use Rattle.rules.specs.declared.Direction.{Direction}
 use Rattle.rules.specs.declared.Direction.the-variants.{Absent, Toward}
 use Rattle.selecting.proofs.Order.{tf, and-left, and-right}
 use Rattle.tree.proofs.Flat.{same-or}
-use Rattle.around.specs.Around.{Every, tame}
+use Rattle.bounds.specs.Box.{round-way}
+use Rattle.around.specs.Around.{Every, tame, round-of}
 
 -- ---- one direction
 
@@ -31,6 +32,18 @@ module _ {a : Direction} {x y : Float} (e : a ≡ Toward x y) {t : Bool} (p : t 
 pub tame-parts : (x y : Float) → tame (Toward x y) ≡ true → T (finite x) × T (finite y)
 unfolding tame
 tame-parts x y h = (subst T (sym (and-left (finite x) (finite y) h)) tt, subst T (sym (and-right (finite x) (finite y) h)) tt)
+
+pub round-absent : {a : Direction} → a ≡ Absent → true ≡ round-of a
+unfolding round-of
+round-absent e = sym (ap round-of e)
+
+pub round-toward : {a : Direction} {x y : Float} → a ≡ Toward x y → {t : Bool} → t ≡ round-way x y → t ≡ round-of a
+unfolding round-of
+round-toward e q = q ∙ sym (ap round-of e)
+
+pub round-part : (x y : Float) → round-of (Toward x y) ≡ true → T (round-way x y)
+unfolding round-of
+round-part x y h = subst T (sym h) tt
 
 -- ---- the scan
 

@@ -8,7 +8,7 @@ use Rattle.rules.specs.declared.Direction.{Direction}
 use Rattle.rules.specs.declared.Direction.the-variants.{Absent, Toward}
 use Rattle.order.specs.Key.{low-key}
 use Rattle.bounds.specs.declared.Bounds.{Bounds}
-use Rattle.bounds.specs.Box.{empty-of, point-of, union-of, lower-of}
+use Rattle.bounds.specs.Box.{empty-of, point-of, union-of, round-way, corner-of}
 
 -- r tells whether p holds of each number below d
 pub record Every (p : ℕ → Bool) (d : ℕ) (r : Bool) : Type 0 where
@@ -19,6 +19,12 @@ pub record Every (p : ℕ → Bool) (d : ℕ) (r : Bool) : Type 0 where
 unfoldable pub tame : Direction → Bool
 tame Absent = true
 tame (Toward x y) = finite x && finite y
+
+-- a direction is absent or in the disk
+unfoldable pub round-of : Direction → Bool
+unfolding round-way
+round-of Absent = true
+round-of (Toward x y) = round-way x y
 
 -- the least box around a box and a direction
 unfoldable pub joined-of : Bounds → Direction → Bounds
@@ -33,4 +39,4 @@ around-of way (suc n) = joined-of (around-of way n) (way n)
 -- a direction is absent, or its measure with the nearest corner of the box is above the limit
 unfoldable pub beyond-of : Bounds → ℕ → Direction → Bool
 beyond-of b limit Absent = true
-beyond-of b limit (Toward x y) = ltb limit (low-key (lower-of b x y))
+beyond-of b limit (Toward x y) = ltb limit (low-key (corner-of b x y))

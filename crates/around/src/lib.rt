@@ -4,7 +4,7 @@ use rules::Direction;
 ghost use mathlib.Core.Path.{_≡_};
 ghost use mathlib.Core.Bool.{_&&_};
 ghost use Rattle.ends.specs.Ends.{Room, directionAt};
-ghost use Rattle.around.specs.Around.{Every, tame, joined-of, around-of, beyond-of};
+ghost use Rattle.around.specs.Around.{Every, tame, round-of, joined-of, around-of, beyond-of};
 
 // Whether a direction, if present, is finite.
 fn finite_way(way: Direction) -> bool
@@ -20,13 +20,38 @@ fn finite_way(way: Direction) -> bool
 }
 
 // Whether each present direction is finite.
-pub fn all_finite(w: &[u64], d: usize) -> bool
+fn all_finite(w: &[u64], d: usize) -> bool
     requires { ⌜ Room (now w) d ⌝ }
     ensures { λ r. ⌜ Every (λ e. tame (directionAt (now (w .entry)) d e)) d r ⌝ }
 {
     let mut e = 0;
     while e < d {
         if !finite_way(ends::direction_at(w, d, e)) {
+            return false;
+        }
+        e += 1;
+    }
+    true
+}
+
+// Whether a direction, if present, is in the disk.
+fn round_way(way: Direction) -> bool
+    ensures { λ r. ⌜ r ≡ round-of way ⌝ }
+{
+    let Direction::Toward(x, y) = way else {
+        return true;
+    };
+    bounds::is_round(x, y)
+}
+
+// Whether each present direction is in the disk.
+pub fn all_round(w: &[u64], d: usize) -> bool
+    requires { ⌜ Room (now w) d ⌝ }
+    ensures { λ r. ⌜ Every (λ e. round-of (directionAt (now (w .entry)) d e)) d r ⌝ }
+{
+    let mut e = 0;
+    while e < d {
+        if !round_way(ends::direction_at(w, d, e)) {
             return false;
         }
         e += 1;
@@ -74,7 +99,7 @@ fn beyond(b: Bounds, limit: u64, way: Direction) -> bool
     let Direction::Toward(x, y) = way else {
         return true;
     };
-    limit < order::low_key(b.lower_measure(x, y))
+    limit < order::low_key(b.corner_measure(x, y))
 }
 
 // Whether each direction is too far from the box around all of them, so that no pair qualifies.

@@ -1,11 +1,11 @@
 -- Boxes of directions: the words of the contracts of `Bounds`, and what it is for a box to hold a direction.
-use mathlib.Core.Bool.{Bool, true, false, cond}
+use mathlib.Core.Bool.{Bool, true, false, _&&_, cond}
 use Prim.Native.Nat.{ℕ, _-_, _^_, min}
-use lib.IntN.{pos}
+use lib.IntN.{pos, negsuc}
 use lib.Dec.{T}
-use lib.Ieee.{Float, fin, lt, le}
+use lib.Ieee.{Float, fin, binary64, add, sub, mul, lt, le, fits}
 use lib.Ieee.Scale.{finite}
-use Rattle.rules.specs.Plane.{nought, measure}
+use Rattle.rules.specs.Plane.{nought, clamp, dot, measure}
 use Rattle.bounds.specs.declared.Bounds.{Bounds}
 
 unfoldable pub least : Float → Float → Float
@@ -40,9 +40,47 @@ unfoldable pub corner : Float → Float → Float → Float
 corner a low high = cond (lt a nought) high low
 
 -- the measure with that corner of the box
-unfoldable pub lower-of : Bounds → Float → Float → Float
+unfoldable pub corner-of : Bounds → Float → Float → Float
 unfolding measure corner
-lower-of b ax ay = measure ax ay (corner ax (b .«low_x») (b .«high_x»)) (corner ay (b .«low_y») (b .«high_y»))
+corner-of b ax ay = measure ax ay (corner ax (b .«low_x») (b .«high_x»)) (corner ay (b .«low_y») (b .«high_y»))
+
+-- ---- directions in the unit disk, or hardly beyond it
+
+-- 1 + 2 ^ -22
+abbrev pub rim : Float
+rim = fin false 4194305 (negsuc 21)
+
+-- 1 + 2 ^ -21
+abbrev pub beyond : Float
+beyond = fin false 2097153 (negsuc 20)
+
+abbrev pub half : Float
+half = fin false 1 (negsuc 0)
+
+-- in the disk: its dot product with itself is at most the rim. Every f64 fits
+unfoldable pub round-way : Float → Float → Bool
+unfolding dot
+round-way x y = fits binary64 x && (fits binary64 y && le (dot x y x y) rim)
+
+-- what is least, in size, of a + z for z in low .. high
+unfoldable pub gap : Float → Float → Float → Float
+gap a low high = cond (lt nought (add binary64 low a)) (add binary64 low a) (cond (lt (add binary64 high a) nought) (add binary64 high a) nought)
+
+-- half of its square
+unfoldable pub half-square : Float → Float
+half-square g = mul binary64 g (mul binary64 g half)
+
+-- Two directions a and b of the disk have a dot product of (|a + b| ^ 2 - |a| ^ 2 - |b| ^ 2) / 2, so that one side of a + b bounds it; what is taken away covers the rim
+-- and every rounding.
+unfoldable pub gap-of : Bounds → Float → Float → Float
+unfolding clamp gap half-square greatest
+gap-of b ax ay =
+    clamp (sub binary64 (greatest (half-square (gap ax (b .«low_x») (b .«high_x»))) (half-square (gap ay (b .«low_y») (b .«high_y»)))) beyond)
+
+-- a measure that none of (ax, ay) with a direction in the box is below, if all are in the disk. The corner of a box of no width is a direction of its own
+unfoldable pub lower-of : Bounds → Float → Float → Float
+unfolding corner-of gap-of greatest
+lower-of b ax ay = cond (lt (b .«low_x») (b .«high_x»)) (greatest (corner-of b ax ay) (gap-of b ax ay)) (corner-of b ax ay)
 
 -- every end is finite
 pub record Sound (b : Bounds) : Type 0 where

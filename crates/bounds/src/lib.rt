@@ -2,7 +2,13 @@
 use order;
 ghost use mathlib.Core.Path.{_≡_};
 ghost use Prim.Native.Nat.{min};
-ghost use Rattle.bounds.specs.Box.{corner as corner-of, least, greatest, empty-of, union-of, lower-of};
+ghost use Rattle.bounds.specs.Box.{corner as corner-at, gap as gap-at, half-square, least, greatest, round-way, empty-of, union-of, corner-of, gap-of, lower-of};
+
+// The greatest square of a length in the disk, 1 + 2^-22: that of a direction of length 1 is below it, whether its parts were rounded to 53 binary digits or to
+// 24. And 1 + 2^-21, which is above it by more than all that is rounded.
+const RIM: f64 = 1.0000002384185791015625;
+
+const BEYOND: f64 = 1.000000476837158203125;
 
 // The lesser of two numbers. Of two zeros the first.
 fn lesser(a: f64, b: f64) -> f64
@@ -19,9 +25,35 @@ fn greater(a: f64, b: f64) -> f64
 
 // The end of low..high whose product with a is the least.
 fn corner(a: f64, low: f64, high: f64) -> f64
-    ensures { λ r. ⌜ r ≡ corner-of a low high ⌝ }
+    ensures { λ r. ⌜ r ≡ corner-at a low high ⌝ }
 {
     if a < 0.0 { high } else { low }
+}
+
+// What is least, in size, of a + z for z in low..high.
+fn gap(a: f64, low: f64, high: f64) -> f64
+    ensures { λ r. ⌜ r ≡ gap-at a low high ⌝ }
+{
+    let u = low + a;
+    if 0.0 < u {
+        return u;
+    }
+    let v = high + a;
+    if v < 0.0 { v } else { 0.0 }
+}
+
+// Half of g's square.
+fn halved(g: f64) -> f64
+    ensures { λ r. ⌜ r ≡ half-square g ⌝ }
+{
+    g * (g * 0.5)
+}
+
+// Whether a direction is in the unit disk, or hardly beyond it.
+pub fn is_round(x: f64, y: f64) -> bool
+    ensures { λ r. ⌜ r ≡ round-way x y ⌝ }
+{
+    x * x + y * y <= RIM
 }
 
 fn earlier(a: u64, b: u64) -> u64
@@ -68,11 +100,32 @@ impl Bounds {
     }
 
     // The measure of (ax, ay) with a corner of the box: at most that with each direction in it.
-    pub fn lower_measure(self, ax: f64, ay: f64) -> f64
-        ensures { λ r. ⌜ r ≡ lower-of self ax ay ⌝ }
+    pub fn corner_measure(self, ax: f64, ay: f64) -> f64
+        ensures { λ r. ⌜ r ≡ corner-of self ax ay ⌝ }
     {
         let x = corner(ax, self.low_x, self.high_x);
         let y = corner(ay, self.low_y, self.high_y);
         order::measure(ax, ay, x, y)
+    }
+
+    // The same where all are in the disk, by how far the box is from -(ax, ay). A box's corner may be as far beyond the circle as the box is wide; this is
+    // beyond it by no more than the square of that.
+    fn gap_measure(self, ax: f64, ay: f64) -> f64
+        ensures { λ r. ⌜ r ≡ gap-of self ax ay ⌝ }
+    {
+        let x = halved(gap(ax, self.low_x, self.high_x));
+        let y = halved(gap(ay, self.low_y, self.high_y));
+        order::clamped(greater(x, y) - BEYOND)
+    }
+
+    // The greater of the two. Where all directions have one x, the corner is one of them.
+    pub fn lower_measure(self, ax: f64, ay: f64) -> f64
+        ensures { λ r. ⌜ r ≡ lower-of self ax ay ⌝ }
+    {
+        let m = self.corner_measure(ax, ay);
+        if self.low_x < self.high_x {
+            return greater(m, self.gap_measure(ax, ay));
+        }
+        m
     }
 }

@@ -9,16 +9,16 @@ use native.Mathlib.Nat.{le-trans, le-of-eq}
 use native.Mathlib.Omega.{arith}
 use lib.Dec.{T, eqb}
 use lib.Ieee.{Float}
-use lib.Ieee.Scale.{finite}
 use borrow.Author.Tests.{eq-eqb, ne-eqb}
 use Rattle.rules.specs.declared.Direction.{Direction}
 use Rattle.rules.specs.declared.Direction.the-variants.{Toward}
 use Rattle.rules.specs.Plane.{measure}
 use Rattle.order.specs.Key.{key, low-key}
 use Rattle.bounds.specs.declared.Bounds.{Bounds}
-use Rattle.bounds.specs.Box.{empty-of, point-of, union-of, lower-of, Sound, Holds}
+use Rattle.bounds.specs.Box.{empty-of, point-of, union-of, round-way, lower-of, Sound, Holds}
 use Rattle.bounds.specs.Search.{place, least, Bounded}
 use Rattle.bounds.proofs.Bound.{low-key-lower, key-bound}
+use Rattle.bounds.proofs.Round.{round-finite}
 use Rattle.bounds.proofs.Union.{empty-sound, point-sound, point-holds, union-sound, union-left, union-right}
 use Rattle.selecting.specs.Ends.{keyOf}
 use Rattle.tree.specs.Places.{gone, none}
@@ -49,7 +49,7 @@ module _ (N : ℕ → Bounds) (way : ℕ → Direction) (d : ℕ) (few : d ≤ g
   pub sound : (h n : ℕ) → Built N way d h n → Sound (N n)
   unfolding Built
   sound zero n (inl e) = subst (λ (v : Bounds). Sound v) (sym e) empty-sound
-  sound zero n (inr s) = subst (λ (v : Bounds). Sound v) (sym (s .box)) (point-sound (s .x) (s .y) (s .e) (s .x-finite) (s .y-finite))
+  sound zero n (inr s) = subst (λ (v : Bounds). Sound v) (sym (s .box)) (let f = round-finite (s .x) (s .y) (s .round) in point-sound (s .x) (s .y) (s .e) (f .0) (f .1))
   sound (suc h) n b =
       subst (λ (v : Bounds). Sound v) (sym (b .0)) (union-sound (N (2 * n)) (N (2 * n + 1)) (sound h (2 * n) (b .1)) (sound h (2 * n + 1) (b .2)))
 
@@ -88,7 +88,7 @@ module _ (N : ℕ → Bounds) (way : ℕ → Direction) (d : ℕ) (few : d ≤ g
   covers zero n (inr s) =
       inr (
         s,
-        subst (λ (v : Bounds). Holds v (s .x) (s .y)) (sym (s .box)) (point-holds (s .x) (s .y) (s .e) (s .x-finite) (s .y-finite)),
+        subst (λ (v : Bounds). Holds v (s .x) (s .y)) (sym (s .box)) (let f = round-finite (s .x) (s .y) (s .round) in point-holds (s .x) (s .y) (s .e) (f .0) (f .1)),
         omega (arith, first-of (s .box)),
       )
   covers (suc h) n b =
@@ -133,7 +133,7 @@ module _ (N : ℕ → Bounds) (way : ℕ → Direction) (d : ℕ) (few : d ≤ g
     leaf-none n p = chosen _ _ _ (eq-eqb (N n .first) gone p)
 
     -- the pair with an end of the box
-    module _ (b : Bounds) (s : Sound b) (l : b .first ≤ gone) (fx : T (finite ax)) (fy : T (finite ay)) where
+    module _ (b : Bounds) (s : Sound b) (l : b .first ≤ gone) (r : T (round-way ax ay)) where
       seated : (n : ℕ) (z : Seat N way d n) → Holds b (z .x) (z .y) → b .first ≤ z .e → bound-of ax ay b ≤ pairs (z .e)
       unfolding pair-at keyOf
       seated n z w i =
@@ -141,7 +141,7 @@ module _ (N : ℕ → Bounds) (way : ℕ → Direction) (d : ℕ) (few : d ≤ g
           (le-trans (le-of-eq (bound-some b (λ e. omega (arith, e, z .within))))
           (subst (λ (k : ℕ). place (low-key (lower-of b ax ay)) (b .first) ≤ place k (z .e)) (sym (ap (keyOf (Toward ax ay)) (z .toward)))
           (place-mono (low-key (lower-of b ax ay)) (b .first) (key (measure ax ay (z .x) (z .y))) (z .e)
-          (key-bound b s ax ay (z .x) (z .y) fx fy (z .x-finite) (z .y-finite) w) i)))
+          (key-bound b s ax ay (z .x) (z .y) r (z .round) w) i)))
         where
           go : (o : Bool) → bound-of ax ay b ≤ place (keyOf (Toward ax ay) (way (z .e))) (z .e)
               → bound-of ax ay b ≤ cond o none (place (keyOf (Toward ax ay) (way (z .e))) (z .e))
@@ -159,11 +159,11 @@ module _ (N : ℕ → Bounds) (way : ℕ → Direction) (d : ℕ) (few : d ≤ g
           let q = under h (2 * n + 1) (c .1) in
           omega arith
 
-    pub bounded : T (finite ax) → T (finite ay) → (h n : ℕ) → Built N way d h n → Bounded (λ m. bound-of ax ay (N m)) leaf h n
+    pub bounded : T (round-way ax ay) → (h n : ℕ) → Built N way d h n → Bounded (λ m. bound-of ax ay (N m)) leaf h n
     unfolding Built Bounded least
-    bounded fx fy zero n b = under (N n) (sound zero n b) (first-le zero n b) fx fy zero n (covers zero n b)
-    bounded fx fy (suc h) n b =
-        (under (N n) (sound (suc h) n b) (first-le (suc h) n b) fx fy (suc h) n (covers (suc h) n b), bounded fx fy h (2 * n) (b .1), bounded fx fy h (2 * n + 1) (b .2))
+    bounded r zero n b = under (N n) (sound zero n b) (first-le zero n b) r zero n (covers zero n b)
+    bounded r (suc h) n b =
+        (under (N n) (sound (suc h) n b) (first-le (suc h) n b) r (suc h) n (covers (suc h) n b), bounded r h (2 * n) (b .1), bounded r h (2 * n + 1) (b .2))
 
     -- the first end is below the node
     pub first-under : (h n : ℕ) → Built N way d h n → (N n .first ≡ gone → ⊥) → least leaf h n ≤ pairs (N n .first)

@@ -20,7 +20,7 @@ use Rattle.ends.proofs.Reading.{ends-in-length, ends-in-at}
 use Rattle.tree.proofs.Flat.{climb, twice, left-is, right-is, last-is, next-is, below-or}
 use Rattle.index.specs.Nodes.{node-at}
 use Rattle.index.specs.Search.{Built, Ready}
-use Rattle.index.specs.Index.{box-of, Indexed, Finite, Query}
+use Rattle.index.specs.Index.{box-of, Indexed, Round, Query}
 
 -- ---- the least of the leaves, over their numbers
 module _ (w : ℕ → ℕ) where
@@ -83,7 +83,7 @@ module _ {w : List ℕ} {d : ℕ} (room : Room w d) where
 
 -- ---- the index as the search reads it
 
-module _ {w : List ℕ} {d : ℕ} (t base : ℕ) (room : Room w d) (fin : Finite (endsIn w d)) (used : ℕ → Bool) (order : ℕ → ℕ) (k : Indexed w t base (endsIn w d) used order) where
+module _ {w : List ℕ} {d : ℕ} (t base : ℕ) (room : Room w d) (all : Round (endsIn w d)) (used : ℕ → Bool) (order : ℕ → ℕ) (k : Indexed w t base (endsIn w d) used order) where
   leaf-built : (p : ℕ) → p < base → Built (node-at w t) (directionAt w d) d zero (base + p)
   unfolding Built
   leaf-built p h = go (used (order p)) (endAt (endsIn w d) (order p) .direction) refl (k .leaves p h)
@@ -100,8 +100,7 @@ module _ {w : List ℕ} {d : ℕ} (t base : ℕ) (room : Room w d) (fin : Finite
             e = order p;
             box = q;
             toward = sym (direction-is room (order p) i) ∙ e;
-            x-finite = fin (order p) x y e .0;
-            y-finite = fin (order p) x y e .1;
+            round = all (order p) x y e;
             within = i;
           })
 
@@ -117,14 +116,12 @@ module _ {w : List ℕ} {d : ℕ} (t base : ℕ) (room : Room w d) (fin : Finite
 
 pub ready : {w : List ℕ} {d t height limit o : ℕ} → Query w d t height limit o → (ax ay : Float) → Toward ax ay ≡ directionAt w d o → Ready w d t ax ay height 1
 ready {w} {d} {t} {height} {limit} {o} q ax ay e =
-    let f = q .finite-ends o ax ay (direction-is (q .room) o (q .within) ∙ sym e) in
     record {
       room = q .room;
       nodes = 2 * 2 ^ height;
       inside = omega (arith, q .inside);
       within = omega arith;
       built =
-          built-from t (2 ^ height) (q .room) (q .finite-ends) (q .used) (q .order) (q .indexed) height 1 (omega arith) (omega (arith, one-mul (2 ^ height))) (omega arith);
-      x-finite = f .0;
-      y-finite = f .1;
+          built-from t (2 ^ height) (q .room) (q .round-ends) (q .used) (q .order) (q .indexed) height 1 (omega arith) (omega (arith, one-mul (2 ^ height))) (omega arith);
+      round = q .round-ends o ax ay (direction-is (q .room) o (q .within) ∙ sym e);
     }

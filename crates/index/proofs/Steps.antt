@@ -111,8 +111,7 @@ module _ {w : List ℕ} {d t : ℕ} {ax ay : Float} {h n : ℕ} (r : Ready w d t
         inside = r .inside;
         within = room-left n h (r .nodes) p (r .within);
         built = go h p (r .built);
-        x-finite = r .x-finite;
-        y-finite = r .y-finite;
+        round = r .round;
       }
     where
       go : (h : ℕ) → 0 < h → Built N (directionAt w d) d h n → Built N (directionAt w d) d (h - 1) (2 * n)
@@ -127,8 +126,7 @@ module _ {w : List ℕ} {d t : ℕ} {ax ay : Float} {h n : ℕ} (r : Ready w d t
         inside = r .inside;
         within = room-right n h (r .nodes) p (r .within);
         built = go h p (r .built);
-        x-finite = r .x-finite;
-        y-finite = r .y-finite;
+        round = r .round;
       }
     where
       go : (h : ℕ) → 0 < h → Built N (directionAt w d) d h n → Built N (directionAt w d) d (h - 1) (2 * n + 1)
@@ -147,7 +145,7 @@ module _ {w : List ℕ} {d t : ℕ} {ax ay : Float} {h n : ℕ} (r : Ready w d t
     bound-under : bound-of ax ay (N n) ≤ least leaf h n
     bound-under =
         bounded-by (λ m. bound-of ax ay (N m)) leaf h n
-        (bounded N (directionAt w d) d few (pieceAt w d) ax ay own (r .x-finite) (r .y-finite) h n (r .built))
+        (bounded N (directionAt w d) d few (pieceAt w d) ax ay own (r .round) h n (r .built))
 
     -- the node is passed over
     pub passed-over : (a b : ℕ) → a ≡ bound-of ax ay (N n) → b ≤ a → b ≡ min b (least leaf h n)

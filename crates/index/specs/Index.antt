@@ -6,12 +6,11 @@ use mathlib.Core.List.{List}
 use lib.ListN.{length}
 use lib.Dec.{T}
 use lib.Ieee.{Float}
-use lib.Ieee.Scale.{finite}
 use Rattle.rules.specs.declared.Direction.{Direction}
 use Rattle.rules.specs.declared.Direction.the-variants.{Absent, Toward}
 use Rattle.rules.specs.Selecting.{End}
 use Rattle.bounds.specs.declared.Bounds.{Bounds}
-use Rattle.bounds.specs.Box.{empty-of, point-of}
+use Rattle.bounds.specs.Box.{empty-of, point-of, round-way}
 use Rattle.selecting.specs.Ranked.{Pair, Node, candidates, busy, before}
 use Rattle.selecting.specs.Sets.{In, EndOf}
 use Rattle.selecting.specs.Ends.{endAt, nodeOf}
@@ -42,9 +41,9 @@ pub record Placed (order pos : ℕ → ℕ) (d base : ℕ) : Type 0 where
 abbrev pub Indexed : List ℕ → ℕ → ℕ → List End → (ℕ → Bool) → (ℕ → ℕ) → Type 0
 Indexed w t base l used order = Indexes w t base (λ p. leaf-of l used (order p))
 
--- each direction is absent or finite
-abbrev pub Finite : List End → Type 0
-Finite l = (e : ℕ) (x y : Float) → endAt l e .direction ≡ Toward x y → T (finite x) × T (finite y)
+-- each direction is absent or in the disk
+abbrev pub Round : List End → Type 0
+Round l = (e : ℕ) (x y : Float) → endAt l e .direction ≡ Toward x y → T (round-way x y)
 
 -- what a query asks
 pub record Query (w : List ℕ) (d t height limit o : ℕ) : Type 0 where
@@ -52,7 +51,7 @@ pub record Query (w : List ℕ) (d t height limit o : ℕ) : Type 0 where
   pub inside : t + 10 * 2 ^ height ≤ length w
   pub limited : limit < gone
   pub within : o < d
-  pub finite-ends : Finite (endsIn w d)
+  pub round-ends : Round (endsIn w d)
   pub used : ℕ → Bool
   pub order : ℕ → ℕ
   pub pos : ℕ → ℕ

@@ -8,12 +8,11 @@ use mathlib.Core.Logic.{_⊎_}
 use lib.ListN.{length, getD}
 use lib.Dec.{T, eqb}
 use lib.Ieee.{Float}
-use lib.Ieee.Scale.{finite}
 use Rattle.rules.specs.declared.Direction.{Direction}
 use Rattle.rules.specs.declared.Direction.the-variants.{Toward}
 use Rattle.order.specs.Key.{low-key}
 use Rattle.bounds.specs.declared.Bounds.{Bounds}
-use Rattle.bounds.specs.Box.{empty-of, point-of, union-of, lower-of}
+use Rattle.bounds.specs.Box.{empty-of, point-of, union-of, round-way, lower-of}
 use Rattle.bounds.specs.Search.{place, least}
 use Rattle.selecting.specs.Ends.{keyOf}
 use Rattle.ends.specs.Ends.{Room, directionAt, pieceAt}
@@ -21,15 +20,14 @@ use Rattle.tree.specs.declared.Place.{Place}
 use Rattle.tree.specs.Places.{worth, gone, none}
 use Rattle.index.specs.Nodes.{node-at}
 
--- node n is the box of the direction of an end below d, which is finite
+-- node n is the box of the direction of an end below d, which is in the disk
 pub record Seat (N : ℕ → Bounds) (way : ℕ → Direction) (d n : ℕ) : Type 0 where
   pub x : Float
   pub y : Float
   pub e : ℕ
   pub box : N n ≡ point-of x y e
   pub toward : way e ≡ Toward x y
-  pub x-finite : T (finite x)
-  pub y-finite : T (finite y)
+  pub round : T (round-way x y)
   pub within : e < d
 
 -- a leaf is empty, or an end's; any other node is the union of its two children
@@ -66,15 +64,14 @@ pointed w t n = eqb (getD w (t + 5 * n) 0) (getD w (t + 5 * n + 2) 0) && eqb (ge
 unfoldable pub settled-at : List ℕ → ℕ → ℕ → Float → Float → ℕ → ℕ → ℕ → ℕ
 settled-at w d t ax ay own n e = cond (pointed w t n) (pair-at (directionAt w d) (pieceAt w d) ax ay own e) none
 
--- what the search asks: the tree below n, and a direction that is finite
+-- what the search asks: the tree below n, and a direction in the disk
 pub record Ready (w : List ℕ) (d t : ℕ) (ax ay : Float) (h n : ℕ) : Type 0 where
   pub room : Room w d
   pub nodes : ℕ
   pub inside : t + 5 * nodes ≤ length w
   pub within : (n + 1) * 2 ^ h ≤ nodes
   pub built : Built (node-at w t) (directionAt w d) d h n
-  pub x-finite : T (finite ax)
-  pub y-finite : T (finite ay)
+  pub round : T (round-way ax ay)
 
 -- and what it finds: the first of the best so far and of all pairs below n
 abbrev pub Finds : List ℕ → ℕ → ℕ → Float → Float → ℕ → ℕ → ℕ → Place → Place → Type 0

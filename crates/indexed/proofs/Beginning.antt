@@ -21,8 +21,8 @@ use Rattle.tree.proofs.Flat.{kept-same}
 use Rattle.bounds.specs.Box.{union-of, Sound}
 use Rattle.index.specs.Nodes as index
 use Rattle.around.specs.Around.{Every, around-of, beyond-of}
-use Rattle.around.proofs.Nothing.{finite-tame, apart-none}
-use Rattle.index.specs.Index.{leaf-of, Indexed, Finite}
+use Rattle.around.proofs.Nothing.{round-tame, apart-none}
+use Rattle.index.specs.Index.{leaf-of, Indexed, Round}
 use Rattle.heap.specs.Heap.{node-at}
 use Rattle.owners.specs.Tables.{order-at}
 use Rattle.owners.proofs.Seats.{seated}
@@ -40,7 +40,7 @@ asks-kept {w} {w′} {d} c h x =
     record {
       room = room-kept c (x .room);
       limited = x .limited;
-      finite-ends = subst (λ (l : List End). Finite l) e (x .finite-ends);
+      round-ends = subst (λ (l : List End). Round l) e (x .round-ends);
       twice = subst (λ (l : List End). AtMostTwice (λ i. endAt l i .piece) d) e (x .twice);
     }
 
@@ -62,7 +62,7 @@ module _ {w : List ℕ} {d base height slots limit : ℕ} (e : base ≡ 2 ^ heig
   begins-plants =
       record {
         sorted = x .arranged .sorted;
-        finite-ends = x .asks .finite-ends;
+        round-ends = x .asks .round-ends;
         some = omega (arith, x .sized .few, x .sized .some, x .sized .narrow);
         most = omega (arith, x .sized .most);
       }
@@ -102,7 +102,7 @@ module _ {w : List ℕ} {d base height slots limit : ℕ} (e : base ≡ 2 ^ heig
 -- each direction is beyond the box around all of them: no pair
 pub none-selected : {w : List ℕ} {d limit : ℕ} {r : Bool} → Asks w d limit → Every (λ e. beyond-of (around-of (directionAt w d) d) limit (directionAt w d e)) d r → r ≡ true
     → Selected w d limit 0 w
-none-selected {w} {d} {limit} x s told = apart-none (x .room) limit (finite-tame (x .room) (x .finite-ends)) (s .yes told)
+none-selected {w} {d} {limit} x s told = apart-none (x .room) limit (round-tame (x .room) (x .round-ends)) (s .yes told)
 
 -- one is not: there is an end
 pub some-end : {p : ℕ → Bool} {d : ℕ} {r : Bool} → Every p d r → r ≡ false → d ≡ 0 → ⊥

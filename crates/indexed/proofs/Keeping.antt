@@ -28,7 +28,7 @@ use Rattle.tree.proofs.Words.{changes-set}
 use Rattle.index.specs.declared.Best.{Best}
 use Rattle.index.specs.Nodes.{node-at, Indexes, Removes}
 use Rattle.index.specs.Nodes as index
-use Rattle.index.specs.Index.{pairOf, box-of, leaf-of, Placed, Indexed, Finite, Query, FirstPair, Answers}
+use Rattle.index.specs.Index.{pairOf, box-of, leaf-of, Placed, Indexed, Round, Query, FirstPair, Answers}
 use Rattle.index.proofs.Leaves.{there-below}
 use Rattle.heap.specs.Heap.{coded, Heaps, Sets}
 use Rattle.heap.specs.Heap as heap
@@ -80,7 +80,7 @@ ground-kept {l} {w} {d} g w′ long a b c =
       ends = ends-same w w′ d (g .room) long a ∙ g .ends;
       sized = g .sized;
       limited = g .limited;
-      finite-ends = g .finite-ends;
+      round-ends = g .round-ends;
       twice = g .twice;
       fixed =
           record {
@@ -121,7 +121,7 @@ module _ {l : List End} {w : List ℕ} {d height slots limit : ℕ} {order pos g
         inside = omega (arith, g .sized .most, g .room .long);
         limited = g .limited;
         within = h;
-        finite-ends = subst (λ (z : List End). Finite z) (sym (g .ends)) (g .finite-ends);
+        round-ends = subst (λ (z : List End). Round z) (sym (g .ends)) (g .round-ends);
         used = taken-in w d;
         order = seated order d;
         pos = pos;

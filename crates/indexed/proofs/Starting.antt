@@ -40,7 +40,7 @@ module _ {w : List ℕ} {d height slots limit : ℕ} (f : Fills w d height slots
         ends = refl;
         sized = f .begins .sized;
         limited = f .begins .asks .limited;
-        finite-ends = f .begins .asks .finite-ends;
+        round-ends = f .begins .asks .round-ends;
         twice = f .begins .asks .twice;
         fixed = record { order-is = λ p h. refl; pos-is = λ e h. refl; group-is = λ e h. refl };
         ordered = f .begins .arranged .sorted .order;

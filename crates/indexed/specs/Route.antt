@@ -21,7 +21,7 @@ use Rattle.tree.specs.Words.{Changes}
 use Rattle.index.specs.declared.Best.{Best}
 use Rattle.index.specs.Nodes.{node-at, Removes}
 use Rattle.index.specs.Nodes as index
-use Rattle.index.specs.Index.{pairOf, leaf-of, Indexed, Finite, Query, Answers}
+use Rattle.index.specs.Index.{pairOf, leaf-of, Indexed, Round, Query, Answers}
 use Rattle.heap.specs.Heap.{Heaps, coded, Sets}
 use Rattle.heap.specs.Heap as heap
 use Rattle.owners.specs.Tables.{mark-at, order-at, position-at, group-at, cursor-at, slot-at, Ordered, Runs}
@@ -74,7 +74,7 @@ pub record Ground (l : List End) (w : List ℕ) (d height slots limit : ℕ) (or
   pub ends : endsIn w d ≡ l
   pub sized : Sized d height slots
   pub limited : limit < gone
-  pub finite-ends : Finite l
+  pub round-ends : Round l
   pub twice : AtMostTwice (λ e. endAt l e .piece) d
   pub fixed : Fixed w d order pos group
   pub ordered : Ordered order pos d

@@ -10,18 +10,18 @@ use Rattle.selecting.specs.Owners.{AtMostTwice}
 use Rattle.selecting.specs.Ranked.{none as nobody}
 use Rattle.tree.specs.Places.{gone, none}
 use Rattle.tree.specs.Words.{Changes}
-use Rattle.index.specs.Index.{Indexed, Finite}
+use Rattle.index.specs.Index.{Indexed, Round}
 use Rattle.heap.specs.Heap.{node-at}
 use Rattle.owners.specs.Tables.{order-at, group-at, cursor-at, slot-at, Sorted, Runs, Started}
 use Rattle.owners.proofs.Seats.{seated}
 use Rattle.indexed.specs.declared.Size.{Size}
 use Rattle.indexed.specs.Route.{Sized, marks-in}
 
--- What a workspace must hold: room for at most 8192 ends, a limit below the greatest key, finite directions, and no piece number more than twice.
+-- What a workspace must hold: room for at most 8192 ends, a limit below the greatest key, directions in the disk, and no piece number more than twice.
 pub record Asks (w : List ℕ) (d limit : ℕ) : Type 0 where
   pub room : Room w d
   pub limited : limit < gone
-  pub finite-ends : Finite (endsIn w d)
+  pub round-ends : Round (endsIn w d)
   pub twice : AtMostTwice (λ e. endAt (endsIn w d) e .piece) d
 
 -- a power of two with a place for each of n, and not twice as great as need be
@@ -41,7 +41,7 @@ pub record Arranged (w : List ℕ) (d m : ℕ) : Type 0 where
 
 pub record Plants (w : List ℕ) (d base : ℕ) : Type 0 where
   pub sorted : Sorted w d
-  pub finite-ends : Finite (endsIn w d)
+  pub round-ends : Round (endsIn w d)
   pub some : 0 < base
   pub most : base ≤ 2 * d
 

@@ -12,7 +12,7 @@ pub measure-sym : (ax ay bx by : Float) → measure ax ay bx by ≡ measure bx b
 unfolding measure dot
 measure-sym ax ay bx by = ap₂ (λ (u v : Float). clamp (add binary64 u v)) (mul-sym binary64 ax bx) (mul-sym binary64 ay by)
 
-clamp-fits : (x : Float) → T (fits binary64 x) → T (fits binary64 (clamp x))
+pub clamp-fits : (x : Float) → T (fits binary64 x) → T (fits binary64 (clamp x))
 unfolding clamp fits
 clamp-fits x p = cond-fits binary64 (lt x minus-unity) minus-unity (cond (lt unity x) unity x) tt (cond-fits binary64 (lt unity x) unity x tt p)
 

@@ -119,7 +119,7 @@ zeros (fin false m e) (fin true n g) c d C D p q =
 abbrev pub Rounds : Format → Float → ℕ → ℕ → ℕ → Type 0
 Rounds f x P N c = ((N ≤ P) × (x ≡ round f false (P - N) c)) ⊎ ((P ≤ N) × (x ≡ round f true (N - P) c))
 
-sub-mul : (p n d : ℕ) → (p - n) * d ≡ p * d - n * d
+pub sub-mul : (p n d : ℕ) → (p - n) * d ≡ p * d - n * d
 sub-mul p n d = mul-comm (p - n) d ∙ mul-sub d p n ∙ ap₂ _-_ (mul-comm d p) (mul-comm d n)
 
 none : (a b d : ℕ) → 0 < d → a * d ≡ b * d → a - b ≡ 0
@@ -142,7 +142,7 @@ rounds-mono f x y P N c Q M d C D (inl u) (inr v) h =
 
 -- ---- the product
 -- a finite factor a by its sign, and x by plus and less
-mul-rounds : (f : Format) (m : ℕ) (e : ℤ) (x : Float) → T (finite x)
+pub mul-rounds : (f : Format) (m : ℕ) (e : ℤ) (x : Float) → T (finite x)
     → Rounds f (mul f (fin false m e) x) (m * up e * plus x) (m * up e * less x) (down e * den x)
 unfolding mul
 mul-rounds f m e nan p = absurd p
@@ -150,7 +150,7 @@ mul-rounds f m e (inf s) p = absurd p
 mul-rounds f m e (fin false n d) p = inl (omega arith, ap (λ (z : ℕ). round f false z (down e * down d)) (omega arith))
 mul-rounds f m e (fin true n d) p = inr (omega arith, ap (λ (z : ℕ). round f true z (down e * down d)) (omega arith))
 
-mul-rounds-neg : (f : Format) (m : ℕ) (e : ℤ) (x : Float) → T (finite x)
+pub mul-rounds-neg : (f : Format) (m : ℕ) (e : ℤ) (x : Float) → T (finite x)
     → Rounds f (mul f (fin true m e) x) (m * up e * less x) (m * up e * plus x) (down e * den x)
 unfolding mul
 mul-rounds-neg f m e nan p = absurd p
@@ -216,7 +216,7 @@ cond-mul false a b c = refl
 rounds-at : (f : Format) (x : Float) (P P' N N' c : ℕ) → P ≡ P' → N ≡ N' → Rounds f x P N c → Rounds f x P' N' c
 rounds-at f x P P' N N' c p q h = rw (p, q) at h
 
-add-rounds : (f : Format) (x y : Float) → T (finite x) → T (finite y)
+pub add-rounds : (f : Format) (x y : Float) → T (finite x) → T (finite y)
     → Rounds f (add f x y) (plus x * den y + plus y * den x) (less x * den y + less y * den x) (den x * den y)
 unfolding add
 add-rounds f nan y p q = absurd p

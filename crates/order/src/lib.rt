@@ -14,7 +14,7 @@ const SIGN: u64 = 0x8000_0000_0000_0000;
 const GREATEST: u64 = 0xFFFF_FFFF_FFFF_FFFF;
 
 // A dot product brought to -1..1. A NaN stays.
-fn clamped(x: f64) -> f64
+pub fn clamped(x: f64) -> f64
     ensures { λ r. ⌜ r ≡ clamp x ⌝ }
 {
     if x < -1.0 {

@@ -13,16 +13,16 @@ enum-told c = search needs
 returns : tie.Need-returns
 returns c = beyond-absent _ _ (c .enum-told .given .1)
 
-lower-measure-requires : tie.Need-lower-measure-requires
-lower-measure-requires c κs = search needs
+corner-measure-requires : tie.Need-corner-measure-requires
+corner-measure-requires c κs = search needs
 
 low-key-requires : tie.Need-low-key-requires
 low-key-requires c κs = search needs
 
 returns-2 : tie.Need-returns-2
-returns-2 c = beyond-toward _ _ (c .before .before .before .way .given .1) (c .before .lower-measure .ensures) (c .low-key .ensures)
+returns-2 c = beyond-toward _ _ (c .before .before .before .way .given .1) (c .before .corner-measure .ensures) (c .low-key .ensures)
 
 pub beyond-spec : {M : Type 1} → statement M
 beyond-spec =
     tie.close
-    (tie.spec enum-known-way enum-told returns lower-measure-requires low-key-requires returns-2)
+    (tie.spec enum-known-way enum-told returns corner-measure-requires low-key-requires returns-2)

@@ -1,22 +1,35 @@
--- `Bounds::lower_measure` meets its contract: the measure with the two corners.
-use Rattle.bounds.specs.Box.{lower-of}
+-- `Bounds::lower_measure` meets its contract: the greater of the two bounds, or the corner's where the box has no width.
+use mathlib.Core.Path.{ap₂, _∙_}
+use Rattle.bounds.specs.Box.{greatest}
+use Rattle.bounds.proofs.Round.{lower-wide, lower-thin}
 use borrow.Author.Needs.{needs}
 use Rattle.bounds.proofs.Bounds.lower_measure.Statement.{statement}
 use Rattle.bounds.proofs.Bounds.lower_measure.Tie as tie
 
-corner-requires : tie.Need-corner-requires
-corner-requires c κs = search needs
+corner-measure-requires : tie.Need-corner-measure-requires
+corner-measure-requires c κs = search needs
 
-corner-requires-2 : tie.Need-corner-requires-2
-corner-requires-2 c κs = search needs
+gap-measure-requires : tie.Need-gap-measure-requires
+gap-measure-requires c κs = search needs
 
-measure-requires : tie.Need-measure-requires
-measure-requires c κs = search needs
+greater-requires : tie.Need-greater-requires
+greater-requires c κs = search needs
 
 returns : tie.Need-returns
-unfolding lower-of
-returns c = cc
+returns c =
+    c .greater .ensures
+    ∙ ap₂ greatest (c .before .before .before .before .corner-measure .ensures) (c .before .gap-measure .ensures)
+    ∙ lower-wide _ _ _ (c .before .before .if1 .taken)
+
+returns-2 : tie.Need-returns-2
+returns-2 c = c .before .before .corner-measure .ensures ∙ lower-thin _ _ _ (c .if1 .left)
 
 pub lower-measure-spec : {M : Type 1} → statement M
 lower-measure-spec =
-    tie.close (tie.spec corner-requires corner-requires-2 measure-requires returns)
+    tie.close
+    (tie.spec
+    corner-measure-requires
+    gap-measure-requires
+    greater-requires
+    returns
+    returns-2)

@@ -1,0 +1,50 @@
+-- `chosen::indexed_pairs` meets its contract: either route gives the selection, and the index is asked only where the scan has found every direction in the disk.
+use borrow.Author.Needs.{needs}
+use Rattle.chosen.proofs.indexed_pairs.Statement.{statement}
+use Rattle.chosen.proofs.indexed_pairs.Tie as tie
+use lib.Dec.{T}
+use lib.Ieee.{binary64, fits}
+use borrow.Author.Tests.{not-false}
+use Rattle.chosen.proofs.Asking.{asks}
+
+fitting : (s : tie.Start) → T (fits binary64 (s .args .limit))
+fitting s = search needs
+
+all-round-requires : tie.Need-all-round-requires
+all-round-requires c κs = search needs
+
+plain-requires : tie.Need-plain-requires
+plain-requires c κs = search needs
+
+same-length : tie.Need-same-length
+same-length c = search needs
+
+returns : tie.Need-returns
+returns c = search needs
+
+key-requires : tie.Need-key-requires
+key-requires c κs = search needs
+
+indexed-requires : tie.Need-indexed-requires
+indexed-requires c κs =
+    let s = c .before .before .before .before .before .before in
+    asks (s .args .limit) (s .pre .0) (fitting s) (s .pre .1) (s .pre .2) (c .before .before .before .all-round .ensures) (not-false _ (c .before .before .if1 .left)) (c .key .ensures)
+
+same-length-2 : tie.Need-same-length-2
+same-length-2 c = search needs
+
+returns-2 : tie.Need-returns-2
+returns-2 c = rw (c .before .before .before .key .ensures) at (c .before .before .indexed .ensures)
+
+pub indexed-pairs-spec : {M : Type 1} → statement M
+indexed-pairs-spec =
+    tie.close
+    (tie.spec
+    all-round-requires
+    plain-requires
+    same-length
+    returns
+    key-requires
+    indexed-requires
+    same-length-2
+    returns-2)
