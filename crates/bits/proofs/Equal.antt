@@ -78,3 +78,7 @@ module _ (a b : ℕ) (a-fits : a < 2 ^ 64) (b-fits : b < 2 ^ 64) (other : a ≡ 
           let j : T (not (isNan (ofBits binary64 b))) = subst (λ (t : Bool). T (not t)) (sym f) tt in
           zero-ranks (rank binary64 (ofBits binary64 a)) (rank binary64 (ofBits binary64 b)) (ranked a a-fits i) (ranked b b-fits j)
           ∙ sym (rank-eq-is binary64 (ofBits binary64 a) (ofBits binary64 b) (ofBits-fits binary64 a) (ofBits-fits binary64 b) i j)
+
+-- numbers that differ in more than the sign are not equal
+pub apart : (a b : ℕ) → a < 2 ^ 64 → b < 2 ^ 64 → (a % 2 ^ 63 ≡ b % 2 ^ 63 → ⊥) → eq (ofBits binary64 a) (ofBits binary64 b) ≡ false
+apart a b h k o = sym (other-bits a b h k (λ e. o (ap (λ (n : ℕ). n % 2 ^ 63) e))) ∙ ne-eqb (a % 2 ^ 63 + b % 2 ^ 63) 0 (λ z. o (omega arith))

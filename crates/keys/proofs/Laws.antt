@@ -2,7 +2,7 @@
 use Prim.Native.Nat.{ℕ, _+_, _-_, _*_, _/_, _%_, _≤_, _<_}
 use mathlib.Core.Path.{_≡_, refl, sym, ap, subst, _∙_}
 use mathlib.Core.Logic.{_≢_}
-use mathlib.Core.Bool.{Bool}
+use mathlib.Core.Bool.{Bool, true}
 use mathlib.Core.List.{List}
 use native.Mathlib.Omega.{arith}
 use native.Mathlib.Decide.{ℕ-discrete}
@@ -14,7 +14,7 @@ use Rattle.rules.specs.Refusals.{sourceOf}
 use Rattle.pieces.specs.Held.{recordOf}
 use Rattle.keys.proofs.Source.{source-input, source-spare, within-input, within-spare}
 use Rattle.leaders.specs.Group.{words, wordsAt}
-use Rattle.keys.specs.Keys.{groupAt, pairAt, numberAt, wordOf, wordsFor, keyed, Placed, Grouping, Keyable, Keyed}
+use Rattle.keys.specs.Keys.{groupAt, pairAt, numberAt, wordOf, wordsFor, keyed, bothKeyed, Placed, Grouping, Keyable, Keyed}
 
 -- ---- a pair of a record
 
@@ -87,7 +87,7 @@ module _ (w′ w : List ℕ) (k p members : ℕ) (s : Same w′ w k) (hp : p + 5
   at-first : getD w′ p 0 ≡ getD w p 0
   at-first = s p (omega arith)
 
-  group-same : (groups : List ℕ) → groupAt w′ p members groups ≡ groupAt w p members groups
+  pub group-same : (groups : List ℕ) → groupAt w′ p members groups ≡ groupAt w p members groups
   unfolding groupAt
   group-same groups =
       ap (λ (i : ℕ). getD groups (getD w′ (members + i) 0) 0) at-first
@@ -96,7 +96,7 @@ module _ (w′ w : List ℕ) (k p members : ℕ) (s : Same w′ w k) (hp : p + 5
   pub source-same : (input spare : List ℕ) → sourceOf (getD w′ (p + 2) 0) input spare ≡ sourceOf (getD w (p + 2) 0) input spare
   source-same input spare = ap (λ (i : ℕ). sourceOf i input spare) (s (p + 2) (omega arith))
 
-  number-same : (side axis : ℕ) (input spare : List ℕ) → numberAt w′ p side axis input spare ≡ numberAt w p side axis input spare
+  pub number-same : (side axis : ℕ) (input spare : List ℕ) → numberAt w′ p side axis input spare ≡ numberAt w p side axis input spare
   unfolding numberAt
   number-same side axis input spare =
       ap (λ (l : List ℕ). getD l (pairAt (getD w′ (p + 3) 0) (getD w′ (p + 4) 0) side * 2 + axis) 0) (source-same input spare)
@@ -201,3 +201,67 @@ module _ (records members keys count : ℕ) (groups input spare : List ℕ) (exa
 
   pub keying-done : {w w₀ : List ℕ} {e : ℕ} → Keying w w₀ e → count * 2 ≤ e → Keyed w w₀ records members keys count groups input spare exact tolerance
   keying-done K h = record { each = λ f l. K .each f (omega arith); kept = K .kept }
+
+-- ---- both ends of a piece, by their bits
+
+module _ (records members keys count : ℕ) (groups input spare : List ℕ) (tolerance : Float) where
+  -- the exact key of end e is three stores
+  first-keyed : (w : List ℕ) (q : ℕ)
+      → three w (keys + q * 6) (groupAt w (recordOf records q) members groups) (numberAt w (recordOf records q) 0 0 input spare) (numberAt w (recordOf records q) 0 1 input spare)
+      ≡ keyed w records members keys (q * 2) groups input spare true tolerance
+  unfolding keyed wordOf
+  first-keyed w q =
+      let a : keys + q * 6 ≡ keys + q * 2 * 3 = omega arith in
+      let p : q ≡ q * 2 / 2 = omega arith in
+      let s : 0 ≡ q * 2 % 2 = omega arith in
+      λ i. three w (a i) (groupAt w (recordOf records (p i)) members groups) (numberAt w (recordOf records (p i)) (s i) 0 input spare) (numberAt w (recordOf records (p i)) (s i) 1 input spare)
+
+  second-keyed : (w : List ℕ) (q : ℕ)
+      → three w (keys + q * 6 + 3) (groupAt w (recordOf records q) members groups) (numberAt w (recordOf records q) 1 0 input spare) (numberAt w (recordOf records q) 1 1 input spare)
+      ≡ keyed w records members keys (q * 2 + 1) groups input spare true tolerance
+  unfolding keyed wordOf
+  second-keyed w q =
+      let a : keys + q * 6 + 3 ≡ keys + (q * 2 + 1) * 3 = omega arith in
+      let p : q ≡ (q * 2 + 1) / 2 = omega arith in
+      let s : 1 ≡ (q * 2 + 1) % 2 = omega arith in
+      λ i. three w (a i) (groupAt w (recordOf records (p i)) members groups) (numberAt w (recordOf records (p i)) (s i) 0 input spare) (numberAt w (recordOf records (p i)) (s i) 1 input spare)
+
+  module _ (w w₀ : List ℕ) (q : ℕ) (K : Keying records members keys count groups input spare true tolerance w w₀ (q * 2)) (Y : Keyable w₀ records members keys count groups input spare) (h : q < count) where
+    pub both-placed : Placed w (recordOf records q) input spare
+    both-placed =
+        let p : q * 2 / 2 ≡ q = omega arith in
+        subst (λ (i : ℕ). Placed w (recordOf records i) input spare) p (keying-placed records members keys count groups input spare true tolerance w w₀ (q * 2) K Y (omega arith))
+
+    pub both-group : Grouping w (recordOf records q) members groups
+    both-group =
+        let p : q * 2 / 2 ≡ q = omega arith in
+        subst (λ (i : ℕ). Grouping w (recordOf records i) members groups) p (keying-group records members keys count groups input spare true tolerance w w₀ (q * 2) K Y (omega arith))
+
+    abbrev once : List ℕ
+    once = keyed w records members keys (q * 2) groups input spare true tolerance
+
+    half : Keying records members keys count groups input spare true tolerance once w₀ (q * 2 + 1)
+    half = keying-step records members keys count groups input spare true tolerance w w₀ (q * 2) K Y (omega arith) once refl
+
+    -- what the second key reads is as it was before the first
+    below : Same once w keys
+    below j l = half .kept j l ∙ sym (K .kept j l)
+
+    member-in : members + getD w (recordOf records q) 0 < keys
+    member-in = let b = Y .below in let e = K .kept (recordOf records q) (omega arith) in omega (arith, Y .member q h)
+
+    twice : bothKeyed w records members keys q groups input spare ≡ keyed once records members keys (q * 2 + 1) groups input spare true tolerance
+    unfolding bothKeyed
+    twice =
+        let b = Y .below in
+        let u : recordOf records q + 5 ≤ keys = omega arith in
+        let g = group-same once w keys (recordOf records q) members below u member-in groups in
+        let x = number-same once w keys (recordOf records q) members below u member-in 1 0 input spare in
+        let y = number-same once w keys (recordOf records q) members below u member-in 1 1 input spare in
+        (λ i. three (first-keyed w q i) (keys + q * 6 + 3) (sym g i) (sym x i) (sym y i)) ∙ second-keyed once q
+
+    pub both-step : (w′ : List ℕ) → w′ ≡ bothKeyed w records members keys q groups input spare → Keying records members keys count groups input spare true tolerance w′ w₀ ((q + 1) * 2)
+    both-step w′ e =
+        let n : q * 2 + 1 + 1 ≡ (q + 1) * 2 = omega arith in
+        subst (λ (k : ℕ). Keying records members keys count groups input spare true tolerance w′ w₀ k) n
+        (keying-step records members keys count groups input spare true tolerance once w₀ (q * 2 + 1) half Y (omega arith) w′ (e ∙ twice))

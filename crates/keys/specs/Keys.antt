@@ -48,6 +48,18 @@ keyed w records members keys e groups input spare exact tolerance =
     (keys + e * 3 + 2)
     (wordOf exact tolerance (numberAt w (recordOf records (e / 2)) (e % 2) 1 input spare))
 
+-- the workspace with the exact keys of both ends of piece q
+unfoldable pub bothKeyed : List ℕ → ℕ → ℕ → ℕ → ℕ → List ℕ → List ℕ → List ℕ → List ℕ
+unfolding groupAt numberAt
+bothKeyed w records members keys q groups input spare =
+    let group = groupAt w (recordOf records q) members groups in
+    let first =
+    set (set (set w (keys + q * 6) group) (keys + q * 6 + 1) (numberAt w (recordOf records q) 0 0 input spare)) (keys + q * 6 + 2) (numberAt w (recordOf records q) 0 1 input spare) in
+    set
+    (set (set first (keys + q * 6 + 3) group) (keys + q * 6 + 3 + 1) (numberAt w (recordOf records q) 1 0 input spare))
+    (keys + q * 6 + 3 + 2)
+    (numberAt w (recordOf records q) 1 1 input spare)
+
 -- no slice has more numbers
 abbrev pub mostNumbers : ℕ
 mostNumbers = 1152921504606846976

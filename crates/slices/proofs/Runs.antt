@@ -1,20 +1,23 @@
 -- Laws of runs: points are laid one by one, a run after a run is one run, and numbers read two by two are the points of a run, forward and back.
-use Prim.Native.Nat.{ℕ, zero, suc, _+_, _-_, _*_, _/_, _≤_, _<_}
+use Prim.Native.Nat.{ℕ, zero, suc, _+_, _-_, _*_, _/_, _%_, _^_, _≤_, _<_}
 use mathlib.Core.Path.{_≡_, refl, sym, ap, ap₂, _∙_, subst}
 use mathlib.Core.Bool.{Bool, true, false}
 use mathlib.Core.List.{List, [], _∷_, _++_, reverse, append-assoc, append-nil, reverse-append}
 use mathlib.Core.Option.{Option, none, some}
 use native.Mathlib.Omega.{arith}
+use native.Mathlib.Decide.{decLt}
 use native.Mathlib.Nat.{le-of-suc-le-suc, not-suc-le-zero}
 use native.Mathlib.Numerals.{add-one, add-two}
 use lib.ListN.{length, take, drop, getD, set, length-append, length-reverse, take-append-drop}
 use lib.Seq.{length-take-le, getD-take, take-suc, take-all, drop-cons, getD-append-add}
-use borrow.Author.Tests.{le-leb}
+use borrow.Author.Tests.{le-leb, eqb-true, eqb-false}
+use lib.Dec.{eqb}
+use Rattle.bits.proofs.Equal.{apart}
 use Rattle.rules.specs.Plane.{Point, point, points, flat, equal}
 use Rattle.rules.specs.Chaining.{lay}
 use Rattle.slices.specs.Holds.{Holds}
-use Rattle.slices.specs.Run.{lastOf, laid, walked}
-use Rattle.slices.proofs.Laws.{holds-then, holds-take}
+use Rattle.slices.specs.Run.{lastOf, laid, walked, Near}
+use Rattle.slices.proofs.Laws.{holds-start, holds-then, holds-take}
 
 -- ---- one point
 
@@ -136,12 +139,69 @@ more l h x y k e =
       list = rw (add-one, add-two, set-two l h x y k₂, append-assoc);
     })
 
+-- ---- the x of the last point, but for its sign
+
+equal-apart : (q p : Point) → q .x < 2 ^ 64 → p .x < 2 ^ 64 → (q .x % 2 ^ 63 ≡ p .x % 2 ^ 63 → ⊥) → equal q p ≡ false
+unfolding equal
+equal-apart q p h k o = rw (apart (q .x) (p .x) h k o)
+
+-- a point with another x is not equal to the last one
+pub meets-apart : (l : List ℕ) (h last x y : ℕ) → h ≤ length l → Near l h last → x < 2 ^ 64 → (x % 2 ^ 63 ≡ last % 2 ^ 63 → ⊥) → meets (lastOf (take h l)) (point x y) ≡ false
+meets-apart l h last x y k n b o =
+    elim (decLt h 2) [
+      | yes s ↦ last-none l h (point x y) s
+      | no s ↦
+          let two : 2 ≤ h = omega arith in
+          let e = n two in
+          last-of l h (point x y) k two ∙ equal-apart (point (getD l (h - 2) 0) (getD l (h - 1) 0)) (point x y) (e .0) b (λ z. o (sym z ∙ e .1))
+    ]
+
+-- points that are equal have one x, but for its sign
+equal-near : (q p : Point) → q .x < 2 ^ 64 → p .x < 2 ^ 64 → equal q p ≡ true → q .x % 2 ^ 63 ≡ p .x % 2 ^ 63
+equal-near q p h k e = go (eqb (q .x % 2 ^ 63) (p .x % 2 ^ 63)) refl
+  where
+    go : (t : Bool) → eqb (q .x % 2 ^ 63) (p .x % 2 ^ 63) ≡ t → q .x % 2 ^ 63 ≡ p .x % 2 ^ 63
+    go true s = eqb-true _ _ s
+    go false s = let f = equal-apart q p h k (eqb-false _ _ s) in let z : _≡_ {A = ℕ} 0 1 = cc in absurd (omega arith)
+
+-- behind one point more: `push` is what `push_point` says of it
+module _ (l′ l : List ℕ) (h r x y : ℕ) (room : h ≤ length l) (fits : x < 2 ^ 64) (push : Holds l′ l r (laid (take h l) (point x y ∷ []))) where
+  pub near-new : meets (lastOf (take h l)) (point x y) ≡ false → Near l′ r x
+  near-new e two =
+      let q : Holds l′ l r (take h l ++ (x ∷ y ∷ [])) = rw (laid-one-new (take h l) (point x y) e) at push in
+      let n : length (take h l) ≡ h = length-take-le h l room in
+      let c : r - 2 ≡ length (take h l) + 0 = omega (arith, q .count, length-append (take h l) (x ∷ y ∷ [])) in
+      let s : getD l′ (r - 2) 0 ≡ x =
+      ap₂ (λ (t : List ℕ) (i : ℕ). getD t i 0) (q .list ∙ append-assoc (take h l) (x ∷ y ∷ []) (drop r l)) c ∙ getD-append-add (take h l) (x ∷ y ∷ drop r l) 0 0 in
+      (omega arith, ap (λ (t : ℕ). t % 2 ^ 63) s)
+
+  near-met : (2 ≤ h → getD l (h - 2) 0 < 2 ^ 64) → meets (lastOf (take h l)) (point x y) ≡ true → Near l′ r x
+  near-met b e two =
+      let q : Holds l′ l r (take h l) = rw (laid-one-met (take h l) (point x y) e) at push in
+      let c : r ≡ h = q .count ∙ length-take-le h l room in
+      let same : l′ ≡ l = q .list ∙ ap (λ (i : ℕ). take h l ++ drop i l) c ∙ take-append-drop h l in
+      let v : getD l′ (r - 2) 0 ≡ getD l (h - 2) 0 = ap₂ (λ (t : List ℕ) (i : ℕ). getD t (i - 2) 0) same c in
+      let two′ : 2 ≤ h = omega arith in
+      let bound = b two′ in
+      let s = equal-near (point (getD l (h - 2) 0) (getD l (h - 1) 0)) (point x y) bound fits (sym (last-of l h (point x y) room two′) ∙ e) in
+      (omega arith, ap (λ (t : ℕ). t % 2 ^ 63) v ∙ s)
+
+  pub near-one : (2 ≤ h → getD l (h - 2) 0 < 2 ^ 64) → Near l′ r x
+  near-one b = go (meets (lastOf (take h l)) (point x y)) refl
+    where
+      go : (t : Bool) → meets (lastOf (take h l)) (point x y) ≡ t → Near l′ r x
+      go true e = near-met b e
+      go false e = near-new e
+
 -- ---- on the way: w numbers of a slice, which held l₀ and holds l, are written, and the points that are left take them to the goal
 
 pub record Way (goal l₀ : List ℕ) (left : List Point) (l : List ℕ) (w : ℕ) : Type 0 where
   pub out : List ℕ
   pub holds : Holds l l₀ w out
   pub goes : laid out left ≡ goal
+
+pub way-start : (l : List ℕ) (h : ℕ) (left : List Point) → h ≤ length l → Way (laid (take h l) left) l left l h
+way-start l h left k = record { out = take h l; holds = holds-start l h k; goes = refl }
 
 pub way-step : {goal l₀ l l′ : List ℕ} {left : List Point} {w r x y : ℕ} → Way goal l₀ (point x y ∷ left) l w
     → Holds l′ l r (laid (take w l) (point x y ∷ [])) → Way goal l₀ left l′ r × ((w ≤ r) × (r ≤ w + 2))
@@ -158,6 +218,17 @@ way-step {goal} {l₀} {l} {l′} {left} {w} {r} {x} {y} m p =
 
 pub way-done : {goal l₀ l : List ℕ} {w : ℕ} → Way goal l₀ [] l w → Holds l l₀ w goal
 way-done {goal} {l₀} {l} {w} m = subst (λ (o : List ℕ). Holds l l₀ w o) (sym (laid-none (m .out)) ∙ m .goes) (m .holds)
+
+-- one point laid, and then the others
+module _ {l₁ l : List ℕ} (h r x y : ℕ) (room : h ≤ length l) (push : Holds l₁ l r (laid (take h l) (point x y ∷ []))) where
+  pub push-length : (h ≤ r) × (r ≤ h + 2)
+  push-length = omega (arith, push .count, one-length (take h l) (point x y), length-take-le h l room)
+
+  pub push-then : {l₂ : List ℕ} {w : ℕ} (left : List Point) → Holds l₂ l₁ w (laid (take r l₁) left) → Holds l₂ l w (laid (take h l) (point x y ∷ left))
+  push-then {l₂} {w} left b =
+      let more′ : Holds l₂ l₁ w (laid (laid (take h l) (point x y ∷ [])) left) = rw (holds-take push) at b in
+      subst (λ (o : List ℕ). Holds l₂ l w o) (sym (laid-cons (take h l) (point x y) left))
+      (holds-then push more′ (omega (arith, push .count, more′ .count, laid-length (laid (take h l) (point x y ∷ [])) left)))
 
 -- ---- numbers two by two
 

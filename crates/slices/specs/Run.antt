@@ -1,5 +1,6 @@
 -- Runs of points as numbers x, y, x, y ..: the book's `lay` behind what stands in a slice already.
-use Prim.Native.Nat.{ℕ, _-_}
+use Prim.Native.Nat.{ℕ, _-_, _%_, _^_, _≤_, _<_}
+use mathlib.Core.Path.{_≡_}
 use mathlib.Core.Bool.{Bool, true, false, cond}
 use mathlib.Core.List.{List, _++_, reverse}
 use mathlib.Core.Option.{Option, none, some}
@@ -21,3 +22,7 @@ laid out l = out ++ flat (lay (lastOf out) l)
 unfoldable pub walked : Bool → List ℕ → List Point
 unfolding points
 walked turned src = cond turned (reverse (points src)) (points src)
+
+-- the last point of the first w numbers, if they have one, has the x `last` but for its sign
+abbrev pub Near : List ℕ → ℕ → ℕ → Type 0
+Near l w last = 2 ≤ w → (getD l (w - 2) 0 < 2 ^ 64) × (getD l (w - 2) 0 % 2 ^ 63 ≡ last % 2 ^ 63)

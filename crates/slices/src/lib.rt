@@ -9,7 +9,10 @@ ghost use lib.Seq.{slice};
 ghost use Rattle.rules.specs.Plane.{point, points, equal};
 ghost use Rattle.rules.specs.Calls.{cleared};
 ghost use Rattle.slices.specs.Holds.{Holds, HoldsFrom, Blanks};
-ghost use Rattle.slices.specs.Run.{laid, walked};
+ghost use Rattle.slices.specs.Run.{laid, walked, Near};
+
+// The weight of a number's sign.
+const SIGN: u64 = 0x8000_0000_0000_0000;
 
 // From so many numbers on a room is more than the nearest cache, and beyond so many more than the next one.
 const NEAR: usize = 8192;
@@ -41,15 +44,34 @@ fn push_point(rest: &mut [u64], have: usize, x: u64, y: u64) -> usize
     have + 2
 }
 
+// As `push_point`, where the last point's x is `last` but for its sign: a point whose x has other bits is not equal to it, and no number is read.
+fn push_next(rest: &mut [u64], have: usize, last: u64, x: u64, y: u64) -> usize
+    requires { ⌜ (have + 2 ≤ length (now rest)) × Near (now rest) have last ⌝ }
+    ensures { λ r. ⌜ Holds (now (rest .exit)) (now (rest .entry)) r (laid (take have (now (rest .entry))) (point x y ∷ [])) × Near (now (rest .exit)) r x ⌝ }
+{
+    if x % SIGN == last % SIGN {
+        return push_point(rest, have, x, y);
+    }
+    rest[have] = x;
+    rest[have + 1] = y;
+    have + 2
+}
+
 // Each point of `src` behind the first `have` numbers, in turn.
 fn append_forward(rest: &mut [u64], have: usize, src: &[u64]) -> usize
     requires { ⌜ have + length (now src) ≤ length (now rest) ⌝ }
     ensures { λ r. ⌜ Holds (now (rest .exit)) (now (rest .entry)) r (laid (take have (now (rest .entry))) (walked false (now (src .entry)))) ⌝ }
 {
-    let mut w = have;
-    let mut i = 0;
+    if src.len() < 2 {
+        return have;
+    }
+    let mut last = src[0];
+    let mut w = push_point(rest, have, last, src[1]);
+    let mut i: usize = 2;
     while i + 1 < src.len() {
-        w = push_point(rest, w, src[i], src[i + 1]);
+        let x = src[i];
+        w = push_next(rest, w, last, x, src[i + 1]);
+        last = x;
         i += 2;
     }
     w
@@ -60,11 +82,18 @@ fn append_backward(rest: &mut [u64], have: usize, src: &[u64]) -> usize
     requires { ⌜ have + length (now src) ≤ length (now rest) ⌝ }
     ensures { λ r. ⌜ Holds (now (rest .exit)) (now (rest .entry)) r (laid (take have (now (rest .entry))) (walked true (now (src .entry)))) ⌝ }
 {
-    let mut w = have;
     let mut k = src.len() / 2;
+    if k == 0 {
+        return have;
+    }
+    k -= 1;
+    let mut last = src[k + k];
+    let mut w = push_point(rest, have, last, src[k + k + 1]);
     while 0 < k {
         k -= 1;
-        w = push_point(rest, w, src[k + k], src[k + k + 1]);
+        let x = src[k + k];
+        w = push_next(rest, w, last, x, src[k + k + 1]);
+        last = x;
     }
     w
 }

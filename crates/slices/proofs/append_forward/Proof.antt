@@ -1,53 +1,72 @@
--- The loop is on the way to the whole run: the points from i on are left, and each turn lays one of them.
+-- The loop is on the way to the whole run: the points from i on are left, each turn lays one of them, and the x of the last point laid is at hand.
 use Prim.Native.Nat.{_+_, _-_, _≤_}
 use mathlib.Core.Path.{_≡_, refl, _∙_}
 use native.Mathlib.Omega.{arith}
 use lib.ListN.{length, take, drop, length-drop}
 use mathlib.Core.Bool.{false}
+use mathlib.Core.List.{[]}
 use Rattle.rules.specs.Plane.{points}
-use Rattle.slices.specs.Run.{laid, walked}
-use Rattle.slices.proofs.Laws.{holds-start}
-use Rattle.slices.proofs.Runs.{Way, way-step, way-done, points-two, points-short}
+use Rattle.slices.specs.Run.{laid, walked, Near}
+use Rattle.slices.proofs.Runs.{Way, way-start, way-step, way-done, push-length, push-then, near-one, points-two, points-short}
 use Rattle.slices.proofs.append_forward.Statement.{statement}
 use Rattle.slices.proofs.append_forward.Tie as tie
 
 abbrev Inv-loop : tie.InvT-loop
-Inv-loop rest₀ have src w₀ i₀ rest w i =
-    (i ≤ length src) × (w + length src ≤ length rest₀ + i) × (length rest ≡ length rest₀) × Way (laid (take have rest₀) (walked false src)) rest₀ (points (drop i src)) rest w
+Inv-loop rest₀ have src last₀ w₀ i₀ rest last w i =
+    (2 ≤ i) × (i ≤ length src) × (w + length src ≤ length rest₀ + i) × (length rest ≡ length rest₀) × Way (laid (take w₀ rest₀) (points (drop 2 src))) rest₀ (points (drop i src)) rest w × Near rest w last
 
 abbrev μ-loop : tie.MeasureT-loop
-μ-loop rest₀ have src w₀ i₀ rest w i = length src - i
+μ-loop rest₀ have src last₀ w₀ i₀ rest last w i = length src - i
+
+returns : tie.Need-returns Inv-loop μ-loop
+unfolding walked
+returns c =
+    let a = c .before .before .before .args in
+    rw (points-short (a .src .now) (omega arith)) (way-done (way-start (a .rest .now) (a .have) [] (omega arith)))
+
+shared-slice-read-last : tie.Need-shared-slice-read-last Inv-loop μ-loop
+shared-slice-read-last c = omega arith
+
+shared-slice-read-push-point : tie.Need-shared-slice-read-push-point Inv-loop μ-loop
+shared-slice-read-push-point c = omega arith
+
+push-point-requires : tie.Need-push-point-requires Inv-loop μ-loop
+push-point-requires c κs = omega arith
 
 loop-holds : tie.Need-loop-holds Inv-loop μ-loop
-unfolding walked
 loop-holds c =
-    let a = c .before .before .args in (
+    let call = c .before .before in
+    let read = call .before .before .before .before .before in
+    let a = read .before .before .args in
+    let n = push-length (a .have) _ _ _ (omega arith) (call .push-point .ensures) in (
       omega arith,
       omega arith,
+      omega (arith, n, call .push-point .kept .0),
       refl,
-      record { out = take (a .have) (a .rest .now); holds = holds-start (a .rest .now) (a .have) (omega arith); goes = refl },
+      way-start _ _ (points (drop 2 (a .src .now))) (omega (arith, n, call .push-point .kept .0)),
+      near-one _ (a .rest .now) (a .have) _ _ _ (omega arith) (omega (arith, read .shared-slice-known .given 0)) (call .push-point .ensures) (λ two. omega (arith, read .before .slice-known .given (a .have - 2))),
     )
 
 add-loop : tie.Need-add-loop Inv-loop μ-loop
 add-loop c = omega arith
 
-mul-push-point : tie.Need-mul-push-point Inv-loop μ-loop
-mul-push-point c = omega arith
+mul-x : tie.Need-mul-x Inv-loop μ-loop
+mul-x c = omega arith
 
-shared-slice-read-push-point : tie.Need-shared-slice-read-push-point Inv-loop μ-loop
-shared-slice-read-push-point c = omega arith
+shared-slice-read-x : tie.Need-shared-slice-read-x Inv-loop μ-loop
+shared-slice-read-x c = omega arith
 
-add-push-point : tie.Need-add-push-point Inv-loop μ-loop
-add-push-point c = omega arith
+add-push-next : tie.Need-add-push-next Inv-loop μ-loop
+add-push-next c = omega arith
 
-mul-push-point-2 : tie.Need-mul-push-point-2 Inv-loop μ-loop
-mul-push-point-2 c = omega arith
+mul-push-next : tie.Need-mul-push-next Inv-loop μ-loop
+mul-push-next c = omega arith
 
-shared-slice-read-push-point-2 : tie.Need-shared-slice-read-push-point-2 Inv-loop μ-loop
-shared-slice-read-push-point-2 c = omega arith
+shared-slice-read-push-next : tie.Need-shared-slice-read-push-next Inv-loop μ-loop
+shared-slice-read-push-next c = omega arith
 
-push-point-requires : tie.Need-push-point-requires Inv-loop μ-loop
-push-point-requires c κs = omega arith
+push-next-requires : tie.Need-push-next-requires Inv-loop μ-loop
+push-next-requires c κs = (omega arith, c .before .before .before .before .loop .inv .5)
 
 add-i : tie.Need-add-i Inv-loop μ-loop
 add-i c = omega arith
@@ -59,19 +78,21 @@ loop-again : tie.Need-loop-again Inv-loop μ-loop
 loop-again c =
     let call = c .before .before in
     let at-loop = call .before .before .before .before .before in
-    let src = at-loop .before .before .before .args .src .now in
-    let m = way-step (rw (points-two src (at-loop .loop .i) (omega arith)) at (at-loop .loop .inv .3)) (call .push-point .ensures) in
-    (omega arith, omega (arith, m .1), call .push-point .kept .0 ∙ at-loop .loop .inv .2, m .0)
+    let src = at-loop .before .before .before .before .before .before .before .before .before .before .args .src .now in
+    let m = way-step (rw (points-two src (at-loop .loop .i) (omega arith)) at (at-loop .loop .inv .4)) (call .push-next .ensures .0) in
+    (omega arith, omega arith, omega (arith, m .1), call .push-next .kept .0 ∙ at-loop .loop .inv .3, m .0, call .push-next .ensures .1)
 
 same-length : tie.Need-same-length Inv-loop μ-loop
 same-length c = omega arith
 
-returns : tie.Need-returns Inv-loop μ-loop
-returns c =
+returns-2 : tie.Need-returns-2 Inv-loop μ-loop
+unfolding walked
+returns-2 c =
     let l = c .before in
-    let src = l .before .before .before .args .src .now in
-    let none = points-short (drop (l .loop .i) src) (simp length-drop (omega arith)) in
-    way-done (rw none at (l .loop .inv .3))
+    let call = l .before .before .before in
+    let a = call .before .before .before .before .before .before .before .args in
+    let none = points-short (drop (l .loop .i) (a .src .now)) (simp length-drop (omega arith)) in
+    rw (points-two (a .src .now) 0 (omega arith)) (push-then (a .have) _ _ _ (omega arith) (call .push-point .ensures) (points (drop 2 (a .src .now))) (way-done (rw none at (l .loop .inv .4))))
 
 pub append-forward-spec : {M : Type 1} → statement M
 append-forward-spec =
@@ -79,16 +100,20 @@ append-forward-spec =
     (tie.spec
     Inv-loop
     μ-loop
+    returns
+    shared-slice-read-last
+    shared-slice-read-push-point
+    push-point-requires
     loop-holds
     add-loop
-    mul-push-point
-    shared-slice-read-push-point
-    add-push-point
-    mul-push-point-2
-    shared-slice-read-push-point-2
-    push-point-requires
+    mul-x
+    shared-slice-read-x
+    add-push-next
+    mul-push-next
+    shared-slice-read-push-next
+    push-next-requires
     add-i
     loop-less
     loop-again
     same-length
-    returns)
+    returns-2)
