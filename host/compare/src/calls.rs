@@ -2,7 +2,7 @@
 //! some of the lines. The seed and the number of a call determine it.
 
 use answers::random::Random;
-use answers::styles::{junctions, Style, BUILDING, PAIRING};
+use answers::styles::{junctions, pairing, Style, BUILDING, PAIRING};
 use answers::{BuildCall, PairingCall};
 use lovasuku_chains::size::{MOST_ENDS, MOST_LINES, MOST_POINTS};
 
@@ -37,7 +37,8 @@ pub fn numbered(seed: u64, number: u64) -> Numbered {
     let rooms = random.bits();
     let real = number % REAL == REAL - 1;
     if random.one_in(3) {
-        let (style, make) = random.pick(&PAIRING);
+        let styles: Vec<Style<PairingCall>> = PAIRING.into_iter().chain(ADDED_PAIRS).collect();
+        let (style, make) = random.pick(&styles);
         let size = size(&mut random, real, MOST_ENDS);
         let mut call = make(&mut random, size);
         if !call.finite() {
@@ -106,6 +107,9 @@ fn inner(random: &mut Random, neighbour: [u64; 2]) -> [u64; 2] {
         _ => [random.unit().to_bits(), random.unit().to_bits()],
     }
 }
+
+/// The styles of pairing calls that this comparison adds.
+const ADDED_PAIRS: [Style<PairingCall>; 2] = [("short", pairing::short), ("rim", pairing::rim)];
 
 /// The styles of building calls that this comparison adds.
 const ADDED: [Style<BuildCall>; 2] = [("tiny", tiny), ("any bits", any_bits)];

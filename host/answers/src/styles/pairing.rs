@@ -57,6 +57,24 @@ pub fn zeros(random: &mut Random, ends: usize) -> PairingCall {
     call(random, ends, |random| (random.pick(&floats), random.pick(&floats)))
 }
 
+/// Directions of every length up to 1, which an index of the unit disk may hold.
+pub fn short(random: &mut Random, ends: usize) -> PairingCall {
+    call(random, ends, |random| {
+        let ((x, y), length) = (round(random), random.unit());
+        (x * length, y * length)
+    })
+}
+
+/// Directions as long as 1 or longer by up to 2^-22, about as far as such an index goes.
+pub fn rim(random: &mut Random, ends: usize) -> PairingCall {
+    let most = random.pick(&[1, 2, 3, 4]);
+    let step = 1.0 / 16_777_216.0;
+    call(random, ends, |random| {
+        let ((x, y), length) = (round(random), 1.0 + random.below(most + 1) as f64 * step);
+        (x * length, y * length)
+    })
+}
+
 /// Finite directions of every magnitude, whose dot products overflow or vanish.
 pub fn huge(random: &mut Random, ends: usize) -> PairingCall {
     let sizes = [f64::MAX, 1e300, 1e200, 1e154, 1.0, 1e-154, 1e-200, 5e-324, 0.0];
