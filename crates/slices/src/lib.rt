@@ -147,40 +147,40 @@ pub fn fill_from(w: &mut [u64], at: usize, n: usize, v: u64)
     }
 }
 
-// Whether the eight numbers from i on are zero.
+// Whether the 32 numbers from i on are zero.
 fn blank(w: &[u64], i: usize) -> bool
-    requires { ⌜ i + 8 ≤ length (now w) ⌝ }
-    ensures { λ r. ⌜ Blanks (now (w .entry)) i 8 r ⌝ }
+    requires { ⌜ i + 32 ≤ length (now w) ⌝ }
+    ensures { λ r. ⌜ Blanks (now (w .entry)) i 32 r ⌝ }
 {
     let mut any: u64 = 0;
     let mut k: usize = 0;
-    while k < 8 {
+    while k < 32 {
         any = any | w[i + k];
         k += 1;
     }
     any == 0
 }
 
-// Zero in the eight numbers from i on. Where they are, nothing is written.
+// Zero in the 32 numbers from i on. Where they are, nothing is written.
 fn wipe(w: &mut [u64], i: usize)
-    requires { ⌜ i + 8 ≤ length (now w) ⌝ }
-    ensures { λ _. ⌜ HoldsFrom (now (w .exit)) (now (w .entry)) i 8 (replicate 8 0) ⌝ }
+    requires { ⌜ i + 32 ≤ length (now w) ⌝ }
+    ensures { λ _. ⌜ HoldsFrom (now (w .exit)) (now (w .entry)) i 32 (replicate 32 0) ⌝ }
 {
     if blank(w, i) {
         return;
     }
-    fill_from(w, i, 8, 0);
+    fill_from(w, i, 32, 0);
 }
 
-// Zero in the first n numbers, but for fewer than eight at the end. Returns how many are zero.
+// Zero in the first n numbers, but for fewer than 32 at the end. Returns how many are zero.
 fn wipe_all(w: &mut [u64], n: usize) -> usize
     requires { ⌜ n ≤ length (now w) ⌝ }
-    ensures { λ r. ⌜ (r ≤ n) × (n < r + 8) × HoldsFrom (now (w .exit)) (now (w .entry)) 0 r (replicate r 0) ⌝ }
+    ensures { λ r. ⌜ (r ≤ n) × (n < r + 32) × HoldsFrom (now (w .exit)) (now (w .entry)) 0 r (replicate r 0) ⌝ }
 {
     let mut i = 0;
-    while i + 8 <= n {
+    while i + 32 <= n {
         wipe(w, i);
-        i += 8;
+        i += 32;
     }
     i
 }

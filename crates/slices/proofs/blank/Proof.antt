@@ -9,10 +9,10 @@ use Rattle.slices.proofs.blank.Statement.{statement}
 use Rattle.slices.proofs.blank.Tie as tie
 
 abbrev Inv-loop : tie.InvT-loop
-Inv-loop w i any₀ k₀ any k = (k ≤ 8) × (any ≡ 0 → Blank w i k) × ((any ≡ 0 → ⊥) → Other w i k)
+Inv-loop w i any₀ k₀ any k = (k ≤ 32) × (any ≡ 0 → Blank w i k) × ((any ≡ 0 → ⊥) → Other w i k)
 
 abbrev μ-loop : tie.MeasureT-loop
-μ-loop w i any₀ k₀ any k = 8 - k
+μ-loop w i any₀ k₀ any k = 32 - k
 
 loop-holds : tie.Need-loop-holds Inv-loop μ-loop
 loop-holds c = (omega arith, λ e j h. absurd (omega arith), λ e. absurd (e refl))

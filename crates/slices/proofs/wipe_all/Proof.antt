@@ -1,4 +1,4 @@
--- After some turns the first i numbers are zero, and each turn adds eight.
+-- After some turns the first i numbers are zero, and each turn adds 32.
 use Prim.Native.Nat.{_-_, _≤_}
 use mathlib.Core.Path.{_≡_, refl, _∙_}
 use native.Mathlib.Omega.{arith}
