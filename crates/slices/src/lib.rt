@@ -17,7 +17,7 @@ const SIGN: u64 = 0x8000_0000_0000_0000;
 // From so many numbers on a room is more than the nearest cache, and beyond so many more than the next one.
 const NEAR: usize = 8192;
 
-const FAR: usize = 100000;
+const FAR: usize = 262144;
 
 // Whether two points are equal by `==`.
 fn same_point(ax: u64, ay: u64, bx: u64, by: u64) -> bool
