@@ -80,7 +80,7 @@ shrink P N o v k S t U h i = le-of-mul-le-mul-right {k = S} (omega arith) U
 abbrev two : Float
 two = fin false 1 (pos 1)
 
-rim-units : (over rim ≡ 1099511889920 * tiny) × (under rim ≡ 0)
+rim-units : (over rim ≡ 1099511631872 * tiny) × (under rim ≡ 0)
 unfolding over under unit tiny
 rim-units = (refl, refl)
 
@@ -90,9 +90,9 @@ half-units = (refl, refl)
 
 -- `sub` adds this
 abbrev less-beyond : Float
-less-beyond = fin true 2097153 (negsuc 20)
+less-beyond = fin true 134217729 (negsuc 26)
 
-beyond-units : (over less-beyond ≡ 0) × (under less-beyond ≡ 1099512152064 * tiny)
+beyond-units : (over less-beyond ≡ 0) × (under less-beyond ≡ 1099511635968 * tiny)
 unfolding over under unit tiny
 beyond-units = (refl, refl)
 
@@ -147,10 +147,10 @@ small P B f = go (leb P B) (leb→le P B) (nleb→lt P B)
     go false g h = absurd (f (let l = h tt in omega arith))
 
 around : (P N Q M p n q m o v S t : ℕ) → P + n * S ≤ N + p * S + t * S → Q + m * S ≤ M + q * S + t * S → p + q + v * 1 ≤ n + m + o * 1 + t * 1
-    → o ≤ 1099511889920 * t + v → P + Q ≤ N + M + 1099511889923 * (t * S)
+    → o ≤ 1099511631872 * t + v → P + Q ≤ N + M + 1099511631875 * (t * S)
 around P N Q M p n q m o v S t h k l i =
     let l' : (p + q + v * 1) * S ≤ (n + m + o * 1 + t * 1) * S = mul-le-mul-right S l in
-    let i' : o * S ≤ (1099511889920 * t + v) * S = mul-le-mul-right S i in
+    let i' : o * S ≤ (1099511631872 * t + v) * S = mul-le-mul-right S i in
     omega arith
 
 pub record Disk (x y : Float) : Type 0 where
@@ -158,7 +158,7 @@ pub record Disk (x y : Float) : Type 0 where
   pub count-y : Counts y
   pub small-x : agree x x ≤ oppose x x + 2 * (unit * unit)
   pub small-y : agree y y ≤ oppose y y + 2 * (unit * unit)
-  pub near-one : agree x x + agree y y ≤ oppose x x + oppose y y + 1099511889923 * (tiny * unit)
+  pub near-one : agree x x + agree y y ≤ oppose x x + oppose y y + 1099511631875 * (tiny * unit)
 
 pub disk : (x y : Float) → Counts x → Counts y → T (le (dot x y x y) rim) → Disk x y
 unfolding dot
@@ -300,11 +300,11 @@ conclude : (hp hn cp cn ep en S t Qg Mg D W Px Nx Pa Na Py Ny Pb Nb P1 N1 P2 N2 
     → Qg + W ≤ Mg + D + 9 * (t * S)
     → D + Nx + Na + 2 * N1 ≡ W + Px + Pa + 2 * P1
     → Ny + Nb + 2 * N2 ≤ Py + Pb + 2 * P2
-    → Px + Py ≤ Nx + Ny + 1099511889923 * (t * S)
-    → Pa + Pb ≤ Na + Nb + 1099511889923 * (t * S)
+    → Px + Py ≤ Nx + Ny + 1099511631875 * (t * S)
+    → Pa + Pb ≤ Na + Nb + 1099511631875 * (t * S)
     → P1 + cn * S ≤ N1 + cp * S + t * S
     → P2 + en * S ≤ N2 + ep * S + t * S
-    → hp + (cn + en) ≤ cp + ep + (hn + 1099512152064 * t)
+    → hp + (cn + en) ≤ cp + ep + (hn + 1099511635968 * t)
 conclude hp hn cp cn ep en S t Qg Mg D W Px Nx Pa Na Py Ny Pb Nb P1 N1 P2 N2 s h1 h2 h3 h4 h5 h6 h7 h8 =
     le-of-mul-le-mul-right {k = S} (omega arith) s
 
@@ -320,7 +320,7 @@ module _ (x y a b g : Float) (p : Disk x y) (q : Disk a b) (f : T (fits binary64
   squared-g : Square g
   squared-g = let s = short-g in square g (s .count-g) (omega (arith, s .short, s .wide, unit-is))
 
-  ordered : over (half-square g) + (under (mul binary64 a x) + under (mul binary64 b y)) ≤ over (mul binary64 a x) + over (mul binary64 b y) + (under (half-square g) + 1099512152064 * tiny)
+  ordered : over (half-square g) + (under (mul binary64 a x) + under (mul binary64 b y)) ≤ over (mul binary64 a x) + over (mul binary64 b y) + (under (half-square g) + 1099511635968 * tiny)
   ordered =
       let s = short-g in
       let r = squared-g in
@@ -344,7 +344,7 @@ sub-beyond h = refl
 times : (a b c d u : ℕ) → a + b ≤ c + d → a * (1 * u) + b * (1 * u) ≤ c * (1 * u) + d * (1 * u)
 times a b c d u h = omega (arith, mul-le-mul-right u h)
 
-finish : (h c e : Float) → Counts h → Counts c → Counts e → over h + (under c + under e) ≤ over c + over e + (under h + 1099512152064 * tiny)
+finish : (h c e : Float) → Counts h → Counts c → Counts e → over h + (under c + under e) ≤ over c + over e + (under h + 1099511635968 * tiny)
     → T (le (sub binary64 h beyond) (add binary64 c e))
 finish h c e p q r l =
     rw (sub-beyond h)

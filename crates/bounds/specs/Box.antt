@@ -46,13 +46,13 @@ corner-of b ax ay = measure ax ay (corner ax (b .«low_x») (b .«high_x»)) (co
 
 -- ---- directions in the unit disk, or hardly beyond it
 
--- 1 + 2 ^ -22
+-- 1 + 2 ^ -28
 abbrev pub rim : Float
-rim = fin false 4194305 (negsuc 21)
+rim = fin false 268435457 (negsuc 27)
 
--- 1 + 2 ^ -21
+-- 1 + 2 ^ -27
 abbrev pub beyond : Float
-beyond = fin false 2097153 (negsuc 20)
+beyond = fin false 134217729 (negsuc 26)
 
 abbrev pub half : Float
 half = fin false 1 (negsuc 0)

@@ -4,11 +4,11 @@ ghost use mathlib.Core.Path.{_≡_};
 ghost use Prim.Native.Nat.{min};
 ghost use Rattle.bounds.specs.Box.{corner as corner-at, gap as gap-at, half-square, least, greatest, round-way, empty-of, union-of, corner-of, gap-of, lower-of};
 
-// The greatest square of a length in the disk, 1 + 2^-22: that of a direction of length 1 is below it, whether its parts were rounded to 53 binary digits or to
-// 24. And 1 + 2^-21, which is above it by more than all that is rounded.
-const RIM: f64 = 1.0000002384185791015625;
+// The greatest square of a length in the disk, 1 + 2^-28: that of a direction of length 1, its parts rounded, is below it. And 1 + 2^-27, which is above it by
+// more than all that is rounded.
+const RIM: f64 = 1.0000000037252902984619140625;
 
-const BEYOND: f64 = 1.000000476837158203125;
+const BEYOND: f64 = 1.000000007450580596923828125;
 
 // The lesser of two numbers. Of two zeros the first.
 fn lesser(a: f64, b: f64) -> f64

@@ -65,10 +65,10 @@ pub fn short(random: &mut Random, ends: usize) -> PairingCall {
     })
 }
 
-/// Directions as long as 1 or longer by up to 2^-22, about as far as such an index goes.
+/// Directions as long as 1 or longer by up to 2^-28, about as far as such an index goes.
 pub fn rim(random: &mut Random, ends: usize) -> PairingCall {
     let most = random.pick(&[1, 2, 3, 4]);
-    let step = 1.0 / 16_777_216.0;
+    let step = 1.0 / 1_073_741_824.0;
     call(random, ends, |random| {
         let ((x, y), length) = (round(random), 1.0 + random.below(most + 1) as f64 * step);
         (x * length, y * length)
