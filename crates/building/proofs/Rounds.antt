@@ -12,7 +12,7 @@ use lib.Seq.{slice}
 use borrow.Rule.Slice.PartMut.{midOf, putMid}
 use Rattle.rules.specs.Lists.{total}
 use Rattle.rules.specs.Plane.{points, flat, nought, exactKey, cellKey}
-use Rattle.rules.specs.Chaining.{Line, Piece, Rule, Settings, pieces, limitOf, join, roundOne, roundTwo}
+use Rattle.rules.specs.Chaining.{Line, Piece, Rule, Settings, limitOf, join, roundOne, roundTwo}
 use Rattle.rules.specs.Layout.{lines, copy}
 use Rattle.rules.specs.Refusals.{lineRoom, limitBad}
 use Rattle.refusals.specs.Tests.{switchBad}

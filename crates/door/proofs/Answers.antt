@@ -7,7 +7,6 @@ use mathlib.Core.List.{List}
 use native.Mathlib.Omega.{arith}
 use Rattle.rules.specs.declared.Answer.{Answer}
 use Rattle.rules.specs.Refusals.{Lent, LentEnds, refusalOf, pairRefusalOf, chainRefusalOf}
-use Rattle.rules.specs.Layout.{Laid}
 use Rattle.rules.specs.Calls.{unless, answerOf, asked, Built, builtOf, Paired, pairsOf, Numbered, numberOf}
 use Rattle.selecting.proofs.Calls.{built-once, paired-once}
 use Rattle.door.specs.Proper.{Proper}

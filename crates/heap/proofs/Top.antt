@@ -1,7 +1,7 @@
 -- The heap's first node is the least of its leaves, since each node is the lesser of its children. Codes are in the order of pairs and give back the pair and its
 -- owner; so the first node is the first of the pairs that the slots hold, with its owner.
 use Prim.Native.Nat.{ℕ, zero, suc, _+_, _-_, _*_, _/_, _%_, _≤_, _<_, min}
-use mathlib.Core.Path.{_≡_, refl, sym, ap, ap₂, _∙_, subst}
+use mathlib.Core.Path.{_≡_, refl, sym, ap, ap₂, _∙_}
 use mathlib.Core.Bool.{Bool, true, false, cond}
 use mathlib.Core.List.{List}
 use mathlib.Core.Logic.{_⊎_, inl, inr, ⊎-elim}

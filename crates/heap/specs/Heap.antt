@@ -7,8 +7,7 @@ use mathlib.Core.List.{List}
 use lib.ListN.{getD, length}
 use lib.Dec.{eqb}
 use Rattle.bounds.specs.Search.{place}
-use Rattle.selecting.specs.Ranked.{Pair, before}
-use Rattle.selecting.specs.Sets.{EndOf}
+use Rattle.selecting.specs.Ranked.{Pair}
 use Rattle.tree.specs.Places.{gone, none}
 use Rattle.tree.specs.Flat.{Stored, changed, Kept, own}
 use Rattle.tree.specs.Words.{Changes}

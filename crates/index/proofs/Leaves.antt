@@ -13,7 +13,6 @@ use Rattle.rules.specs.declared.Direction.the-variants.{Absent, Toward}
 use Rattle.rules.specs.Selecting.{End}
 use Rattle.bounds.specs.Box.{empty-of}
 use Rattle.bounds.specs.Search.{least}
-use Rattle.selecting.specs.Sets.{In}
 use Rattle.selecting.specs.Ends.{endAt, there}
 use Rattle.ends.specs.Ends.{Room, directionAt, pieceAt, endsIn}
 use Rattle.ends.proofs.Reading.{ends-in-length, ends-in-at}

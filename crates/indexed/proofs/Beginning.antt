@@ -1,11 +1,11 @@
 -- How the route begins: what is asked is asked again where words behind the ends are written, and so each step finds what it asks.
 use Prim.Native.Nat.{ℕ, _+_, _-_, _*_, _^_, _≤_, _<_}
-use mathlib.Core.Path.{_≡_, refl, sym, _∙_, ap, subst}
-use mathlib.Core.List.{List, [], _∷_}
+use mathlib.Core.Path.{_≡_, sym, _∙_, ap, subst}
+use mathlib.Core.List.{List}
 use mathlib.Core.Bool.{Bool, true, false, cond}
 use native.Mathlib.Omega.{arith}
 use lib.Dec.{ltb}
-use lib.ListN.{length, getD, take, drop, replicate}
+use lib.ListN.{length, replicate}
 use lib.Seq.{slice}
 use Rattle.rules.specs.Selecting.{End}
 use Rattle.selecting.specs.Ends.{endAt, nodeOf}
@@ -28,7 +28,7 @@ use Rattle.owners.specs.Tables.{order-at}
 use Rattle.owners.proofs.Seats.{seated}
 use Rattle.owners.proofs.Turns.{room-kept, take-kept, ends-kept}
 use Rattle.indexed.specs.declared.Size.{Size}
-use Rattle.indexed.specs.Route.{Sized, marks-in, Ready}
+use Rattle.indexed.specs.Route.{marks-in}
 use Rattle.indexed.specs.Start.{Asks, Fits, Arranged, Plants, Planted, Clears, Cleared, Begins, Fills}
 use Rattle.indexed.proofs.Sizes.{sized}
 use Rattle.indexed.proofs.Parts.{same-below, same-beyond, drop-kept, marks-kept, indexes-kept}

@@ -1,26 +1,22 @@
 -- What the route keeps where a pair is written, and where an end is marked and leaves the index. Each step writes one part of the workspace, so that what is
 -- said of the others stays; and more ends taken leave a bound a bound.
 use Prim.Native.Nat.{ℕ, _+_, _-_, _*_, _^_, _≤_, _<_}
-use mathlib.Core.Path.{_≡_, refl, sym, _∙_, ap, subst}
+use mathlib.Core.Path.{_≡_, sym, _∙_, ap, subst}
 use mathlib.Core.Bool.{Bool, true, false, cond, _||_}
 use mathlib.Core.List.{List}
 use mathlib.Core.Logic.{_⊎_, inl, inr, ⊎-elim}
 use native.Mathlib.Omega.{arith}
-use lib.Dec.{eqb}
-use lib.ListN.{length, getD, set, length-set}
+use lib.ListN.{length, set}
 use lib.Seq.{getD-set-same, getD-set-other}
-use borrow.Author.Tests.{eq-eqb, ne-eqb}
 use Rattle.rules.specs.Selecting.{End}
-use Rattle.bounds.specs.declared.Bounds.{Bounds}
 use Rattle.bounds.specs.Box.{empty-of, union-of, Sound}
-use Rattle.selecting.specs.Ranked.{Pair, Node, candidates, busy}
-use Rattle.selecting.specs.Sets.{In}
+use Rattle.selecting.specs.Ranked.{Pair, Node, busy}
 use Rattle.selecting.specs.Ends.{endAt, nodeOf}
 use Rattle.selecting.specs.Taking.{usedOf}
 use Rattle.selecting.proofs.Greedy.{or-false-left, or-false-right}
 use Rattle.selecting.proofs.Order.{two, tf}
 use Rattle.selecting.proofs.Owners.{There}
-use Rattle.ends.specs.Ends.{Room, endsIn}
+use Rattle.ends.specs.Ends.{endsIn}
 use Rattle.tree.specs.Flat.{changed, own}
 use Rattle.tree.specs.Words.{Changes}
 use Rattle.tree.proofs.Flat.{same-or, below-or, kept-same}
@@ -30,14 +26,13 @@ use Rattle.index.specs.Nodes.{node-at, Indexes, Removes}
 use Rattle.index.specs.Nodes as index
 use Rattle.index.specs.Index.{pairOf, box-of, leaf-of, Placed, Indexed, Round, Query, FirstPair, Answers}
 use Rattle.index.proofs.Leaves.{there-below}
-use Rattle.heap.specs.Heap.{coded, Heaps, Sets}
 use Rattle.heap.specs.Heap as heap
-use Rattle.owners.specs.Tables.{order-at, position-at, group-at, cursor-at, slot-at, Ordered}
+use Rattle.owners.specs.Tables.{position-at, slot-at}
 use Rattle.owners.specs.Owners.{Owners}
 use Rattle.owners.proofs.Next.{more-used, same-at, same-past}
 use Rattle.owners.proofs.Seats.{seated, seated-in, seated-out, placed}
 use Rattle.owners.proofs.Turns.{room-kept}
-use Rattle.indexed.specs.Route.{Sized, marks-in, taken-in, Fixed, Moving, Bound, Ground, Filled, Owning, Refreshed, marked}
+use Rattle.indexed.specs.Route.{marks-in, taken-in, Moving, Bound, Ground, Filled, Owning, marked}
 use Rattle.indexed.proofs.Parts.{Same, same-below, same-beyond, slice-set, marks-kept, marks-length, indexes-kept, heaped-kept, indexes-own, ends-same}
 
 -- ---- bounds

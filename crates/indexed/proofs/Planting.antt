@@ -1,12 +1,12 @@
 -- The leaves of the index and of the heap, written one after another: of an end with a direction its point, and for each slot no pair.
 use Prim.Native.Nat.{ℕ, _+_, _*_, _≤_, _<_}
 use mathlib.Core.Path.{_≡_, refl, sym, _∙_, ap, subst}
-use mathlib.Core.Bool.{Bool, true, false, cond}
+use mathlib.Core.Bool.{true, false, cond}
 use mathlib.Core.List.{List}
-use mathlib.Core.Logic.{_⊎_, inl, inr, ⊎-elim}
+use mathlib.Core.Logic.{_⊎_, ⊎-elim}
 use native.Mathlib.Omega.{arith}
 use lib.Dec.{ltb}
-use lib.ListN.{length, getD}
+use lib.ListN.{length}
 use Rattle.rules.specs.declared.Direction.{Direction}
 use Rattle.rules.specs.declared.Direction.the-variants.{Absent, Toward}
 use Rattle.rules.specs.Selecting.{End}
@@ -21,7 +21,7 @@ use Rattle.ends.specs.Ends.{Room, directionAt, endsIn}
 use Rattle.tree.specs.Flat.{own}
 use Rattle.tree.specs.Places.{none}
 use Rattle.tree.specs.Words.{Changes}
-use Rattle.tree.proofs.Flat.{same-or, below-or, kept-same}
+use Rattle.tree.proofs.Flat.{same-or, kept-same}
 use Rattle.tree.proofs.Words.{changes-none, changes-then, changes-wider}
 use Rattle.index.specs.Nodes.{node-at, Puts, Leaves, Joins}
 use Rattle.index.specs.Index.{box-of, leaf-of, Round}
@@ -29,7 +29,7 @@ use Rattle.index.proofs.Leaves.{direction-is, there-below}
 use Rattle.heap.specs.Heap as heap
 use Rattle.owners.specs.Tables.{order-at, Sorted}
 use Rattle.owners.proofs.Seats.{seated, seated-in, seated-out}
-use Rattle.owners.proofs.Turns.{room-kept, ends-kept, sorted-kept}
+use Rattle.owners.proofs.Turns.{ends-kept, sorted-kept}
 use Rattle.indexed.specs.Start.{Plants, Planted, Clears, Cleared}
 
 -- ---- one leaf

@@ -1,20 +1,20 @@
 -- The first owners' pairs, one position after another; where all are in the heap and it is joined, the route is ready for its turns.
 use Prim.Native.Nat.{ℕ, _+_, _*_, _^_, _≤_, _<_, min}
 use mathlib.Core.Path.{_≡_, refl, sym, _∙_, ap, subst}
-use mathlib.Core.Bool.{Bool, true, false}
+use mathlib.Core.Bool.{Bool}
 use mathlib.Core.List.{List}
-use mathlib.Core.Logic.{_⊎_, inl, inr, ⊎-elim}
+use mathlib.Core.Logic.{_⊎_, ⊎-elim}
 use native.Mathlib.Omega.{arith}
-use lib.ListN.{length, getD, replicate}
+use lib.ListN.{length, replicate}
 use Rattle.rules.specs.Selecting.{End}
 use Rattle.selecting.specs.Ranked.{Pair, none as nobody}
 use Rattle.selecting.specs.Ends.{nodeOf}
 use Rattle.selecting.specs.Taking.{usedOf}
 use Rattle.selecting.proofs.Taking.{used-none}
-use Rattle.ends.specs.Ends.{Room, endsIn}
+use Rattle.ends.specs.Ends.{endsIn}
 use Rattle.tree.specs.declared.Place.{Place}
 use Rattle.tree.specs.Flat.{changed, own}
-use Rattle.tree.specs.Places.{worth, none}
+use Rattle.tree.specs.Places.{worth}
 use Rattle.tree.specs.Words.{Changes}
 use Rattle.tree.proofs.Flat.{same-or, kept-same}
 use Rattle.tree.proofs.Words.{changes-none, changes-then, changes-wider}
@@ -27,8 +27,8 @@ use Rattle.owners.proofs.Next.{same-at, same-past}
 use Rattle.owners.proofs.Grouping.{owners-start}
 use Rattle.owners.proofs.Seats.{seated}
 use Rattle.owners.proofs.Turns.{ends-kept}
-use Rattle.indexed.specs.Route.{marks-in, taken-in, Moving, Bound, Ground, Filled, Heaped, Owning, Offers, Ready}
-use Rattle.indexed.specs.Start.{Begins, Fills}
+use Rattle.indexed.specs.Route.{marks-in, taken-in, Bound, Ground, Filled, Owning, Offers, Ready}
+use Rattle.indexed.specs.Start.{Fills}
 use Rattle.indexed.proofs.Parts.{same-below, same-beyond, marks-kept, indexes-kept}
 use Rattle.indexed.proofs.Keeping.{bound-of, ground-kept, moving-kept, there-in, query, answered}
 

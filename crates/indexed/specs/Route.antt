@@ -4,10 +4,9 @@ use Prim.Native.Nat.{ℕ, _+_, _*_, _^_, _≤_, _<_}
 use mathlib.Core.Path.{_≡_}
 use mathlib.Core.Bool.{Bool, true, false}
 use mathlib.Core.List.{List}
-use lib.ListN.{length, getD, set, replicate}
+use lib.ListN.{set, replicate}
 use lib.Seq.{slice}
 use Rattle.rules.specs.Selecting.{End}
-use Rattle.bounds.specs.declared.Bounds.{Bounds}
 use Rattle.selecting.specs.Ranked.{Pair, Node, candidates, busy, before}
 use Rattle.selecting.specs.Sets.{In, EndOf}
 use Rattle.selecting.specs.Ends.{endAt, nodeOf}
@@ -19,12 +18,12 @@ use Rattle.tree.specs.Places.{worth, gone}
 use Rattle.tree.specs.Flat.{own}
 use Rattle.tree.specs.Words.{Changes}
 use Rattle.index.specs.declared.Best.{Best}
-use Rattle.index.specs.Nodes.{node-at, Removes}
+use Rattle.index.specs.Nodes.{node-at}
 use Rattle.index.specs.Nodes as index
-use Rattle.index.specs.Index.{pairOf, leaf-of, Indexed, Round, Query, Answers}
+use Rattle.index.specs.Index.{pairOf, Indexed, Round, Query, Answers}
 use Rattle.heap.specs.Heap.{Heaps, coded, Sets}
 use Rattle.heap.specs.Heap as heap
-use Rattle.owners.specs.Tables.{mark-at, order-at, position-at, group-at, cursor-at, slot-at, Ordered, Runs}
+use Rattle.owners.specs.Tables.{order-at, position-at, group-at, cursor-at, slot-at, Ordered, Runs}
 use Rattle.owners.specs.Owners.{Owners, without}
 use Rattle.owners.proofs.Seats.{seated}
 

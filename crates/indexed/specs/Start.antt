@@ -3,7 +3,7 @@ use Prim.Native.Nat.{ℕ, _+_, _*_, _^_, _≤_, _<_}
 use mathlib.Core.Path.{_≡_}
 use mathlib.Core.List.{List}
 use mathlib.Core.Logic.{_⊎_}
-use lib.ListN.{length, replicate}
+use lib.ListN.{replicate}
 use Rattle.ends.specs.Ends.{Room, endsIn}
 use Rattle.selecting.specs.Ends.{endAt}
 use Rattle.selecting.specs.Owners.{AtMostTwice}

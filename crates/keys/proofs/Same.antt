@@ -12,8 +12,7 @@ use lib.Dec.{eqb}
 use lib.Ieee.{Float}
 use lib.ListN.{length, getD, take, drop}
 use lib.Seq.{getD-take, getD-drop, take-suc, take-length}
-use Rattle.rules.specs.Cell.{cell}
-use Rattle.rules.specs.Plane.{Point, point, flat, key, sameKey, exactKey, cellKey}
+use Rattle.rules.specs.Plane.{Point, point, flat, sameKey, exactKey, cellKey}
 use Rattle.rules.specs.Chaining.{Piece, Rule, nothing, pieceAt, run, keyAt}
 use Rattle.rules.specs.Refusals.{sourceOf}
 use Rattle.cell.proofs.Same.{cell-same-is}

@@ -7,7 +7,6 @@ use lib.Ieee.{Float}
 use lib.ListN.{length, drop}
 use lib.Seq.{slice}
 use Rattle.rules.specs.Plane.{float}
-use Rattle.rules.specs.Layout.{ends}
 use Rattle.rules.specs.Calls.{written}
 use Rattle.bits.specs.Bits.{bitsOf}
 use Rattle.slices.specs.Holds.{HoldsFrom}

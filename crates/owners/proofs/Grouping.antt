@@ -2,16 +2,14 @@
 -- three of a group have a slot each, in the order of the positions.
 use Prim.Native.Nat.{ℕ, _+_, _-_, _≤_, _<_}
 use mathlib.Core.Path.{_≡_, refl, sym, _∙_, ap, subst}
-use mathlib.Core.Bool.{Bool, true, false, cond}
+use mathlib.Core.Bool.{true}
 use mathlib.Core.Logic.{_⊎_, inl, inr, ⊎-elim}
 use mathlib.Core.List.{List}
 use native.Mathlib.Omega.{arith}
-use lib.Dec.{eqb, ltb}
-use borrow.Author.Tests.{eq-eqb, ne-eqb}
 use Rattle.rules.specs.Selecting.{End}
 use Rattle.selecting.specs.Ranked.{none as nobody}
 use Rattle.selecting.proofs.Order.{tf}
-use Rattle.selecting.proofs.Owners.{There, Alike, alike-trans}
+use Rattle.selecting.proofs.Owners.{There, alike-trans}
 use Rattle.tree.specs.Flat.{changed}
 use Rattle.tree.proofs.Flat.{same-or, below-or}
 use Rattle.owners.specs.Tables.{owners, Ordered, Like, Runs, Started}

@@ -3,7 +3,7 @@
 -- And so many owners are enough, since two of them before each other end are.
 use Prim.Native.Nat.{ℕ, _+_, _≤_, _<_}
 use mathlib.Core.Path.{_≡_, refl, sym, _∙_, ap, subst}
-use mathlib.Core.Bool.{Bool, true, false, cond, not, _&&_, _||_}
+use mathlib.Core.Bool.{Bool, true, false, _||_}
 use mathlib.Core.Logic.{_⊎_, inl, inr, ⊎-elim}
 use mathlib.Core.List.{List}
 use native.Mathlib.Omega.{arith}
@@ -15,7 +15,7 @@ use Rattle.selecting.proofs.Order.{two, tf, and-left, and-right}
 use Rattle.selecting.proofs.Owners.{There, Alike}
 use Rattle.tree.specs.Flat.{changed}
 use Rattle.tree.proofs.Flat.{same-or, below-or}
-use Rattle.owners.specs.Tables.{owners, Ordered, Runs, Like}
+use Rattle.owners.specs.Tables.{owners, Ordered, Runs}
 use Rattle.owners.specs.Owners.{tally, without, leads, Owners}
 use Rattle.owners.proofs.Tally.{tally-le, tally-but, tally-more, tally-next, tally-two}
 

@@ -1,11 +1,10 @@
 -- How many of the numbers below n pass a test.
 use Prim.Native.Nat.{ℕ, zero, suc, _+_, _≤_, _<_}
-use mathlib.Core.Path.{_≡_, refl, sym, _∙_, ap}
+use mathlib.Core.Path.{_≡_, refl, _∙_, ap}
 use mathlib.Core.Bool.{Bool, true, false}
-use mathlib.Core.Logic.{_⊎_, inl, inr, ⊎-elim}
+use mathlib.Core.Logic.{_⊎_, ⊎-elim}
 use native.Mathlib.Omega.{arith}
 use Rattle.rules.specs.Lists.{one}
-use Rattle.selecting.proofs.Order.{two, tf}
 use Rattle.tree.proofs.Flat.{same-or}
 use Rattle.owners.specs.Owners.{tally}
 

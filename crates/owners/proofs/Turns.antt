@@ -1,7 +1,7 @@
 -- The turns of the loops over the order, as words are written: one position more is grouped, or one taken end more is passed over.
 use Prim.Native.Nat.{ℕ, _+_, _-_, _*_, _≤_, _<_}
 use mathlib.Core.Path.{_≡_, refl, sym, _∙_, ap, subst}
-use mathlib.Core.Bool.{Bool, true, false, cond}
+use mathlib.Core.Bool.{true, false, cond}
 use mathlib.Core.Logic.{_⊎_, inl, inr, ⊎-elim}
 use mathlib.Core.List.{List}
 use native.Mathlib.Omega.{arith}
@@ -9,20 +9,19 @@ use lib.Dec.{eqb}
 use lib.ListN.{length, getD, set, take}
 use lib.Seq.{getD-set-same, getD-set-other, getD-take, ext-getD, length-take-le}
 use borrow.Author.Tests.{eq-eqb, ne-eqb}
-use Rattle.rules.specs.declared.Direction.{Direction}
 use Rattle.rules.specs.declared.Direction.the-variants.{Toward}
 use Rattle.rules.specs.Plane.{float}
 use Rattle.rules.specs.Selecting.{End}
-use Rattle.selecting.specs.Ends.{endAt, there}
-use Rattle.selecting.proofs.Owners.{There, Alike}
-use Rattle.ends.specs.Ends.{Room, directionAt, endsIn}
+use Rattle.selecting.specs.Ends.{there}
+use Rattle.selecting.proofs.Owners.{There}
+use Rattle.ends.specs.Ends.{Room, endsIn}
 use Rattle.ends.proofs.Reading.{direction-toward, direction-absent, ends-in-kept}
 use Rattle.tree.specs.Flat.{changed}
 use Rattle.tree.specs.Words.{Changes}
-use Rattle.tree.proofs.Flat.{same-or, below-or}
+use Rattle.tree.proofs.Flat.{below-or}
 use Rattle.tree.proofs.Words.{changes-none, changes-then, changes-wider, changes-set}
-use Rattle.index.proofs.Leaves.{direction-is, is-there, there-below}
-use Rattle.owners.specs.Tables.{mark-at, order-at, position-at, group-at, cursor-at, slot-at, owners, Ordered, Sorted, Like, Runs, Grouped, Slotted, Started, Groups, Due}
+use Rattle.index.proofs.Leaves.{direction-is, is-there}
+use Rattle.owners.specs.Tables.{mark-at, order-at, position-at, group-at, cursor-at, slot-at, owners, Sorted, Like, Runs, Grouped, Slotted, Started, Groups, Due}
 use Rattle.owners.proofs.Grouping.{runs-next, started-none, started-one, runs-start, started-start}
 
 -- ---- what a write elsewhere keeps

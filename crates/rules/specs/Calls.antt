@@ -2,7 +2,6 @@
 -- In each record the plain names are what is lent, as it stands at entry, and the names with a prime what it is at return.
 use Rattle.rules.specs.Library.{ℕ, zero, suc, _-_, _*_, _^_, _≡_, Bool, List, [], _++_, length, take, drop, replicate, Answer, Accepted, Refused}
 use Rattle.rules.specs.Selecting.{Pair, select}
-use Rattle.rules.specs.Chaining.{Settings}
 use Rattle.rules.specs.Layout.{Laid, build, ends, listed}
 use Rattle.rules.specs.Refusals.{Lent, LentEnds, refusalOf, pairRefusalOf, chainRefusalOf, sourceOf, entry, lineRoom, endRoom}
 

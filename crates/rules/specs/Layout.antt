@@ -1,5 +1,5 @@
 -- 01, Input and output: numbers read as lines and ends, and chains and pairs written as numbers.
-use Rattle.rules.specs.Library.{ℕ, zero, suc, _+_, _*_, Bool, true, false, List, [], _∷_, _++_, flatMap, eqb, Float, nan, length, getD, take, drop, Direction, Absent, Toward}
+use Rattle.rules.specs.Library.{ℕ, suc, _+_, Bool, true, false, List, [], _∷_, _++_, flatMap, eqb, Float, nan, length, getD, take, drop, Direction, Absent, Toward}
 use Rattle.rules.specs.Lists.{total}
 use Rattle.rules.specs.Plane.{Point, points, flat}
 use Rattle.rules.specs.Selecting.{End, Pair}

@@ -1,6 +1,6 @@
 -- 01, Ends and Direction: points, the keys that group ends, directions, and the measure of a pair.
 -- A coordinate is its 64 bits: a NaN keeps its payload, and the exact key is the bits.
-use Rattle.rules.specs.Library.{ℕ, Bool, true, false, _&&_, not, cond, List, [], _∷_, Option, none, some, eqb, ℤ, pos, negsuc, Float, fin, binary64, ofBits, add, sub, mul, div, lt, eq, Direction, Absent, Toward}
+use Rattle.rules.specs.Library.{ℕ, Bool, true, false, _&&_, not, cond, List, [], _∷_, none, some, eqb, ℤ, pos, negsuc, Float, fin, binary64, ofBits, add, sub, mul, div, lt, eq, Direction, Absent, Toward}
 use Rattle.rules.specs.Lists.{first}
 use Rattle.rules.specs.Root.{root}
 use Rattle.rules.specs.Cell.{cell}

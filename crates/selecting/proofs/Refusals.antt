@@ -8,7 +8,6 @@ use native.Mathlib.Omega.{arith}
 use lib.ListN.{length, getD}
 use lib.Dec.{T, ltb, eqb}
 use lib.Ieee.{Float, binary64, le, isNan, fits}
-use lib.Ieee.Scale.{finite}
 use borrow.Author.Tests.{ltb-false, eqb-true, eq-eqb, not-false}
 use Rattle.rules.specs.Lists.{count}
 use Rattle.rules.specs.Plane.{unity, minus-unity}

@@ -1,6 +1,6 @@
 -- The tests on places, and that places are in order as their numbers are: first by the key, and by the tie where the keys are equal.
 -- Numbers of 128 binary digits are compared by laws over variables, one for each step.
-use Prim.Native.Nat.{ℕ, _+_, _*_, _≤_, _<_, min}
+use Prim.Native.Nat.{ℕ, _≤_, _<_, min}
 use mathlib.Core.Path.{_≡_, refl, sym, _∙_}
 use mathlib.Core.Bool.{Bool, true, false}
 use native.Mathlib.Omega.{arith}
@@ -9,7 +9,7 @@ use borrow.Author.Tests.{lt-ltb, le-ltb, eq-eqb, ne-eqb, ltb-true, ltb-false, eq
 use Rattle.order.proofs.Order.{bool-ext}
 use Rattle.bounds.specs.Search.{place}
 use Rattle.bounds.proofs.Search.{place-same}
-use Rattle.tree.specs.Places.{gone, none}
+use Rattle.tree.specs.Places.{gone}
 
 pub by-key : (k i l j : ℕ) → i ≤ gone → k < l → true ≡ ltb (place k i) (place l j)
 by-key k i l j p h = sym (lt-ltb (place k i) (place l j) (omega arith))

@@ -1,6 +1,5 @@
 -- The three cases of `leading-of`: too few digits, too many, and the bits above those of 1/2.
 use mathlib.Core.Path.{_≡_}
-use mathlib.Core.Bool.{true, false, _&&_, cond}
 use Prim.Native.Nat.{ℕ, _+_, _-_, _*_, _^_, _≤_, _<_}
 use borrow.Author.Tests.{le-leb, lt-leb}
 use Rattle.whole_root.specs.Guess.{leading-of}

@@ -1,7 +1,7 @@
 -- The chain question's answer, as a number.
 use borrow.Author.Needs.{needs}
-use mathlib.Core.Path.{_≡_, sym, ap, _∙_}
-use Rattle.rules.specs.Calls.{numberOf, asked}
+use mathlib.Core.Path.{ap, _∙_}
+use Rattle.rules.specs.Calls.{numberOf}
 use Rattle.door.proofs.Answers.{proper-asked}
 use Rattle.door.proofs.lovasuku_chain.Statement.{statement}
 use Rattle.door.proofs.lovasuku_chain.Tie as tie

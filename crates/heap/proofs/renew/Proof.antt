@@ -1,4 +1,3 @@
-use native.Mathlib.Omega.{arith}
 use Prim.Native.Nat.{ℕ, min}
 use mathlib.Core.Path.{subst, ap₂, _∙_}
 use Rattle.heap.specs.Heap.{Puts}

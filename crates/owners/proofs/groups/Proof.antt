@@ -1,8 +1,7 @@
 use native.Mathlib.Omega.{arith}
-use Prim.Native.Nat.{_-_, _≤_}
-use mathlib.Core.Path.{subst}
+use Prim.Native.Nat.{_-_}
 use lib.ListN.{length-set}
-use Rattle.owners.proofs.Turns.{Grouping, grouping-start, grouping-sorted, grouping-low, grouping-in, grouping-few, grouping-next, grouping-stop}
+use Rattle.owners.proofs.Turns.{Grouping, grouping-start, grouping-sorted, grouping-low, grouping-in, grouping-next, grouping-stop}
 use Rattle.owners.proofs.groups.Statement.{statement}
 use Rattle.owners.proofs.groups.Tie as tie
 

@@ -3,7 +3,6 @@ use Prim.Native.Nat.{_+_, _-_, _/_, _≤_, _<_}
 use mathlib.Core.Path.{_≡_, refl, sym, _∙_}
 use native.Mathlib.Omega.{arith}
 use lib.ListN.{length, take}
-use mathlib.Core.Bool.{true}
 use mathlib.Core.List.{[], reverse}
 use Rattle.rules.specs.Plane.{points}
 use Rattle.slices.specs.Run.{laid, walked, Near}

@@ -3,7 +3,6 @@ use Prim.Native.Nat.{_+_, _-_, _≤_}
 use mathlib.Core.Path.{_≡_, refl, _∙_}
 use native.Mathlib.Omega.{arith}
 use lib.ListN.{length, take, drop, length-drop}
-use mathlib.Core.Bool.{false}
 use mathlib.Core.List.{[]}
 use Rattle.rules.specs.Plane.{points}
 use Rattle.slices.specs.Run.{laid, walked, Near}
