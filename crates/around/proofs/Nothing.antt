@@ -11,7 +11,6 @@ use lib.Seq.{slice, length-slice}
 use borrow.Author.Tests.{leb-true}
 use Rattle.rules.specs.declared.Direction.{Direction}
 use Rattle.rules.specs.declared.Direction.the-variants.{Absent, Toward}
-use Rattle.bounds.proofs.Round.{round-finite}
 use Rattle.selecting.specs.Ranked.{Pair, candidates, qualifies, select, none as nobody}
 use Rattle.selecting.specs.Sets.{In}
 use Rattle.selecting.specs.Taking.{listed}
@@ -19,10 +18,10 @@ use Rattle.selecting.specs.Ends.{endAt, there, keyOf, nodeOf}
 use Rattle.selecting.proofs.Order.{and-left, and-right}
 use Rattle.selecting.proofs.Laws.{in-candidates, select-stop}
 use Rattle.ends.specs.Ends.{Room, Selected, directionAt, endsIn}
-use Rattle.index.specs.Index.{Round}
+use Rattle.index.specs.Index.{Finite, Round}
 use Rattle.index.proofs.Leaves.{toward-of, is-there, direction-is, there-below}
 use Rattle.around.specs.Around.{Every, tame, round-of, around-of, beyond-of}
-use Rattle.around.proofs.Scan.{round-part}
+use Rattle.around.proofs.Scan.{tame-parts, round-part}
 use Rattle.around.proofs.Box.{beyond-above}
 
 -- ---- no pair is listed, and nothing is changed
@@ -46,25 +45,30 @@ none-selected w d limit r h =
     short : slice (d * 4) (d * 4 + 0 * 2) w ≡ []
     short = nothing (slice (d * 4) (d * 4 + 0 * 2) w) (length-slice (d * 4) (d * 4 + 0 * 2) w (omega (arith, r .long)) ∙ omega arith)
 
--- ---- directions in the disk are the index's, and tame
+-- ---- tame directions are the index's finite ones, and those in the disk its round ones
 
 holds : (b : Bool) → T b → b ≡ true
 holds true t = refl
 holds false t = absurd t
 
 module _ {w : List ℕ} {d : ℕ} (room : Room w d) where
+  pub tame-finite : ((e : ℕ) → e < d → tame (directionAt w d e) ≡ true) → Finite (endsIn w d)
+  tame-finite t e x y q =
+      let h = there-below room e (is-there q) in
+      tame-parts x y (ap tame (sym q ∙ direction-is room e h) ∙ t e h)
+
+  pub finite-tame : Finite (endsIn w d) → (e : ℕ) → e < d → tame (directionAt w d e) ≡ true
+  unfolding tame
+  finite-tame f e h = go (directionAt w d e) (direction-is room e h)
+    where
+      go : (a : Direction) → endAt (endsIn w d) e .direction ≡ a → tame a ≡ true
+      go Absent q = refl
+      go (Toward x y) q = let t = f e x y q in ap (λ (b : Bool). b && finite y) (holds (finite x) (t .0)) ∙ holds (finite y) (t .1)
+
   pub all-round : ((e : ℕ) → e < d → round-of (directionAt w d e) ≡ true) → Round (endsIn w d)
   all-round t e x y q =
       let h = there-below room e (is-there q) in
       round-part x y (ap round-of (sym q ∙ direction-is room e h) ∙ t e h)
-
-  pub round-tame : Round (endsIn w d) → (e : ℕ) → e < d → tame (directionAt w d e) ≡ true
-  unfolding tame
-  round-tame f e h = go (directionAt w d e) (direction-is room e h)
-    where
-      go : (a : Direction) → endAt (endsIn w d) e .direction ≡ a → tame a ≡ true
-      go Absent q = refl
-      go (Toward x y) q = let t = round-finite x y (f e x y q) in ap (λ (b : Bool). b && finite y) (holds (finite x) (t .0)) ∙ holds (finite y) (t .1)
 
   -- each direction is beyond the box around all
   pub apart-none : (limit : ℕ) → ((e : ℕ) → e < d → tame (directionAt w d e) ≡ true)

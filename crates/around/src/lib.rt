@@ -20,7 +20,7 @@ fn finite_way(way: Direction) -> bool
 }
 
 // Whether each present direction is finite.
-fn all_finite(w: &[u64], d: usize) -> bool
+pub fn all_finite(w: &[u64], d: usize) -> bool
     requires { ⌜ Room (now w) d ⌝ }
     ensures { λ r. ⌜ Every (λ e. tame (directionAt (now (w .entry)) d e)) d r ⌝ }
 {

@@ -1,9 +1,9 @@
 -- No measure with a direction in a box is below the measure with the box's corner, unless one of the two is a NaN: each product with the corner is the least of its
 -- side, and sums and clamping keep the order. So the low key of the one is at most the key of the other, NaN or not (`corner-key`); and where all directions are in
 -- the disk, so is that of the lower measure (`key-bound`, the law that a search cites).
-use mathlib.Core.Path.{_≡_}
+use mathlib.Core.Path.{_≡_, refl}
 use mathlib.Core.Logic.{_⊎_}
-use mathlib.Core.Bool.{Bool, true, false, not, cond}
+use mathlib.Core.Bool.{Bool, true, false, not, _&&_, cond}
 use Prim.Native.Nat.{ℕ, _≤_, _<_}
 use lib.Dec.{T}
 use lib.Ieee.{Float, binary64, mul, lt, le, isNan, fits}
@@ -16,7 +16,6 @@ use Rattle.order.proofs.Dot.{clamp-mono, clamp-num, measure-fits}
 use Rattle.order.proofs.Keys.{low-key-bound, low-key-most}
 use Rattle.bounds.specs.declared.Bounds.{Bounds}
 use Rattle.bounds.specs.Box.{greatest, round-way, corner, corner-of, gap-of, lower-of, Sound, Holds}
-use Rattle.bounds.proofs.Round.{round-finite}
 use Rattle.bounds.proofs.Apart.{gap-of-fits, gap-bound}
 
 -- one side: the corner's product is the least
@@ -37,16 +36,16 @@ corner-fits : (b : Bounds) (ax ay : Float) → T (fits binary64 (corner-of b ax 
 unfolding corner-of
 corner-fits b ax ay = measure-fits ax ay (corner ax (b .«low_x») (b .«high_x»)) (corner ay (b .«low_y») (b .«high_y»))
 
-lower-fits : (b : Bounds) (ax ay : Float) → T (fits binary64 (lower-of b ax ay))
+lower-fits : (r : Bool) (b : Bounds) (ax ay : Float) → T (fits binary64 (lower-of r b ax ay))
 unfolding lower-of greatest
-lower-fits b ax ay =
-    cond-fits binary64 (lt (b .«low_x») (b .«high_x»)) _ (corner-of b ax ay)
+lower-fits r b ax ay =
+    cond-fits binary64 (r && lt (b .«low_x») (b .«high_x»)) _ (corner-of b ax ay)
     (cond-fits binary64 (lt (corner-of b ax ay) (gap-of b ax ay)) (gap-of b ax ay) (corner-of b ax ay) (gap-of-fits b ax ay) (corner-fits b ax ay))
     (corner-fits b ax ay)
 
 -- every low key of a lower measure is below 2 ^ 64
-pub low-key-lower : (b : Bounds) (ax ay : Float) → low-key (lower-of b ax ay) ≤ key-nan
-low-key-lower b ax ay = low-key-most (lower-of b ax ay) (lower-fits b ax ay)
+pub low-key-lower : (r : Bool) (b : Bounds) (ax ay : Float) → low-key (lower-of r b ax ay) ≤ key-nan
+low-key-lower r b ax ay = low-key-most (lower-of r b ax ay) (lower-fits r b ax ay)
 
 -- (k, i) comes before (l, j)
 abbrev pub Before : ℕ → ℕ → ℕ → ℕ → Type 0
@@ -68,22 +67,19 @@ module _ (b : Bounds) (s : Sound b) (ax ay x y : Float) (fax : T (finite ax)) (f
   pub corner-key : low-key (corner-of b ax ay) ≤ key (measure ax ay x y)
   corner-key = low-key-bound (corner-of b ax ay) (measure ax ay x y) (corner-fits b ax ay) (measure-fits ax ay x y) corner-bound
 
-module _ (b : Bounds) (s : Sound b) (ax ay x y : Float) (r : T (round-way ax ay)) (o : T (round-way x y)) (w : Holds b x y) where
-  bound : T (not (isNan (lower-of b ax ay))) → T (not (isNan (measure ax ay x y))) → T (le (lower-of b ax ay) (measure ax ay x y))
-  unfolding lower-of greatest
-  bound p q = go (lt (b .«low_x») (b .«high_x»)) (lt (corner-of b ax ay) (gap-of b ax ay)) p
-    where
-      by-corner : T (not (isNan (corner-of b ax ay))) → T (le (corner-of b ax ay) (measure ax ay x y))
-      by-corner n =
-          let f = round-finite ax ay r in
-          let g = round-finite x y o in
-          corner-bound b s ax ay x y (f .0) (f .1) (g .0) (g .1) w n q
+  -- where r says that both are in the disk
+  module _ (r : Bool) (told : r ≡ true → T (round-way ax ay) × T (round-way x y)) where
+    bound : T (not (isNan (lower-of r b ax ay))) → T (not (isNan (measure ax ay x y))) → T (le (lower-of r b ax ay) (measure ax ay x y))
+    unfolding lower-of greatest
+    bound p q = go r (lt (b .«low_x») (b .«high_x»)) (lt (corner-of b ax ay) (gap-of b ax ay)) told p
+      where
+        go : (t u v : Bool) → (t ≡ true → T (round-way ax ay) × T (round-way x y))
+            → T (not (isNan (cond (t && u) (cond v (gap-of b ax ay) (corner-of b ax ay)) (corner-of b ax ay))))
+            → T (le (cond (t && u) (cond v (gap-of b ax ay) (corner-of b ax ay)) (corner-of b ax ay)) (measure ax ay x y))
+        go true true true f n = let d = f refl in gap-bound b s ax ay x y (d .0) (d .1) w
+        go true true false f n = corner-bound n q
+        go true false v f n = corner-bound n q
+        go false u v f n = corner-bound n q
 
-      go : (t u : Bool) → T (not (isNan (cond t (cond u (gap-of b ax ay) (corner-of b ax ay)) (corner-of b ax ay))))
-          → T (le (cond t (cond u (gap-of b ax ay) (corner-of b ax ay)) (corner-of b ax ay)) (measure ax ay x y))
-      go true true n = gap-bound b s ax ay x y r o w
-      go true false n = by-corner n
-      go false u n = by-corner n
-
-  pub key-bound : low-key (lower-of b ax ay) ≤ key (measure ax ay x y)
-  key-bound = low-key-bound (lower-of b ax ay) (measure ax ay x y) (lower-fits b ax ay) (measure-fits ax ay x y) bound
+    pub key-bound : low-key (lower-of r b ax ay) ≤ key (measure ax ay x y)
+    key-bound = low-key-bound (lower-of r b ax ay) (measure ax ay x y) (lower-fits r b ax ay) (measure-fits ax ay x y) bound

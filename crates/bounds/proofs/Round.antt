@@ -1,13 +1,12 @@
 -- Directions in the disk: what the test tells, that their parts are finite, and which bound the lower measure is.
-use mathlib.Core.Path.{_≡_}
-use mathlib.Core.Bool.{true, false, _&&_}
+use mathlib.Core.Path.{_≡_, refl}
+use mathlib.Core.Bool.{Bool, true, false, _&&_, cond}
 use lib.Dec.{T}
 use lib.Ieee.{Float, nan, inf, fin, binary64, mul, add, lt, le, fits}
 use lib.Ieee.Bits.{is-true}
 use lib.Ieee.Fits.{and-l, and-r}
 use lib.Ieee.Scale.{finite}
 use Rattle.rules.specs.Plane.{dot}
-use Rattle.order.proofs.Pick.{chosen, other}
 use Rattle.bounds.specs.declared.Bounds.{Bounds}
 use Rattle.bounds.specs.Box.{greatest, rim, round-way, corner-of, gap-of, lower-of}
 
@@ -77,10 +76,19 @@ module _ (x y : Float) (h : T (round-way x y)) where
 
 -- ---- the lower measure
 
-pub lower-wide : (b : Bounds) (ax ay : Float) → lt (b .«low_x») (b .«high_x») ≡ true → greatest (corner-of b ax ay) (gap-of b ax ay) ≡ lower-of b ax ay
-unfolding lower-of
-lower-wide b ax ay h = chosen (lt (b .«low_x») (b .«high_x»)) _ _ h
+module _ (r : Bool) (b : Bounds) (ax ay : Float) where
+  pub lower-wide : r ≡ true → lt (b .«low_x») (b .«high_x») ≡ true → greatest (corner-of b ax ay) (gap-of b ax ay) ≡ lower-of r b ax ay
+  unfolding lower-of
+  lower-wide e h = rw (e, h)
 
-pub lower-thin : (b : Bounds) (ax ay : Float) → lt (b .«low_x») (b .«high_x») ≡ false → corner-of b ax ay ≡ lower-of b ax ay
-unfolding lower-of
-lower-thin b ax ay h = other (lt (b .«low_x») (b .«high_x»)) _ _ h
+  pub lower-thin : lt (b .«low_x») (b .«high_x») ≡ false → corner-of b ax ay ≡ lower-of r b ax ay
+  unfolding lower-of
+  lower-thin h = go r
+    where
+      go : (t : Bool) → corner-of b ax ay ≡ cond (t && lt (b .«low_x») (b .«high_x»)) (greatest (corner-of b ax ay) (gap-of b ax ay)) (corner-of b ax ay)
+      go true = rw h
+      go false = refl
+
+  pub lower-any : r ≡ false → corner-of b ax ay ≡ lower-of r b ax ay
+  unfolding lower-of
+  lower-any e = rw e

@@ -77,10 +77,10 @@ unfolding clamp gap half-square greatest
 gap-of b ax ay =
     clamp (sub binary64 (greatest (half-square (gap ax (b .«low_x») (b .«high_x»))) (half-square (gap ay (b .«low_y») (b .«high_y»)))) beyond)
 
--- a measure that none of (ax, ay) with a direction in the box is below, if all are in the disk. The corner of a box of no width is a direction of its own
-unfoldable pub lower-of : Bounds → Float → Float → Float
+-- A measure that none of (ax, ay) with a direction in the box is below; r says that all are in the disk. The corner of a box of no width is a direction of its own
+unfoldable pub lower-of : Bool → Bounds → Float → Float → Float
 unfolding corner-of gap-of greatest
-lower-of b ax ay = cond (lt (b .«low_x») (b .«high_x»)) (greatest (corner-of b ax ay) (gap-of b ax ay)) (corner-of b ax ay)
+lower-of r b ax ay = cond (r && lt (b .«low_x») (b .«high_x»)) (greatest (corner-of b ax ay) (gap-of b ax ay)) (corner-of b ax ay)
 
 -- every end is finite
 pub record Sound (b : Bounds) : Type 0 where

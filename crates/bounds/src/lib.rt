@@ -118,13 +118,15 @@ impl Bounds {
         order::clamped(greater(x, y) - BEYOND)
     }
 
-    // The greater of the two. Where all directions have one x, the corner is one of them.
-    pub fn lower_measure(self, ax: f64, ay: f64) -> f64
-        ensures { λ r. ⌜ r ≡ lower-of self ax ay ⌝ }
+    // The greater of the two where all are in the disk, else the corner's. Where all directions have one x, the corner is one of them.
+    pub fn lower_measure(self, round: bool, ax: f64, ay: f64) -> f64
+        ensures { λ r. ⌜ r ≡ lower-of round self ax ay ⌝ }
     {
         let m = self.corner_measure(ax, ay);
-        if self.low_x < self.high_x {
-            return greater(m, self.gap_measure(ax, ay));
+        if round {
+            if self.low_x < self.high_x {
+                return greater(m, self.gap_measure(ax, ay));
+            }
         }
         m
     }

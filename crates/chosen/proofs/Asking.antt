@@ -1,4 +1,4 @@
--- What the indexed route asks: directions that are all in the disk, and the key of a limit that is a number is below the greatest.
+-- What the indexed route asks: ends whose directions are all tame are finite ends, and the key of a limit that is a number is below the greatest.
 use Prim.Native.Nat.{ℕ}
 use mathlib.Core.Path.{_≡_}
 use mathlib.Core.Bool.{Bool, true, false}
@@ -12,16 +12,16 @@ use Rattle.selecting.specs.Ends.{endAt}
 use Rattle.selecting.specs.Owners.{AtMostTwice}
 use Rattle.selecting.proofs.Refusals.{limit-under}
 use Rattle.ends.specs.Ends.{Room, directionAt, endsIn}
-use Rattle.around.specs.Around.{Every, round-of}
-use Rattle.around.proofs.Nothing.{all-round}
+use Rattle.around.specs.Around.{Every, tame}
+use Rattle.around.proofs.Nothing.{tame-finite}
 use Rattle.indexed.specs.Start.{Asks}
 
 pub asks : {w : List ℕ} {d : ℕ} (limit : Float) {r : Bool} {k : ℕ} → Room w d → T (fits binary64 limit) → limitBad limit ≡ false
-    → AtMostTwice (λ e. endAt (endsIn w d) e .piece) d → Every (λ e. round-of (directionAt w d e)) d r → r ≡ true → k ≡ key limit → Asks w d k
+    → AtMostTwice (λ e. endAt (endsIn w d) e .piece) d → Every (λ e. tame (directionAt w d e)) d r → r ≡ true → k ≡ key limit → Asks w d k
 asks limit room fit fair twice t told e =
     record {
       room = room;
       limited = omega (arith, limit-under limit fit fair);
-      round-ends = all-round room (t .yes told);
+      finite-ends = tame-finite room (t .yes told);
       twice = twice;
     }

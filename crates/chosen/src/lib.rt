@@ -1,4 +1,4 @@
-// The chosen route: few ends go by the plain route, and more by the index, whose directions are all in the unit disk; others go by the plain route too.
+// The chosen route: few ends, or a direction that is not finite, go by the plain route, all others by the index.
 ghost use mathlib.Core.Path.{_≡_};
 ghost use mathlib.Core.Bool.{false};
 ghost use Rattle.rules.specs.Refusals.{limitBad};
@@ -8,20 +8,9 @@ ghost use Rattle.selecting.specs.Owners.{AtMostTwice};
 ghost use Rattle.ends.specs.Ends.{Room, Selected, endsIn};
 
 // How many ends the indexed route asks at the least.
-const FEW: usize = 128;
+const FEW: usize = 32;
 
-// The selected pairs of d ends, by the index where all directions are in the disk; how many, and two words for each behind the piece numbers.
-pub fn indexed_pairs(w: &mut [u64], d: usize, limit: f64) -> usize
-    requires { ⌜ Room (now w) d × (limitBad limit ≡ false) × AtMostTwice (λ e. endAt (endsIn (now w) d) e .piece) d ⌝ }
-    ensures { λ r. ⌜ Selected (now (w .entry)) d (key limit) r (now (w .exit)) ⌝ }
-{
-    if !around::all_round(w, d) {
-        return plain::plain(w, d, limit);
-    }
-    indexed::indexed(w, d, order::key(limit))
-}
-
-// The selected pairs of a junction's d ends, by the route that fits.
+// The selected pairs of a junction's d ends, by the route that fits; how many, and two words for each behind the piece numbers.
 pub fn junction_pairs(w: &mut [u64], d: usize, limit: f64) -> usize
     requires { ⌜ Room (now w) d × (limitBad limit ≡ false) × AtMostTwice (λ e. endAt (endsIn (now w) d) e .piece) d ⌝ }
     ensures { λ r. ⌜ Selected (now (w .entry)) d (key limit) r (now (w .exit)) ⌝ }
@@ -29,5 +18,8 @@ pub fn junction_pairs(w: &mut [u64], d: usize, limit: f64) -> usize
     if d < FEW {
         return plain::plain(w, d, limit);
     }
-    indexed_pairs(w, d, limit)
+    if !around::all_finite(w, d) {
+        return plain::plain(w, d, limit);
+    }
+    indexed::indexed(w, d, order::key(limit))
 }

@@ -2,28 +2,28 @@
 -- first index is at most each end's, since a union holds what either box holds; so its low key is at most the key of each pair (`key-bound`).
 -- And the first index is that of an end below the node, so that the first pair below is at or before the pair with that end.
 use Prim.Native.Nat.{ℕ, zero, suc, _+_, _*_, _≤_, _<_, min}
-use mathlib.Core.Path.{_≡_, sym, ap, _∙_, subst}
+use mathlib.Core.Path.{_≡_, refl, sym, ap, _∙_, subst}
 use mathlib.Core.Bool.{Bool, true, false, cond}
 use mathlib.Core.Logic.{_⊎_, inl, inr, ⊎-elim}
 use native.Mathlib.Nat.{le-trans, le-of-eq}
 use native.Mathlib.Omega.{arith}
 use lib.Dec.{T, eqb}
 use lib.Ieee.{Float}
+use lib.Ieee.Scale.{finite}
 use borrow.Author.Tests.{eq-eqb, ne-eqb}
 use Rattle.rules.specs.declared.Direction.{Direction}
 use Rattle.rules.specs.declared.Direction.the-variants.{Toward}
 use Rattle.rules.specs.Plane.{measure}
 use Rattle.order.specs.Key.{key, low-key}
 use Rattle.bounds.specs.declared.Bounds.{Bounds}
-use Rattle.bounds.specs.Box.{round-way, lower-of, Sound, Holds}
+use Rattle.bounds.specs.Box.{empty-of, point-of, union-of, round-way, lower-of, Sound, Holds}
 use Rattle.bounds.specs.Search.{place, least, Bounded}
 use Rattle.bounds.proofs.Bound.{low-key-lower, key-bound}
-use Rattle.bounds.proofs.Round.{round-finite}
 use Rattle.bounds.proofs.Union.{empty-sound, point-sound, point-holds, union-sound, union-left, union-right}
 use Rattle.selecting.specs.Ends.{keyOf}
 use Rattle.tree.specs.Places.{gone, none}
 use Rattle.tree.proofs.Flat.{below-or}
-use Rattle.index.specs.Search.{Seat, Built, bound-of, pair-at, leaf-at}
+use Rattle.index.specs.Search.{Seat, Built, bound-of, pair-at, leaf-at, least-of}
 
 -- ---- places
 
@@ -49,7 +49,7 @@ module _ (N : ℕ → Bounds) (way : ℕ → Direction) (d : ℕ) (few : d ≤ g
   pub sound : (h n : ℕ) → Built N way d h n → Sound (N n)
   unfolding Built
   sound zero n (inl e) = subst (λ (v : Bounds). Sound v) (sym e) empty-sound
-  sound zero n (inr s) = subst (λ (v : Bounds). Sound v) (sym (s .box)) (let f = round-finite (s .x) (s .y) (s .round) in point-sound (s .x) (s .y) (s .e) (f .0) (f .1))
+  sound zero n (inr s) = subst (λ (v : Bounds). Sound v) (sym (s .box)) (point-sound (s .x) (s .y) (s .e) (s .x-finite) (s .y-finite))
   sound (suc h) n b =
       subst (λ (v : Bounds). Sound v) (sym (b .0)) (union-sound (N (2 * n)) (N (2 * n + 1)) (sound h (2 * n) (b .1)) (sound h (2 * n + 1) (b .2)))
 
@@ -88,7 +88,7 @@ module _ (N : ℕ → Bounds) (way : ℕ → Direction) (d : ℕ) (few : d ≤ g
   covers zero n (inr s) =
       inr (
         s,
-        subst (λ (v : Bounds). Holds v (s .x) (s .y)) (sym (s .box)) (let f = round-finite (s .x) (s .y) (s .round) in point-holds (s .x) (s .y) (s .e) (f .0) (f .1)),
+        subst (λ (v : Bounds). Holds v (s .x) (s .y)) (sym (s .box)) (point-holds (s .x) (s .y) (s .e) (s .x-finite) (s .y-finite)),
         omega (arith, first-of (s .box)),
       )
   covers (suc h) n b =
@@ -105,22 +105,26 @@ module _ (N : ℕ → Bounds) (way : ℕ → Direction) (d : ℕ) (few : d ≤ g
 
   -- ---- the bounds
 
-  module _ (piece : ℕ → ℕ) (ax ay : Float) (own : ℕ) where
+  module _ (r : Bool) (piece : ℕ → ℕ) (ax ay : Float) (own : ℕ) where
     abbrev pairs : ℕ → ℕ
     pairs = pair-at way piece ax ay own
 
     abbrev leaf : ℕ → ℕ
     leaf = leaf-at way piece ax ay own N
 
-    pub bound-le : (b : Bounds) → b .first ≤ gone → bound-of ax ay b ≤ none
+    -- r tells the truth of (ax, ay) and of the directions below d
+    abbrev pub Told : Type 0
+    Told = (r ≡ true → T (round-way ax ay)) × (r ≡ true → (e : ℕ) (x y : Float) → e < d → way e ≡ Toward x y → T (round-way x y))
+
+    pub bound-le : (b : Bounds) → b .first ≤ gone → bound-of r ax ay b ≤ none
     unfolding bound-of
     bound-le b l = go (eqb (b .first) gone)
       where
-        go : (e : Bool) → cond e none (place (low-key (lower-of b ax ay)) (b .first)) ≤ none
+        go : (e : Bool) → cond e none (place (low-key (lower-of r b ax ay)) (b .first)) ≤ none
         go true = omega arith
-        go false = under-none (low-key (lower-of b ax ay)) (b .first) (low-key-lower b ax ay) l
+        go false = under-none (low-key (lower-of r b ax ay)) (b .first) (low-key-lower r b ax ay) l
 
-    pub bound-some : (b : Bounds) → (b .first ≡ gone → ⊥) → bound-of ax ay b ≡ place (low-key (lower-of b ax ay)) (b .first)
+    pub bound-some : (b : Bounds) → (b .first ≡ gone → ⊥) → bound-of r ax ay b ≡ place (low-key (lower-of r b ax ay)) (b .first)
     unfolding bound-of
     bound-some b p = left-out _ _ _ (ne-eqb (b .first) gone p)
 
@@ -133,22 +137,22 @@ module _ (N : ℕ → Bounds) (way : ℕ → Direction) (d : ℕ) (few : d ≤ g
     leaf-none n p = chosen _ _ _ (eq-eqb (N n .first) gone p)
 
     -- the pair with an end of the box
-    module _ (b : Bounds) (s : Sound b) (l : b .first ≤ gone) (r : T (round-way ax ay)) where
-      seated : (n : ℕ) (z : Seat N way d n) → Holds b (z .x) (z .y) → b .first ≤ z .e → bound-of ax ay b ≤ pairs (z .e)
+    module _ (b : Bounds) (s : Sound b) (l : b .first ≤ gone) (fx : T (finite ax)) (fy : T (finite ay)) (t : Told) where
+      seated : (n : ℕ) (z : Seat N way d n) → Holds b (z .x) (z .y) → b .first ≤ z .e → bound-of r ax ay b ≤ pairs (z .e)
       unfolding pair-at keyOf
       seated n z w i =
           go (eqb (piece (z .e)) own)
           (le-trans (le-of-eq (bound-some b (λ e. omega (arith, e, z .within))))
-          (subst (λ (k : ℕ). place (low-key (lower-of b ax ay)) (b .first) ≤ place k (z .e)) (sym (ap (keyOf (Toward ax ay)) (z .toward)))
-          (place-mono (low-key (lower-of b ax ay)) (b .first) (key (measure ax ay (z .x) (z .y))) (z .e)
-          (key-bound b s ax ay (z .x) (z .y) r (z .round) w) i)))
+          (subst (λ (k : ℕ). place (low-key (lower-of r b ax ay)) (b .first) ≤ place k (z .e)) (sym (ap (keyOf (Toward ax ay)) (z .toward)))
+          (place-mono (low-key (lower-of r b ax ay)) (b .first) (key (measure ax ay (z .x) (z .y))) (z .e)
+          (key-bound b s ax ay (z .x) (z .y) fx fy (z .x-finite) (z .y-finite) w r (λ e. (t .0 e, t .1 e (z .e) (z .x) (z .y) (z .within) (z .toward)))) i)))
         where
-          go : (o : Bool) → bound-of ax ay b ≤ place (keyOf (Toward ax ay) (way (z .e))) (z .e)
-              → bound-of ax ay b ≤ cond o none (place (keyOf (Toward ax ay) (way (z .e))) (z .e))
+          go : (o : Bool) → bound-of r ax ay b ≤ place (keyOf (Toward ax ay) (way (z .e))) (z .e)
+              → bound-of r ax ay b ≤ cond o none (place (keyOf (Toward ax ay) (way (z .e))) (z .e))
           go true p = bound-le b l
           go false p = p
 
-      under : (h n : ℕ) → Covers b h n → bound-of ax ay b ≤ least leaf h n
+      under : (h n : ℕ) → Covers b h n → bound-of r ax ay b ≤ least leaf h n
       unfolding Covers least
       under zero n (inl e) = le-trans (bound-le b l) (le-of-eq (sym (leaf-none n e)))
       under zero n (inr (z, w, i)) =
@@ -159,11 +163,11 @@ module _ (N : ℕ → Bounds) (way : ℕ → Direction) (d : ℕ) (few : d ≤ g
           let q = under h (2 * n + 1) (c .1) in
           omega arith
 
-    pub bounded : T (round-way ax ay) → (h n : ℕ) → Built N way d h n → Bounded (λ m. bound-of ax ay (N m)) leaf h n
+    pub bounded : T (finite ax) → T (finite ay) → Told → (h n : ℕ) → Built N way d h n → Bounded (λ m. bound-of r ax ay (N m)) leaf h n
     unfolding Built Bounded least
-    bounded r zero n b = under (N n) (sound zero n b) (first-le zero n b) r zero n (covers zero n b)
-    bounded r (suc h) n b =
-        (under (N n) (sound (suc h) n b) (first-le (suc h) n b) r (suc h) n (covers (suc h) n b), bounded r h (2 * n) (b .1), bounded r h (2 * n + 1) (b .2))
+    bounded fx fy t zero n b = under (N n) (sound zero n b) (first-le zero n b) fx fy t zero n (covers zero n b)
+    bounded fx fy t (suc h) n b =
+        (under (N n) (sound (suc h) n b) (first-le (suc h) n b) fx fy t (suc h) n (covers (suc h) n b), bounded fx fy t h (2 * n) (b .1), bounded fx fy t h (2 * n + 1) (b .2))
 
     -- the first end is below the node
     pub first-under : (h n : ℕ) → Built N way d h n → (N n .first ≡ gone → ⊥) → least leaf h n ≤ pairs (N n .first)

@@ -1,14 +1,14 @@
 -- An owner's candidates: each is the owner with another end, and the order of pairs is that of their measures and other ends.
 use Prim.Native.Nat.{ℕ, _-_, _≤_, _<_, min}
 use mathlib.Core.Path.{_≡_, refl, sym, ap, _∙_}
-use mathlib.Core.Bool.{Bool, true, false}
+use mathlib.Core.Bool.{Bool, true, false, not}
 use mathlib.Core.List.{List}
 use mathlib.Core.Logic.{_⊎_, inl, inr, ⊎-elim}
 use native.Mathlib.Omega.{arith}
-use lib.Dec.{leb}
+use lib.Dec.{leb, eqb}
 use borrow.Author.Tests.{leb-true, eqb-false, not-true}
 use Rattle.rules.specs.Selecting.{End}
-use Rattle.bounds.specs.Search.{place}
+use Rattle.bounds.specs.Search.{place, least}
 use Rattle.selecting.specs.Ranked.{Pair, candidates, busy, before, qualifies}
 use Rattle.selecting.specs.Sets.{In, EndOf}
 use Rattle.selecting.specs.Ends.{endAt, there, keyOf, nodeOf}

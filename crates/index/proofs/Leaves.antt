@@ -13,13 +13,14 @@ use Rattle.rules.specs.declared.Direction.the-variants.{Absent, Toward}
 use Rattle.rules.specs.Selecting.{End}
 use Rattle.bounds.specs.Box.{empty-of}
 use Rattle.bounds.specs.Search.{least}
+use Rattle.selecting.specs.Sets.{In}
 use Rattle.selecting.specs.Ends.{endAt, there}
 use Rattle.ends.specs.Ends.{Room, directionAt, pieceAt, endsIn}
 use Rattle.ends.proofs.Reading.{ends-in-length, ends-in-at}
 use Rattle.tree.proofs.Flat.{climb, twice, left-is, right-is, last-is, next-is, below-or}
 use Rattle.index.specs.Nodes.{node-at}
 use Rattle.index.specs.Search.{Built, Ready}
-use Rattle.index.specs.Index.{box-of, Indexed, Round, Query}
+use Rattle.index.specs.Index.{box-of, Indexed, Finite, Query}
 
 -- ---- the least of the leaves, over their numbers
 module _ (w : ℕ → ℕ) where
@@ -82,7 +83,7 @@ module _ {w : List ℕ} {d : ℕ} (room : Room w d) where
 
 -- ---- the index as the search reads it
 
-module _ {w : List ℕ} {d : ℕ} (t base : ℕ) (room : Room w d) (all : Round (endsIn w d)) (used : ℕ → Bool) (order : ℕ → ℕ) (k : Indexed w t base (endsIn w d) used order) where
+module _ {w : List ℕ} {d : ℕ} (t base : ℕ) (room : Room w d) (fin : Finite (endsIn w d)) (used : ℕ → Bool) (order : ℕ → ℕ) (k : Indexed w t base (endsIn w d) used order) where
   leaf-built : (p : ℕ) → p < base → Built (node-at w t) (directionAt w d) d zero (base + p)
   unfolding Built
   leaf-built p h = go (used (order p)) (endAt (endsIn w d) (order p) .direction) refl (k .leaves p h)
@@ -99,7 +100,8 @@ module _ {w : List ℕ} {d : ℕ} (t base : ℕ) (room : Room w d) (all : Round 
             e = order p;
             box = q;
             toward = sym (direction-is room (order p) i) ∙ e;
-            round = all (order p) x y e;
+            x-finite = fin (order p) x y e .0;
+            y-finite = fin (order p) x y e .1;
             within = i;
           })
 
@@ -115,12 +117,17 @@ module _ {w : List ℕ} {d : ℕ} (t base : ℕ) (room : Room w d) (all : Round 
 
 pub ready : {w : List ℕ} {d t height limit o : ℕ} → Query w d t height limit o → (ax ay : Float) → Toward ax ay ≡ directionAt w d o → Ready w d t ax ay height 1
 ready {w} {d} {t} {height} {limit} {o} q ax ay e =
+    let f = q .finite-ends o ax ay (direction-is (q .room) o (q .within) ∙ sym e) in
     record {
       room = q .room;
       nodes = 2 * 2 ^ height;
       inside = omega (arith, q .inside);
       within = omega arith;
       built =
-          built-from t (2 ^ height) (q .room) (q .round-ends) (q .used) (q .order) (q .indexed) height 1 (omega arith) (omega (arith, one-mul (2 ^ height))) (omega arith);
-      round = q .round-ends o ax ay (direction-is (q .room) o (q .within) ∙ sym e);
+          built-from t (2 ^ height) (q .room) (q .finite-ends) (q .used) (q .order) (q .indexed) height 1 (omega arith) (omega (arith, one-mul (2 ^ height))) (omega arith);
+      x-finite = f .0;
+      y-finite = f .1;
+      note = omega (arith, q .room .long, q .within);
+      own-round = λ h. q .noted h o ax ay (direction-is (q .room) o (q .within) ∙ sym e);
+      all-round = λ h k x y l z. q .noted h k x y (direction-is (q .room) k l ∙ z);
     }

@@ -2,12 +2,13 @@
 -- order of an owner's pairs is that of the keys and then of the other ends.
 use Prim.Native.Nat.{ℕ, _+_, _-_, _*_, _^_, _≤_, _<_, min}
 use mathlib.Core.Path.{_≡_, refl, sym, ap, ap₂, _∙_, subst}
-use mathlib.Core.Bool.{Bool, true, false, cond, _&&_, _||_}
+use mathlib.Core.Bool.{Bool, true, false, not, cond, _&&_, _||_}
 use mathlib.Core.List.{List}
 use mathlib.Core.Logic.{_⊎_, inl, inr, ⊎-elim}
 use native.Mathlib.Omega.{arith}
 use native.Mathlib.Nat.{le-trans, le-of-eq, one-mul}
 use lib.Dec.{leb, eqb}
+use lib.ListN.{length}
 use lib.Ieee.{Float}
 use borrow.Author.Tests.{le-leb, ne-eqb, eqb-false}
 use Rattle.rules.specs.declared.Direction.{Direction}
@@ -17,7 +18,7 @@ use Rattle.bounds.specs.declared.Bounds.{Bounds}
 use Rattle.bounds.specs.Box.{empty-of, point-of}
 use Rattle.bounds.specs.Search.{place, least}
 use Rattle.bounds.proofs.Search.{place-same}
-use Rattle.selecting.specs.Ranked.{Pair, candidates, busy, qualifies}
+use Rattle.selecting.specs.Ranked.{Pair, candidates, busy, before, qualifies}
 use Rattle.selecting.specs.Sets.{In, EndOf}
 use Rattle.selecting.specs.Ends.{endAt, there, keyOf, nodeOf}
 use Rattle.selecting.proofs.Order.{and-left, and-right}

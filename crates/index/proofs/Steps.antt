@@ -2,14 +2,14 @@
 -- over; where the pair with a node's first end has the place of the node's bound, no other pair below is before it; and otherwise both children are searched,
 -- in either order.
 use Prim.Native.Nat.{ℕ, zero, suc, _+_, _-_, _*_, _^_, _≤_, _<_, min}
-use mathlib.Core.Path.{_≡_, sym, ap, _∙_}
+use mathlib.Core.Path.{_≡_, refl, sym, ap, _∙_, subst}
 use mathlib.Core.Bool.{Bool, true, false, cond, _&&_}
 use mathlib.Core.List.{List}
 use mathlib.Core.Logic.{_⊎_, inl, inr, ⊎-elim}
-use native.Mathlib.Nat.{le-trans, le-of-eq, lt-irrefl, mul-assoc, add-mul, le-mul-of-pos-right, pow-succ'}
+use native.Mathlib.Nat.{le-trans, le-of-eq, lt-of-lt-of-le, lt-irrefl, mul-assoc, add-mul, le-mul-of-pos-right, pow-succ'}
 use native.Mathlib.Omega.{arith}
-use lib.Dec.{ltb, eqb}
-use lib.ListN.{getD}
+use lib.Dec.{T, ltb, eqb}
+use lib.ListN.{length, getD}
 use lib.Pow.{pow-pos}
 use lib.Ieee.{Float}
 use borrow.Author.Tests.{ltb-true, ltb-false, eqb-true, eq-eqb, ne-eqb}
@@ -17,14 +17,16 @@ use Rattle.rules.specs.declared.Direction.{Direction}
 use Rattle.rules.specs.declared.Direction.the-variants.{Toward}
 use Rattle.selecting.specs.Ends.{keyOf}
 use Rattle.bounds.specs.declared.Bounds.{Bounds}
-use Rattle.bounds.specs.Box.{lower-of}
-use Rattle.bounds.specs.Search.{place, least}
+use Rattle.bounds.specs.Box.{union-of, lower-of}
+use Rattle.bounds.specs.Search.{place, least, Bounded}
 use Rattle.bounds.proofs.Search.{place-same, at-leaf, at-node, bounded as bounded-by}
 use Rattle.order.specs.Key.{low-key}
 use Rattle.ends.specs.Ends.{directionAt, pieceAt}
-use Rattle.tree.specs.Places.{gone, none}
+use Rattle.tree.specs.declared.Place.{Place}
+use Rattle.tree.specs.Places.{worth, gone, none}
+use Rattle.tree.proofs.Flat.{same-or}
 use Rattle.index.specs.Nodes.{node-at, Has}
-use Rattle.index.specs.Search.{Built, pointed, settled-at, bound-of, pair-at, leaf-at, Ready}
+use Rattle.index.specs.Search.{Built, pointed, settled-at, bound-of, round-at, pair-at, leaf-at, least-of, Ready}
 use Rattle.index.proofs.Bounding.{under-none, chosen, left-out, sound, first-in, first-le, bound-some, leaf-some, bounded, first-under}
 
 -- ---- room for the nodes
@@ -109,7 +111,11 @@ module _ {w : List ℕ} {d t : ℕ} {ax ay : Float} {h n : ℕ} (r : Ready w d t
         inside = r .inside;
         within = room-left n h (r .nodes) p (r .within);
         built = go h p (r .built);
-        round = r .round;
+        x-finite = r .x-finite;
+        y-finite = r .y-finite;
+        note = r .note;
+        own-round = r .own-round;
+        all-round = r .all-round;
       }
     where
       go : (h : ℕ) → 0 < h → Built N (directionAt w d) d h n → Built N (directionAt w d) d (h - 1) (2 * n)
@@ -124,7 +130,11 @@ module _ {w : List ℕ} {d t : ℕ} {ax ay : Float} {h n : ℕ} (r : Ready w d t
         inside = r .inside;
         within = room-right n h (r .nodes) p (r .within);
         built = go h p (r .built);
-        round = r .round;
+        x-finite = r .x-finite;
+        y-finite = r .y-finite;
+        note = r .note;
+        own-round = r .own-round;
+        all-round = r .all-round;
       }
     where
       go : (h : ℕ) → 0 < h → Built N (directionAt w d) d h n → Built N (directionAt w d) d (h - 1) (2 * n + 1)
@@ -140,13 +150,13 @@ module _ {w : List ℕ} {d t : ℕ} {ax ay : Float} {h n : ℕ} (r : Ready w d t
     abbrev leaf : ℕ → ℕ
     leaf = leaf-at (directionAt w d) (pieceAt w d) ax ay own N
 
-    bound-under : bound-of ax ay (N n) ≤ least leaf h n
+    bound-under : bound-of (round-at w d) ax ay (N n) ≤ least leaf h n
     bound-under =
-        bounded-by (λ m. bound-of ax ay (N m)) leaf h n
-        (bounded N (directionAt w d) d few (pieceAt w d) ax ay own (r .round) h n (r .built))
+        bounded-by (λ m. bound-of (round-at w d) ax ay (N m)) leaf h n
+        (bounded N (directionAt w d) d few (round-at w d) (pieceAt w d) ax ay own (r .x-finite) (r .y-finite) (r .own-round, r .all-round) h n (r .built))
 
     -- the node is passed over
-    pub passed-over : (a b : ℕ) → a ≡ bound-of ax ay (N n) → b ≤ a → b ≡ min b (least leaf h n)
+    pub passed-over : (a b : ℕ) → a ≡ bound-of (round-at w d) ax ay (N n) → b ≤ a → b ≡ min b (least leaf h n)
     passed-over a b e l = omega (arith, bound-under)
 
     -- both children, the left one first or the right one
@@ -157,7 +167,7 @@ module _ {w : List ℕ} {d t : ℕ} {ax ay : Float} {h n : ℕ} (r : Ready w d t
     both-turned a b c p q z = omega (arith, at-node leaf h n p)
 
     -- a bound that is before some place is that of an end
-    module _ (k i l j : ℕ) (ki : i ≤ gone) (lj : (l ≤ gone) × (j ≤ gone)) (e : place k i ≡ bound-of ax ay (N n)) (s : place k i < place l j) where
+    module _ (k i l j : ℕ) (ki : i ≤ gone) (lj : (l ≤ gone) × (j ≤ gone)) (e : place k i ≡ bound-of (round-at w d) ax ay (N n)) (s : place k i < place l j) where
       pub some-end : N n .first ≡ gone → ⊥
       unfolding bound-of
       some-end g = clash (place k i) (place l j) none (e ∙ chosen _ _ _ (eq-eqb (N n .first) gone g)) s (under-none l j (lj .0) (lj .1))
@@ -167,8 +177,8 @@ module _ {w : List ℕ} {d t : ℕ} {ax ay : Float} {h n : ℕ} (r : Ready w d t
 
       pub tie-is : i ≡ N n .first
       tie-is =
-          place-same k i (low-key (lower-of (N n) ax ay)) (N n .first) (omega arith) (omega (arith, first-le N (directionAt w d) d few h n (r .built)))
-          (e ∙ bound-some N (directionAt w d) d few (pieceAt w d) ax ay own (N n) some-end) .1
+          place-same k i (low-key (lower-of (round-at w d) (N n) ax ay)) (N n .first) (omega arith) (omega (arith, first-le N (directionAt w d) d few h n (r .built)))
+          (e ∙ bound-some N (directionAt w d) d few (round-at w d) (pieceAt w d) ax ay own (N n) some-end) .1
 
       pub tie-below : i < d
       tie-below = omega (arith, tie-is, first-below some-end)
@@ -178,7 +188,7 @@ module _ {w : List ℕ} {d t : ℕ} {ax ay : Float} {h n : ℕ} (r : Ready w d t
       leaf-pair z v p =
           p
           ∙ ap pairs tie-is
-          ∙ sym (at-leaf leaf h n z ∙ leaf-some N (directionAt w d) d few (pieceAt w d) ax ay own n some-end)
+          ∙ sym (at-leaf leaf h n z ∙ leaf-some N (directionAt w d) d few (round-at w d) (pieceAt w d) ax ay own n some-end)
 
       -- the pair with the first end is at the bound
       pub at-bound : (v : ℕ) → (v ≡ none) ⊎ (v ≡ pairs i) → v ≡ place k i → v ≡ min (place l j) (least leaf h n)
@@ -187,23 +197,23 @@ module _ {w : List ℕ} {d t : ℕ} {ax ay : Float} {h n : ℕ} (r : Ready w d t
           clash : (a b c v : ℕ) → v ≡ c → v ≡ a → a < b → b ≤ c → ⊥
           clash a b c v p q r s = omega arith
       at-bound v (inr p) q =
-          meet v (place k i) (place l j) (bound-of ax ay (N n)) (pairs (N n .first)) (least leaf h n) q e (p ∙ ap pairs tie-is) bound-under
-          (first-under N (directionAt w d) d few (pieceAt w d) ax ay own h n (r .built) some-end) s
+          meet v (place k i) (place l j) (bound-of (round-at w d) ax ay (N n)) (pairs (N n .first)) (least leaf h n) q e (p ∙ ap pairs tie-is) bound-under
+          (first-under N (directionAt w d) d few (round-at w d) (pieceAt w d) ax ay own h n (r .built) some-end) s
         where
           meet : (v a b c p m : ℕ) → v ≡ a → a ≡ c → v ≡ p → c ≤ m → m ≤ p → a < b → v ≡ min b m
           meet v a b c p m x y z u o s = omega arith
 
 -- ---- what is worked out at a node, and of a pair
 
-module _ (ax ay : Float) (b b′ : Bounds) (e : b ≡ b′) where
-  pub bound-none : (v : ℕ) → b .first ≡ gone → v ≡ none → v ≡ bound-of ax ay b′
+module _ (r : Bool) (ax ay : Float) (b b′ : Bounds) (e : b ≡ b′) where
+  pub bound-none : (v : ℕ) → b .first ≡ gone → v ≡ none → v ≡ bound-of r ax ay b′
   unfolding bound-of
   bound-none v g p = p ∙ sym (chosen _ _ _ (eq-eqb (b′ .first) gone (sym (ap (λ (x : Bounds). x .first) e) ∙ g)))
 
-  pub bound-is : (m : Float) (k : ℕ) → (b .first ≡ gone → ⊥) → m ≡ lower-of b ax ay → k ≡ low-key m → place k (b .first) ≡ bound-of ax ay b′
+  pub bound-is : (m : Float) (k : ℕ) → (b .first ≡ gone → ⊥) → m ≡ lower-of r b ax ay → k ≡ low-key m → place k (b .first) ≡ bound-of r ax ay b′
   unfolding bound-of
   bound-is m k g p q =
-      ap (λ (x : ℕ). place x (b .first)) (q ∙ ap low-key p) ∙ sym (left-out _ _ _ (ne-eqb (b .first) gone g)) ∙ ap (bound-of ax ay) e
+      ap (λ (x : ℕ). place x (b .first)) (q ∙ ap low-key p) ∙ sym (left-out _ _ _ (ne-eqb (b .first) gone g)) ∙ ap (bound-of r ax ay) e
 
 module _ (way : ℕ → Direction) (piece : ℕ → ℕ) (ax ay : Float) (own e : ℕ) where
   pub pair-own : (v : ℕ) → piece e ≡ own → v ≡ none → v ≡ pair-at way piece ax ay own e

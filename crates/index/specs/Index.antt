@@ -1,11 +1,12 @@
 -- The index over the ends of a pairing: which leaf is whose, and what a query gives.
 use Prim.Native.Nat.{ℕ, _+_, _*_, _^_, _≤_, _<_}
 use mathlib.Core.Path.{_≡_}
-use mathlib.Core.Bool.{Bool, false, cond}
+use mathlib.Core.Bool.{Bool, true, false, cond}
 use mathlib.Core.List.{List}
 use lib.ListN.{length}
 use lib.Dec.{T}
 use lib.Ieee.{Float}
+use lib.Ieee.Scale.{finite}
 use Rattle.rules.specs.declared.Direction.{Direction}
 use Rattle.rules.specs.declared.Direction.the-variants.{Absent, Toward}
 use Rattle.rules.specs.Selecting.{End}
@@ -18,6 +19,7 @@ use Rattle.ends.specs.Ends.{Room, endsIn}
 use Rattle.tree.specs.Places.{gone}
 use Rattle.index.specs.declared.Best.{Best}
 use Rattle.index.specs.Nodes.{Indexes}
+use Rattle.index.specs.Search.{round-at}
 
 abbrev pub pairOf : Best → Pair
 pairOf b = record { key = b .key; i = b .i; j = b .j }
@@ -41,9 +43,17 @@ pub record Placed (order pos : ℕ → ℕ) (d base : ℕ) : Type 0 where
 abbrev pub Indexed : List ℕ → ℕ → ℕ → List End → (ℕ → Bool) → (ℕ → ℕ) → Type 0
 Indexed w t base l used order = Indexes w t base (λ p. leaf-of l used (order p))
 
+-- each direction is absent or finite
+abbrev pub Finite : List End → Type 0
+Finite l = (e : ℕ) (x y : Float) → endAt l e .direction ≡ Toward x y → T (finite x) × T (finite y)
+
 -- each direction is absent or in the disk
 abbrev pub Round : List End → Type 0
 Round l = (e : ℕ) (x y : Float) → endAt l e .direction ≡ Toward x y → T (round-way x y)
+
+-- the note behind the index tells the truth
+abbrev pub Noted : List ℕ → ℕ → List End → Type 0
+Noted w d l = round-at w d ≡ true → Round l
 
 -- what a query asks
 pub record Query (w : List ℕ) (d t height limit o : ℕ) : Type 0 where
@@ -51,7 +61,8 @@ pub record Query (w : List ℕ) (d t height limit o : ℕ) : Type 0 where
   pub inside : t + 10 * 2 ^ height ≤ length w
   pub limited : limit < gone
   pub within : o < d
-  pub round-ends : Round (endsIn w d)
+  pub finite-ends : Finite (endsIn w d)
+  pub noted : Noted w d (endsIn w d)
   pub used : ℕ → Bool
   pub order : ℕ → ℕ
   pub pos : ℕ → ℕ

@@ -2,12 +2,13 @@
 -- directions, `piece` their piece numbers.
 use Prim.Native.Nat.{ℕ, zero, suc, _+_, _*_, _^_, _≤_, _<_, min}
 use mathlib.Core.Path.{_≡_}
-use mathlib.Core.Bool.{Bool, cond, _&&_}
+use mathlib.Core.Bool.{Bool, true, cond, _&&_}
 use mathlib.Core.List.{List}
 use mathlib.Core.Logic.{_⊎_}
 use lib.ListN.{length, getD}
 use lib.Dec.{T, eqb}
 use lib.Ieee.{Float}
+use lib.Ieee.Scale.{finite}
 use Rattle.rules.specs.declared.Direction.{Direction}
 use Rattle.rules.specs.declared.Direction.the-variants.{Toward}
 use Rattle.order.specs.Key.{low-key}
@@ -20,14 +21,15 @@ use Rattle.tree.specs.declared.Place.{Place}
 use Rattle.tree.specs.Places.{worth, gone, none}
 use Rattle.index.specs.Nodes.{node-at}
 
--- node n is the box of the direction of an end below d, which is in the disk
+-- node n is the box of the direction of an end below d, which is finite
 pub record Seat (N : ℕ → Bounds) (way : ℕ → Direction) (d n : ℕ) : Type 0 where
   pub x : Float
   pub y : Float
   pub e : ℕ
   pub box : N n ≡ point-of x y e
   pub toward : way e ≡ Toward x y
-  pub round : T (round-way x y)
+  pub x-finite : T (finite x)
+  pub y-finite : T (finite y)
   pub within : e < d
 
 -- a leaf is empty, or an end's; any other node is the union of its two children
@@ -35,10 +37,14 @@ unfoldable pub Built : (ℕ → Bounds) → (ℕ → Direction) → ℕ → ℕ 
 Built N way d zero n = (N n ≡ empty-of) ⊎ Seat N way d n
 Built N way d (suc h) n = (N n ≡ union-of (N (2 * n)) (N (2 * n + 1))) × Built N way d h (2 * n) × Built N way d h (2 * n + 1)
 
--- a box's bound on the pairs with (ax, ay): its low key, and then its first index
-unfoldable pub bound-of : Float → Float → Bounds → ℕ
+-- a box's bound on the pairs with (ax, ay): its low key, and then its first index; r says that all directions are in the disk
+unfoldable pub bound-of : Bool → Float → Float → Bounds → ℕ
 unfolding low-key lower-of
-bound-of ax ay b = cond (eqb (b .first) gone) none (place (low-key (lower-of b ax ay)) (b .first))
+bound-of r ax ay b = cond (eqb (b .first) gone) none (place (low-key (lower-of r b ax ay)) (b .first))
+
+-- that all directions are in the disk is noted behind the index, in a word of its own
+unfoldable pub round-at : List ℕ → ℕ → Bool
+round-at w d = eqb (getD w (d * 42) 0) 1
 
 module _ (way : ℕ → Direction) (piece : ℕ → ℕ) (ax ay : Float) (own : ℕ) where
   -- the place of the pair with end e; none where e is of the piece `own`
@@ -64,14 +70,18 @@ pointed w t n = eqb (getD w (t + 5 * n) 0) (getD w (t + 5 * n + 2) 0) && eqb (ge
 unfoldable pub settled-at : List ℕ → ℕ → ℕ → Float → Float → ℕ → ℕ → ℕ → ℕ
 settled-at w d t ax ay own n e = cond (pointed w t n) (pair-at (directionAt w d) (pieceAt w d) ax ay own e) none
 
--- what the search asks: the tree below n, and a direction in the disk
+-- what the search asks: the tree below n, and a direction that is finite
 pub record Ready (w : List ℕ) (d t : ℕ) (ax ay : Float) (h n : ℕ) : Type 0 where
   pub room : Room w d
   pub nodes : ℕ
   pub inside : t + 5 * nodes ≤ length w
   pub within : (n + 1) * 2 ^ h ≤ nodes
   pub built : Built (node-at w t) (directionAt w d) d h n
-  pub round : T (round-way ax ay)
+  pub x-finite : T (finite ax)
+  pub y-finite : T (finite ay)
+  pub note : d * 42 < length w
+  pub own-round : round-at w d ≡ true → T (round-way ax ay)
+  pub all-round : round-at w d ≡ true → (e : ℕ) (x y : Float) → e < d → directionAt w d e ≡ Toward x y → T (round-way x y)
 
 -- and what it finds: the first of the best so far and of all pairs below n
 abbrev pub Finds : List ℕ → ℕ → ℕ → Float → Float → ℕ → ℕ → ℕ → Place → Place → Type 0

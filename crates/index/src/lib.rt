@@ -9,11 +9,14 @@ ghost use Rattle.bounds.specs.Box.{Sound};
 ghost use Rattle.tree.specs.Places.{worth, gone};
 ghost use Rattle.ends.specs.Ends.{Room, directionAt, pieceAt};
 ghost use Rattle.index.specs.Nodes.{node-at, Has, Children, Puts, Renews, Leaves, Joins, Whole, Removes};
-ghost use Rattle.index.specs.Search.{pointed, settled-at, bound-of, pair-at, Ready, Finds};
+ghost use Rattle.index.specs.Search.{pointed, settled-at, bound-of, round-at, pair-at, Ready, Finds};
 ghost use Rattle.index.specs.Index.{Query, Answers};
 
 // The index of no end.
 const GONE: u64 = 18446744073709551615;
+
+// Where it is noted that all directions are in the disk, counted in ends: behind the index.
+const NOTE: usize = 42;
 
 // A pair of ends with its key; none where j is 0.
 pub struct Best {
@@ -86,17 +89,18 @@ pub fn remove(w: &mut [u64], t: usize, base: usize, p: usize)
 }
 
 // At or before the pair of (ax, ay) with each end below node n; the place after all others where there is none.
-fn reach(w: &[u64], t: usize, n: usize, ax: f64, ay: f64) -> Place
-    requires { ⌜ Has (now w) t n ⌝ }
-    ensures { λ r. ⌜ worth r ≡ bound-of ax ay (node-at (now (w .entry)) t n) ⌝ }
+fn reach(w: &[u64], d: usize, t: usize, n: usize, ax: f64, ay: f64) -> Place
+    requires { ⌜ Has (now w) t n × (d * 42 < length (now w)) ⌝ }
+    ensures { λ r. ⌜ worth r ≡ bound-of (round-at (now (w .entry)) d) ax ay (node-at (now (w .entry)) t n) ⌝ }
 {
     let b = node(w, t, n);
     let first = b.first;
     if first == GONE {
         return Place::none();
     }
+    let round = w[d * NOTE] == 1;
     Place {
-        key: order::low_key(b.lower_measure(ax, ay)),
+        key: order::low_key(b.lower_measure(round, ax, ay)),
         tie: first,
     }
 }
@@ -152,7 +156,7 @@ fn search(
     at: Place,
     best: Place,
 ) -> Place
-    requires { ⌜ Ready (now w) d t ax ay height n × (worth at ≡ bound-of ax ay (node-at (now w) t n)) × (worth at < worth best) ⌝ }
+    requires { ⌜ Ready (now w) d t ax ay height n × (worth at ≡ bound-of (round-at (now w) d) ax ay (node-at (now w) t n)) × (worth at < worth best) ⌝ }
     ensures { λ r. ⌜ Finds (now (w .entry)) d t ax ay own height n best r ⌝ }
 {
     if height == 0 {
@@ -165,8 +169,8 @@ fn search(
     let l = 2 * n;
     let r = l + 1;
     let down = height - 1;
-    let left = reach(w, t, l, ax, ay);
-    let right = reach(w, t, r, ax, ay);
+    let left = reach(w, d, t, l, ax, ay);
+    let right = reach(w, d, t, r, ax, ay);
     if tree::sooner(right, left) {
         let one = visit(w, d, t, ax, ay, own, r, down, right, best);
         return visit(w, d, t, ax, ay, own, l, down, left, one);
@@ -188,7 +192,7 @@ fn visit(
     at: Place,
     best: Place,
 ) -> Place
-    requires { ⌜ Ready (now w) d t ax ay height n × (worth at ≡ bound-of ax ay (node-at (now w) t n)) ⌝ }
+    requires { ⌜ Ready (now w) d t ax ay height n × (worth at ≡ bound-of (round-at (now w) d) ax ay (node-at (now w) t n)) ⌝ }
     ensures { λ r. ⌜ Finds (now (w .entry)) d t ax ay own height n best r ⌝ }
 {
     if tree::sooner(at, best) {
@@ -211,7 +215,7 @@ fn partner(
     requires { ⌜ Ready (now w) d t ax ay height 1 ⌝ }
     ensures { λ r. ⌜ Finds (now (w .entry)) d t ax ay own height 1 (record { key = limit; tie = gone }) r ⌝ }
 {
-    let at = reach(w, t, 1, ax, ay);
+    let at = reach(w, d, t, 1, ax, ay);
     let best = Place {
         key: limit,
         tie: GONE,

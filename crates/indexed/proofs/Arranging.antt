@@ -15,6 +15,7 @@ use Rattle.sorting.specs.Runs.{Permuted}
 use Rattle.sorting.proofs.Tables.{Ordered, sorted-permuted, ordered-tables}
 use Rattle.ends.specs.Ends.{Room, endsIn}
 use Rattle.tree.specs.Words.{Changes}
+use Rattle.tree.proofs.Words.{changes-then, changes-wider}
 use Rattle.owners.specs.Tables.{order-at, position-at, group-at, cursor-at, slot-at, Sorted, Runs, Started, Groups}
 use Rattle.owners.proofs.Turns.{room-kept, ends-kept, sorted-kept}
 use Rattle.indexed.specs.Start.{Arranged}

@@ -1,12 +1,13 @@
 -- How the route begins: what is asked is asked again where words behind the ends are written, and so each step finds what it asks.
 use Prim.Native.Nat.{ℕ, _+_, _-_, _*_, _^_, _≤_, _<_}
-use mathlib.Core.Path.{_≡_, sym, _∙_, ap, subst}
-use mathlib.Core.List.{List}
-use mathlib.Core.Bool.{Bool, true, false, cond}
+use mathlib.Core.Path.{_≡_, refl, sym, _∙_, ap, subst}
+use mathlib.Core.List.{List, [], _∷_}
+use mathlib.Core.Bool.{Bool, true, false, cond, false≢true}
 use native.Mathlib.Omega.{arith}
-use lib.Dec.{ltb}
-use lib.ListN.{length, replicate}
-use lib.Seq.{slice}
+use lib.Dec.{ltb, eqb}
+use lib.ListN.{length, getD, set, take, drop, replicate}
+use lib.Seq.{slice, getD-set-same}
+use mir.Val.{boolByte}
 use Rattle.rules.specs.Selecting.{End}
 use Rattle.selecting.specs.Ends.{endAt, nodeOf}
 use Rattle.selecting.specs.Owners.{AtMostTwice}
@@ -16,23 +17,25 @@ use Rattle.slices.specs.Holds.{HoldsFrom}
 use Rattle.slices.proofs.Laws.{from-length, from-part, from-below, from-beyond}
 use Rattle.ends.specs.Ends.{Room, Selected, directionAt, endsIn}
 use Rattle.tree.specs.Words.{Changes}
-use Rattle.tree.proofs.Words.{changes-then, changes-wider}
+use Rattle.tree.proofs.Words.{changes-then, changes-wider, changes-set}
 use Rattle.tree.proofs.Flat.{kept-same}
 use Rattle.bounds.specs.Box.{union-of, Sound}
 use Rattle.index.specs.Nodes as index
-use Rattle.around.specs.Around.{Every, around-of, beyond-of}
-use Rattle.around.proofs.Nothing.{round-tame, apart-none}
-use Rattle.index.specs.Index.{leaf-of, Indexed, Round}
+use Rattle.around.specs.Around.{Every, round-of, around-of, beyond-of}
+use Rattle.around.proofs.Nothing.{finite-tame, all-round, apart-none}
+use Rattle.index.specs.Search.{round-at}
+use Rattle.index.specs.Index.{leaf-of, Indexed, Finite, Noted}
 use Rattle.heap.specs.Heap.{node-at}
 use Rattle.owners.specs.Tables.{order-at}
 use Rattle.owners.proofs.Seats.{seated}
 use Rattle.owners.proofs.Turns.{room-kept, take-kept, ends-kept}
 use Rattle.indexed.specs.declared.Size.{Size}
-use Rattle.indexed.specs.Route.{marks-in}
-use Rattle.indexed.specs.Start.{Asks, Fits, Arranged, Plants, Planted, Clears, Cleared, Begins, Fills}
+use Rattle.indexed.specs.Route.{Sized, marks-in, Ready}
+use Rattle.indexed.specs.Start.{Asks, Notes, Fits, Arranged, Plants, Planted, Clears, Cleared, Begins, Fills}
 use Rattle.indexed.proofs.Sizes.{sized}
 use Rattle.indexed.proofs.Parts.{same-below, same-beyond, drop-kept, marks-kept, indexes-kept}
 use Rattle.indexed.proofs.Arranging.{arranged-kept}
+use Rattle.indexed.proofs.Keeping.{note-kept}
 
 asks-kept : {w w′ : List ℕ} {d limit a b : ℕ} → Changes w w′ a b → d * 4 ≤ a → Asks w d limit → Asks w′ d limit
 asks-kept {w} {w′} {d} c h x =
@@ -40,14 +43,20 @@ asks-kept {w} {w′} {d} c h x =
     record {
       room = room-kept c (x .room);
       limited = x .limited;
-      round-ends = subst (λ (l : List End). Round l) e (x .round-ends);
+      finite-ends = subst (λ (l : List End). Finite l) e (x .finite-ends);
       twice = subst (λ (l : List End). AtMostTwice (λ i. endAt l i .piece) d) e (x .twice);
     }
 
-begins-kept : {w w′ : List ℕ} {d height slots limit a b : ℕ} → Changes w w′ a b → d * 14 ≤ a → Begins w d height slots limit → Begins w′ d height slots limit
-begins-kept {w} {w′} {d} c h x =
+-- the note, and the ends that it speaks of
+noted-kept : {w w′ : List ℕ} {d a b : ℕ} → Changes w w′ a b → d * 4 ≤ a → b ≤ d * 42 → Room w d → Noted w d (endsIn w d) → Noted w′ d (endsIn w′ d)
+noted-kept {w} {w′} {d} c h k r n =
+    subst (λ (l : List End). Noted w′ d l) (sym (ends-kept c h r)) (note-kept w w′ d (endsIn w d) (c .beyond (d * 42) k) n)
+
+begins-kept : {w w′ : List ℕ} {d height slots limit a b : ℕ} → Changes w w′ a b → d * 14 ≤ a → b ≤ d * 42 → Begins w d height slots limit → Begins w′ d height slots limit
+begins-kept {w} {w′} {d} c h k x =
     record {
       asks = asks-kept c (omega arith) (x .asks);
+      noted = noted-kept c (omega arith) k (x .asks .room) (x .noted);
       m = x .m;
       arranged = arranged-kept c h (x .arranged);
       fits = x .fits;
@@ -62,7 +71,7 @@ module _ {w : List ℕ} {d base height slots limit : ℕ} (e : base ≡ 2 ^ heig
   begins-plants =
       record {
         sorted = x .arranged .sorted;
-        round-ends = x .asks .round-ends;
+        finite-ends = x .asks .finite-ends;
         some = omega (arith, x .sized .few, x .sized .some, x .sized .narrow);
         most = omega (arith, x .sized .most);
       }
@@ -79,7 +88,7 @@ module _ {w : List ℕ} {d base height slots limit : ℕ} (e : base ≡ 2 ^ heig
       pub begins-fills : Fills w₂ d height slots limit
       begins-fills =
           record {
-            begins = begins-kept both (omega arith) x;
+            begins = begins-kept both (omega arith) (omega arith) x;
             indexed =
                 subst (λ (b : ℕ). Indexed w₂ (d * 22) b (endsIn w₂ d) nobody (seated (order-at w₂ d) d)) e
                 (subst (λ (l : List End). Indexed w₂ (d * 22) base l nobody (seated (order-at w₂ d) d)) (sym (ends-kept both (omega arith) (x .asks .room)))
@@ -102,7 +111,7 @@ module _ {w : List ℕ} {d base height slots limit : ℕ} (e : base ≡ 2 ^ heig
 -- each direction is beyond the box around all of them: no pair
 pub none-selected : {w : List ℕ} {d limit : ℕ} {r : Bool} → Asks w d limit → Every (λ e. beyond-of (around-of (directionAt w d) d) limit (directionAt w d e)) d r → r ≡ true
     → Selected w d limit 0 w
-none-selected {w} {d} {limit} x s told = apart-none (x .room) limit (round-tame (x .room) (x .round-ends)) (s .yes told)
+none-selected {w} {d} {limit} x s told = apart-none (x .room) limit (finite-tame (x .room) (x .finite-ends)) (s .yes told)
 
 -- one is not: there is an end
 pub some-end : {p : ℕ → Bool} {d : ℕ} {r : Bool} → Every p d r → r ≡ false → d ≡ 0 → ⊥
@@ -119,7 +128,40 @@ selected-from {w} {w₁} {d} {limit} {r} {w₂} x c s =
       beyond = s .beyond ∙ drop-kept w w₁ (d * 64) (c .long) (c .beyond);
     }
 
-module _ {w w₁ : List ℕ} {d limit : ℕ} (x : Asks w d limit) (some : d ≡ 0 → ⊥) (f : HoldsFrom w₁ w (d * 5) d (replicate d 0)) where
+-- the note says what the scan has found
+pub notes : {w : List ℕ} {d : ℕ} {r : Bool} → Room w d → (d ≡ 0 → ⊥) → Every (λ e. round-of (directionAt w d e)) d r → Notes w (set w (d * 42) (boolByte r)) d
+unfolding round-at
+notes {w} {d} {r} room some s =
+    record {
+      noted = λ h. all-round room (s .yes (told r h));
+      kept = changes-set w (d * 42) (boolByte r) (d * 42) (d * 43) (omega arith) (wider d some);
+    }
+  where
+    wider : (k : ℕ) → (k ≡ 0 → ⊥) → k * 42 < k * 43
+    wider k h = omega arith
+
+    inside : d * 42 < length w
+    inside = omega (arith, wider d some, room .long)
+
+    told : (t : Bool) → eqb (getD (set w (d * 42) (boolByte t)) (d * 42) 0) 1 ≡ true → t ≡ true
+    told true h = refl
+    told false h = absurd (false≢true (sym (ap (λ (x : ℕ). eqb x 1) (getD-set-same w (d * 42) 0 0 inside)) ∙ h))
+
+-- after the note
+module _ {w₀ w : List ℕ} {d limit : ℕ} (x₀ : Asks w₀ d limit) (n : Notes w₀ w d) where
+  pub noted-asks : Asks w d limit
+  noted-asks = asks-kept (n .kept) (omega arith) x₀
+
+  pub noted-room : Room w d
+  noted-room = room-kept (n .kept) (x₀ .room)
+
+  pub noted-here : Noted w d (endsIn w d)
+  noted-here = subst (λ (l : List End). Noted w d l) (sym (ends-kept (n .kept) (omega arith) (x₀ .room))) (n .noted)
+
+  pub noted-selected : {w′ : List ℕ} {r : ℕ} → Selected w d limit r w′ → Selected w₀ d limit r w′
+  noted-selected s = selected-from (x₀ .room) (changes-wider (d * 4) (d * 64) (omega arith) (omega arith) (n .kept)) s
+
+module _ {w w₁ : List ℕ} {d limit : ℕ} (x : Asks w d limit) (n : Noted w d (endsIn w d)) (some : d ≡ 0 → ⊥) (f : HoldsFrom w₁ w (d * 5) d (replicate d 0)) where
   inside : d * 5 + d ≤ length w
   inside = omega (arith, x .room .long)
 
@@ -143,6 +185,7 @@ module _ {w w₁ : List ℕ} {d limit : ℕ} (x : Asks w d limit) (some : d ≡ 
     begins {a} {b} p q =
         record {
           asks = asks-kept arranged (omega arith) x;
+          noted = noted-kept arranged (omega arith) (omega arith) (x .room) n;
           m = m;
           arranged = z;
           fits = q .few;

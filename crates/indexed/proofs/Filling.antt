@@ -1,28 +1,33 @@
 -- What the route keeps where a slot gets its pair, and where a taken end hands its slot on. In between the pair of that slot is still to come, and all else is said
 -- as before; so it is the same whether the slot is its owner's still, or another end's, or nobody's.
-use Prim.Native.Nat.{ℕ, _+_, _-_, _*_, _^_, _<_}
+use Prim.Native.Nat.{ℕ, _+_, _-_, _*_, _^_, _≤_, _<_}
 use mathlib.Core.Path.{_≡_, refl, sym, _∙_, ap, subst}
-use mathlib.Core.Bool.{Bool, false}
+use mathlib.Core.Bool.{Bool, true, false}
 use mathlib.Core.List.{List}
-use mathlib.Core.Logic.{_⊎_, ⊎-elim}
+use mathlib.Core.Logic.{_⊎_, inl, inr, ⊎-elim}
 use native.Mathlib.Omega.{arith}
+use lib.ListN.{length, getD, set}
+use lib.Seq.{getD-set-same, getD-set-other}
 use Rattle.rules.specs.Selecting.{End}
 use Rattle.selecting.specs.Ranked.{Pair}
 use Rattle.selecting.specs.Ends.{nodeOf}
 use Rattle.selecting.specs.Taking.{usedOf}
+use Rattle.selecting.proofs.Order.{two, tf}
 use Rattle.tree.specs.Flat.{changed}
 use Rattle.tree.specs.Places.{none}
 use Rattle.tree.specs.Words.{Changes}
 use Rattle.tree.proofs.Flat.{same-or}
+use Rattle.tree.proofs.Words.{changes-set, changes-then}
 use Rattle.index.specs.Index.{pairOf, leaf-of, Indexed}
 use Rattle.heap.specs.Heap.{coded, Sets}
 use Rattle.heap.proofs.Top.{coded-none}
-use Rattle.owners.specs.Owners.{Owners}
-use Rattle.owners.proofs.Next.{same-at, same-past}
+use Rattle.owners.specs.Tables.{mark-at, order-at, group-at, cursor-at, slot-at, Due}
+use Rattle.owners.specs.Owners.{Owners, without}
+use Rattle.owners.proofs.Next.{same-at, same-past, without-not, is-without, no-slot, no-next, next}
 use Rattle.owners.proofs.Seats.{seated}
-use Rattle.indexed.specs.Route.{marks-in, taken-in, Bound, Filled, Owning, Refreshed}
-use Rattle.indexed.proofs.Parts.{same-below, same-beyond, marks-kept, indexes-kept, heaped-set}
-use Rattle.indexed.proofs.Keeping.{bound-of, ground-kept, moving-kept, heap-in, slot-here, answered}
+use Rattle.indexed.specs.Route.{marks-in, taken-in, Moving, Bound, Ground, Filled, Heaped, Owning, Refreshed}
+use Rattle.indexed.proofs.Parts.{Same, same-below, same-beyond, marks-kept, is-taken, is-free, indexes-kept, heaped-kept, heaped-set}
+use Rattle.indexed.proofs.Keeping.{bound-of, ground-kept, moving-kept, there-in, heap-in, slot-here, answered}
 
 -- ---- a slot gets its pair
 
@@ -75,7 +80,7 @@ module _ {l : List End} {w : List ℕ} {d height slots limit : ℕ} {past : ℕ 
           P = P′;
           ground =
               ground-kept (s .ground) w′ (c .kept .long) (same-below (c .kept) 0 (d * 4) (omega arith)) (same-below (c .kept) (d * 6) (d * 8) (omega arith))
-              (same-below (c .kept) (d * 11) (d * 12) (omega arith));
+              (same-below (c .kept) (d * 11) (d * 12) (omega arith)) (c .kept .beyond (d * 42) (omega (arith, heap-in s)));
           moving = moving-kept (s .moving) (same-below (c .kept) (d * 12) (d * 14) (omega arith));
           owners = subst (λ (m : List ℕ). Owners l d (s .order) (s .pos) (s .group) (s .cursor) (s .slot) (s .owner) (usedOf m) past) (sym marks-same) (s .owners);
           filled = subst (λ (m : List ℕ). Filled (nodeOf l) d slots limit (usedOf m) past (s .slot) (s .owner) P′ slots) (sym marks-same) filled;

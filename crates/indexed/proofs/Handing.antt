@@ -9,6 +9,7 @@ use native.Mathlib.Omega.{arith}
 use lib.ListN.{length, getD, set, length-set}
 use lib.Seq.{getD-set-same, getD-set-other}
 use Rattle.rules.specs.Selecting.{End}
+use Rattle.selecting.specs.Ranked.{Pair}
 use Rattle.selecting.specs.Ends.{nodeOf}
 use Rattle.selecting.specs.Taking.{usedOf}
 use Rattle.selecting.proofs.Order.{two, tf}
@@ -19,12 +20,12 @@ use Rattle.tree.proofs.Flat.{same-or, below-or}
 use Rattle.tree.proofs.Words.{changes-none, changes-set, changes-then, changes-wider}
 use Rattle.index.specs.Index.{leaf-of, Indexed}
 use Rattle.heap.specs.Heap.{coded, Sets}
-use Rattle.owners.specs.Tables.{mark-at, order-at, position-at, group-at, cursor-at, slot-at, Sorted, Due}
+use Rattle.owners.specs.Tables.{mark-at, order-at, position-at, group-at, cursor-at, slot-at, Ordered, Sorted, Due}
 use Rattle.owners.specs.Owners.{Owners, without}
 use Rattle.owners.proofs.Next.{same-at, same-past, without-not, is-without, no-slot, no-next, next}
 use Rattle.owners.proofs.Seats.{seated}
-use Rattle.indexed.specs.Route.{marks-in, taken-in, Moving, Bound, Ground, Filled, Owning, Stale, Refreshed, Replaces, Replaced}
-use Rattle.indexed.proofs.Parts.{same-below, same-beyond, marks-kept, is-taken, is-free, indexes-kept, heaped-kept}
+use Rattle.indexed.specs.Route.{marks-in, taken-in, Moving, Bound, Ground, Filled, Heaped, Owning, Stale, Refreshed, Replaces, Replaced}
+use Rattle.indexed.proofs.Parts.{Same, same-below, same-beyond, marks-kept, is-taken, is-free, indexes-kept, heaped-kept}
 use Rattle.indexed.proofs.Keeping.{ground-kept, there-in, heap-in, slot-here, slots-apart, query, heap-whole}
 use Rattle.indexed.proofs.Filling.{owning-cleared, owning-refreshed, sets-changes}
 
@@ -254,7 +255,7 @@ module _ {l : List End} {w : List ℕ} {d height slots limit : ℕ} {past : ℕ 
             P = s .P;
             ground =
                 ground-kept (s .ground) w₂ (two-words .long) (same-below two-words 0 (d * 4) (omega arith)) (same-below two-words (d * 6) (d * 8) (omega arith))
-                (same-below two-words (d * 11) (d * 12) (omega arith));
+                (same-below two-words (d * 11) (d * 12) (omega arith)) (two-words .beyond (d * 42) (omega arith));
             moving = moving;
             owners =
                 subst (λ (m : List ℕ). Owners l d (s .order) (s .pos) (s .group) (changed (s .cursor) (s .group x) (stop + 1)) slot′ (changed (s .owner) (s .slot x) o) (usedOf m) past′)

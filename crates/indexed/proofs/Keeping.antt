@@ -1,22 +1,26 @@
 -- What the route keeps where a pair is written, and where an end is marked and leaves the index. Each step writes one part of the workspace, so that what is
 -- said of the others stays; and more ends taken leave a bound a bound.
 use Prim.Native.Nat.{ℕ, _+_, _-_, _*_, _^_, _≤_, _<_}
-use mathlib.Core.Path.{_≡_, sym, _∙_, ap, subst}
+use mathlib.Core.Path.{_≡_, refl, sym, _∙_, ap, subst}
 use mathlib.Core.Bool.{Bool, true, false, cond, _||_}
 use mathlib.Core.List.{List}
 use mathlib.Core.Logic.{_⊎_, inl, inr, ⊎-elim}
 use native.Mathlib.Omega.{arith}
-use lib.ListN.{length, set}
+use lib.Dec.{eqb}
+use lib.ListN.{length, getD, set, length-set}
 use lib.Seq.{getD-set-same, getD-set-other}
+use borrow.Author.Tests.{eq-eqb, ne-eqb}
 use Rattle.rules.specs.Selecting.{End}
+use Rattle.bounds.specs.declared.Bounds.{Bounds}
 use Rattle.bounds.specs.Box.{empty-of, union-of, Sound}
-use Rattle.selecting.specs.Ranked.{Pair, Node, busy}
+use Rattle.selecting.specs.Ranked.{Pair, Node, candidates, busy}
+use Rattle.selecting.specs.Sets.{In}
 use Rattle.selecting.specs.Ends.{endAt, nodeOf}
 use Rattle.selecting.specs.Taking.{usedOf}
 use Rattle.selecting.proofs.Greedy.{or-false-left, or-false-right}
 use Rattle.selecting.proofs.Order.{two, tf}
 use Rattle.selecting.proofs.Owners.{There}
-use Rattle.ends.specs.Ends.{endsIn}
+use Rattle.ends.specs.Ends.{Room, endsIn}
 use Rattle.tree.specs.Flat.{changed, own}
 use Rattle.tree.specs.Words.{Changes}
 use Rattle.tree.proofs.Flat.{same-or, below-or, kept-same}
@@ -24,15 +28,17 @@ use Rattle.tree.proofs.Words.{changes-set}
 use Rattle.index.specs.declared.Best.{Best}
 use Rattle.index.specs.Nodes.{node-at, Indexes, Removes}
 use Rattle.index.specs.Nodes as index
-use Rattle.index.specs.Index.{pairOf, box-of, leaf-of, Placed, Indexed, Round, Query, FirstPair, Answers}
+use Rattle.index.specs.Search.{round-at}
+use Rattle.index.specs.Index.{pairOf, box-of, leaf-of, Placed, Indexed, Finite, Noted, Query, FirstPair, Answers}
 use Rattle.index.proofs.Leaves.{there-below}
+use Rattle.heap.specs.Heap.{coded, Heaps, Sets}
 use Rattle.heap.specs.Heap as heap
-use Rattle.owners.specs.Tables.{position-at, slot-at}
+use Rattle.owners.specs.Tables.{order-at, position-at, group-at, cursor-at, slot-at, Ordered}
 use Rattle.owners.specs.Owners.{Owners}
 use Rattle.owners.proofs.Next.{more-used, same-at, same-past}
 use Rattle.owners.proofs.Seats.{seated, seated-in, seated-out, placed}
 use Rattle.owners.proofs.Turns.{room-kept}
-use Rattle.indexed.specs.Route.{marks-in, taken-in, Moving, Bound, Ground, Filled, Owning, marked}
+use Rattle.indexed.specs.Route.{Sized, marks-in, taken-in, Fixed, Moving, Bound, Ground, Filled, Owning, Refreshed, marked}
 use Rattle.indexed.proofs.Parts.{Same, same-below, same-beyond, slice-set, marks-kept, marks-length, indexes-kept, heaped-kept, indexes-own, ends-same}
 
 -- ---- bounds
@@ -67,15 +73,22 @@ filled-more f k = record { held = λ e a b c. (let t = k .held e a b c in (t .0,
 
 -- ---- the ground
 
+-- a note that stays is as true as before
+pub note-kept : (w w′ : List ℕ) (d : ℕ) (l : List End) → getD w′ (d * 42) 0 ≡ getD w (d * 42) 0 → Noted w d l → Noted w′ d l
+unfolding round-at
+note-kept w w′ d l n t h = t (sym (ap (λ (x : ℕ). eqb x 1) n) ∙ h)
+
 pub ground-kept : {l : List End} {w : List ℕ} {d height slots limit : ℕ} {order pos group : ℕ → ℕ} → Ground l w d height slots limit order pos group
-    → (w′ : List ℕ) → length w′ ≡ length w → Same w w′ 0 (d * 4) → Same w w′ (d * 6) (d * 8) → Same w w′ (d * 11) (d * 12) → Ground l w′ d height slots limit order pos group
-ground-kept {l} {w} {d} g w′ long a b c =
+    → (w′ : List ℕ) → length w′ ≡ length w → Same w w′ 0 (d * 4) → Same w w′ (d * 6) (d * 8) → Same w w′ (d * 11) (d * 12)
+    → getD w′ (d * 42) 0 ≡ getD w (d * 42) 0 → Ground l w′ d height slots limit order pos group
+ground-kept {l} {w} {d} g w′ long a b c n =
     record {
       room = record { few = g .room .few; long = omega (arith, g .room .long) };
       ends = ends-same w w′ d (g .room) long a ∙ g .ends;
       sized = g .sized;
       limited = g .limited;
-      round-ends = g .round-ends;
+      finite-ends = g .finite-ends;
+      noted = note-kept w w′ d l n (g .noted);
       twice = g .twice;
       fixed =
           record {
@@ -116,7 +129,8 @@ module _ {l : List End} {w : List ℕ} {d height slots limit : ℕ} {order pos g
         inside = omega (arith, g .sized .most, g .room .long);
         limited = g .limited;
         within = h;
-        round-ends = subst (λ (z : List End). Round z) (sym (g .ends)) (g .round-ends);
+        finite-ends = subst (λ (z : List End). Finite z) (sym (g .ends)) (g .finite-ends);
+        noted = subst (λ (z : List End). Noted w d z) (sym (g .ends)) (g .noted);
         used = taken-in w d;
         order = seated order d;
         pos = pos;
@@ -176,7 +190,7 @@ module _ {l : List End} {w : List ℕ} {d height slots limit : ℕ} {past : ℕ 
         P = s .P;
         ground =
             ground-kept (s .ground) w′ (c .long) (same-below c 0 (d * 4) (omega arith)) (same-beyond c (d * 6) (d * 8) (omega arith))
-            (same-beyond c (d * 11) (d * 12) (omega arith));
+            (same-beyond c (d * 11) (d * 12) (omega arith)) (c .beyond (d * 42) (omega arith));
         moving = moving-kept (s .moving) (same-beyond c (d * 12) (d * 14) (omega arith));
         owners = subst (λ (m : List ℕ). Owners l d (s .order) (s .pos) (s .group) (s .cursor) (s .slot) (s .owner) (usedOf m) past) (sym marks) (s .owners);
         filled = subst (λ (m : List ℕ). Filled (nodeOf l) d slots limit (usedOf m) past (s .slot) (s .owner) (s .P) but) (sym marks) (s .filled);
@@ -266,7 +280,7 @@ module _ {l : List End} {w : List ℕ} {d height slots limit : ℕ} {past : ℕ 
           P = s .P;
           ground =
               ground-kept (s .ground) w′ whole-long (same-all 0 (d * 4) (inl (omega arith))) (same-all (d * 6) (d * 8) (inr (omega arith, omega arith)))
-              (same-all (d * 11) (d * 12) (inr (omega arith, omega arith)));
+              (same-all (d * 11) (d * 12) (inr (omega arith, omega arith))) (r .kept .beyond (d * 42) (omega (arith, index-in)) ∙ mark .beyond (d * 42) (omega arith));
           moving = moving-kept (s .moving) (same-all (d * 12) (d * 14) (inr (omega arith, omega arith)));
           owners =
               subst (λ (m : List ℕ). Owners l d (s .order) (s .pos) (s .group) (s .cursor) (s .slot) (s .owner) (usedOf m) past) (sym marks-retired)

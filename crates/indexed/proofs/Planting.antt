@@ -1,18 +1,17 @@
 -- The leaves of the index and of the heap, written one after another: of an end with a direction its point, and for each slot no pair.
 use Prim.Native.Nat.{ℕ, _+_, _*_, _≤_, _<_}
 use mathlib.Core.Path.{_≡_, refl, sym, _∙_, ap, subst}
-use mathlib.Core.Bool.{true, false, cond}
+use mathlib.Core.Bool.{Bool, true, false, cond}
 use mathlib.Core.List.{List}
-use mathlib.Core.Logic.{_⊎_, ⊎-elim}
+use mathlib.Core.Logic.{_⊎_, inl, inr, ⊎-elim}
 use native.Mathlib.Omega.{arith}
 use lib.Dec.{ltb}
-use lib.ListN.{length}
+use lib.ListN.{length, getD}
 use Rattle.rules.specs.declared.Direction.{Direction}
 use Rattle.rules.specs.declared.Direction.the-variants.{Absent, Toward}
 use Rattle.rules.specs.Selecting.{End}
 use Rattle.bounds.specs.declared.Bounds.{Bounds}
 use Rattle.bounds.specs.Box.{empty-of, union-of, Sound}
-use Rattle.bounds.proofs.Round.{round-finite}
 use Rattle.bounds.proofs.Union.{empty-sound, point-sound}
 use Rattle.selecting.specs.Ends.{endAt, there}
 use Rattle.selecting.specs.Ranked.{none as nobody}
@@ -21,15 +20,15 @@ use Rattle.ends.specs.Ends.{Room, directionAt, endsIn}
 use Rattle.tree.specs.Flat.{own}
 use Rattle.tree.specs.Places.{none}
 use Rattle.tree.specs.Words.{Changes}
-use Rattle.tree.proofs.Flat.{same-or, kept-same}
+use Rattle.tree.proofs.Flat.{same-or, below-or, kept-same}
 use Rattle.tree.proofs.Words.{changes-none, changes-then, changes-wider}
 use Rattle.index.specs.Nodes.{node-at, Puts, Leaves, Joins}
-use Rattle.index.specs.Index.{box-of, leaf-of, Round}
+use Rattle.index.specs.Index.{box-of, leaf-of, Finite}
 use Rattle.index.proofs.Leaves.{direction-is, there-below}
 use Rattle.heap.specs.Heap as heap
 use Rattle.owners.specs.Tables.{order-at, Sorted}
 use Rattle.owners.proofs.Seats.{seated, seated-in, seated-out}
-use Rattle.owners.proofs.Turns.{ends-kept, sorted-kept}
+use Rattle.owners.proofs.Turns.{room-kept, ends-kept, sorted-kept}
 use Rattle.indexed.specs.Start.{Plants, Planted, Clears, Cleared}
 
 -- ---- one leaf
@@ -58,12 +57,12 @@ module _ {w : List ℕ} {d : ℕ} (room : Room w d) (order : ℕ → ℕ) (p : �
       ap (λ (b : Direction). box-of b (order p)) (e ∙ sym (direction-is room (order p) k))
       ∙ sym (ap (leaf-of (endsIn w d) nobody) (seated-in order d p h) ∙ leaf-box (endsIn w d) (order p))
 
-leaf-sound : (l : List End) → Round l → (e : ℕ) → Sound (leaf-of l nobody e)
+leaf-sound : (l : List End) → Finite l → (e : ℕ) → Sound (leaf-of l nobody e)
 leaf-sound l f e = subst (λ (b : Bounds). Sound b) (sym (leaf-box l e)) (go (endAt l e .direction) refl)
   where
     go : (a : Direction) → endAt l e .direction ≡ a → Sound (box-of a e)
     go Absent q = empty-sound
-    go (Toward x y) q = let t = round-finite x y (f e x y q) in point-sound x y e (t .0) (t .1)
+    go (Toward x y) q = let t = f e x y q in point-sound x y e (t .0) (t .1)
 
 -- ---- the leaves of the index
 
@@ -89,7 +88,7 @@ module _ {w₀ w : List ℕ} {d base p : ℕ} (z : Plants w₀ d base) (s : Plan
         ∙ ap (λ (k : ℕ). leaf-of (endsIn w₀ d) nobody (cond (ltb p d) k d)) (s .kept .below (d * 6 + p) (omega (arith, z .most)))
 
     pub planting-sound : Sound b
-    planting-sound = subst (λ (y : Bounds). Sound y) (sym here) (leaf-sound (endsIn w₀ d) (z .round-ends) (seated (order-at w₀ d) d p))
+    planting-sound = subst (λ (y : Bounds). Sound y) (sym here) (leaf-sound (endsIn w₀ d) (z .finite-ends) (seated (order-at w₀ d) d p))
 
     pub planting-next : {w′ : List ℕ} → Puts w w′ (d * 22) (base + p) b → Planting w₀ w′ d base (p + 1)
     planting-next {w′} k =
@@ -114,7 +113,7 @@ module _ {w₀ w : List ℕ} {d base p : ℕ} (z : Plants w₀ d base) (s : Plan
     planting-leaves =
         record {
           wide = record { some = z .some; inside = omega (arith, planting-room .0, planting-room .1) };
-          sound = λ x i. subst (λ (y : Bounds). Sound y) (sym (s .done x (omega arith))) (leaf-sound (endsIn w₀ d) (z .round-ends) (seated (order-at w₀ d) d x));
+          sound = λ x i. subst (λ (y : Bounds). Sound y) (sym (s .done x (omega arith))) (leaf-sound (endsIn w₀ d) (z .finite-ends) (seated (order-at w₀ d) d x));
         }
 
     pub planting-stop : {w′ : List ℕ} → Joins w w′ (d * 22) base → Planted w₀ w′ d base

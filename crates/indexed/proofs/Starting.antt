@@ -1,20 +1,20 @@
 -- The first owners' pairs, one position after another; where all are in the heap and it is joined, the route is ready for its turns.
 use Prim.Native.Nat.{ℕ, _+_, _*_, _^_, _≤_, _<_, min}
 use mathlib.Core.Path.{_≡_, refl, sym, _∙_, ap, subst}
-use mathlib.Core.Bool.{Bool}
+use mathlib.Core.Bool.{Bool, true, false}
 use mathlib.Core.List.{List}
-use mathlib.Core.Logic.{_⊎_, ⊎-elim}
+use mathlib.Core.Logic.{_⊎_, inl, inr, ⊎-elim}
 use native.Mathlib.Omega.{arith}
-use lib.ListN.{length, replicate}
+use lib.ListN.{length, getD, replicate}
 use Rattle.rules.specs.Selecting.{End}
 use Rattle.selecting.specs.Ranked.{Pair, none as nobody}
 use Rattle.selecting.specs.Ends.{nodeOf}
 use Rattle.selecting.specs.Taking.{usedOf}
 use Rattle.selecting.proofs.Taking.{used-none}
-use Rattle.ends.specs.Ends.{endsIn}
+use Rattle.ends.specs.Ends.{Room, endsIn}
 use Rattle.tree.specs.declared.Place.{Place}
 use Rattle.tree.specs.Flat.{changed, own}
-use Rattle.tree.specs.Places.{worth}
+use Rattle.tree.specs.Places.{worth, none}
 use Rattle.tree.specs.Words.{Changes}
 use Rattle.tree.proofs.Flat.{same-or, kept-same}
 use Rattle.tree.proofs.Words.{changes-none, changes-then, changes-wider}
@@ -27,8 +27,8 @@ use Rattle.owners.proofs.Next.{same-at, same-past}
 use Rattle.owners.proofs.Grouping.{owners-start}
 use Rattle.owners.proofs.Seats.{seated}
 use Rattle.owners.proofs.Turns.{ends-kept}
-use Rattle.indexed.specs.Route.{marks-in, taken-in, Bound, Ground, Filled, Owning, Offers, Ready}
-use Rattle.indexed.specs.Start.{Fills}
+use Rattle.indexed.specs.Route.{marks-in, taken-in, Moving, Bound, Ground, Filled, Heaped, Owning, Offers, Ready}
+use Rattle.indexed.specs.Start.{Begins, Fills}
 use Rattle.indexed.proofs.Parts.{same-below, same-beyond, marks-kept, indexes-kept}
 use Rattle.indexed.proofs.Keeping.{bound-of, ground-kept, moving-kept, there-in, query, answered}
 
@@ -40,7 +40,8 @@ module _ {w : List ℕ} {d height slots limit : ℕ} (f : Fills w d height slots
         ends = refl;
         sized = f .begins .sized;
         limited = f .begins .asks .limited;
-        round-ends = f .begins .asks .round-ends;
+        finite-ends = f .begins .asks .finite-ends;
+        noted = f .begins .noted;
         twice = f .begins .asks .twice;
         fixed = record { order-is = λ p h. refl; pos-is = λ e h. refl; group-is = λ e h. refl };
         ordered = f .begins .arranged .sorted .order;
@@ -83,7 +84,7 @@ module _ {w₀ w : List ℕ} {d height slots limit p : ℕ} (s : Pairing w₀ w 
   ground : Ground l w d height slots limit (order-at w₀ d) (position-at w₀ d) (group-at w₀ d)
   ground =
       ground-kept (fills-ground (s .fills)) w (s .kept .long) (same-below (s .kept) 0 (d * 4) (omega arith)) (same-below (s .kept) (d * 6) (d * 8) (omega arith))
-      (same-below (s .kept) (d * 11) (d * 12) (omega arith))
+      (same-below (s .kept) (d * 11) (d * 12) (omega arith)) (s .kept .beyond (d * 42) (omega arith))
 
   marks : marks-in w d ≡ replicate d 0
   marks = marks-kept w₀ w d (s .fills .begins .asks .room) (s .kept .long) (same-below (s .kept) (d * 5) (d * 6) (omega arith)) ∙ s .fills .begins .unmarked
@@ -285,7 +286,7 @@ module _ {w₀ w : List ℕ} {d height slots limit p : ℕ} (s : Pairing w₀ w 
             P = s .P;
             ground =
                 ground-kept (fills-ground (s .fills)) w′ (pairing-changes .long) (same-below pairing-changes 0 (d * 4) (omega arith))
-                (same-below pairing-changes (d * 6) (d * 8) (omega arith)) (same-below pairing-changes (d * 11) (d * 12) (omega arith));
+                (same-below pairing-changes (d * 6) (d * 8) (omega arith)) (same-below pairing-changes (d * 11) (d * 12) (omega arith)) (pairing-changes .beyond (d * 42) (omega arith));
             moving = moving-kept {w = w₀} (record { cursor-is = λ g k. refl; slot-is = λ e k. refl }) (same-below pairing-changes (d * 12) (d * 14) (omega arith));
             owners =
                 subst (λ (u : ℕ → Bool). Owners l d (order-at w₀ d) (position-at w₀ d) (group-at w₀ d) (cursor-at w₀ d) slot owner u u) (sym free′)

@@ -2,23 +2,24 @@
 -- in the heap less has an end that is taken.
 use Prim.Native.Nat.{ℕ, zero, suc, _+_, _-_, _*_, _/_, _%_, _^_, _≤_, _<_}
 use mathlib.Core.Path.{_≡_, refl, sym, _∙_, ap, subst}
-use mathlib.Core.Bool.{Bool, true, false, cond, not, _||_}
-use mathlib.Core.List.{List}
-use mathlib.Core.Logic.{_⊎_, ⊎-elim}
+use mathlib.Core.Bool.{Bool, true, false, cond, not, _&&_, _||_}
+use mathlib.Core.List.{List, _++_}
+use mathlib.Core.Logic.{_⊎_, inl, inr, ⊎-elim}
 use native.Mathlib.Omega.{arith}
 use native.Mathlib.Nat.{mul-le-mul-right}
 use lib.Dec.{eqb}
 use lib.ListN.{length, getD, set, take, drop, replicate}
-use lib.Seq.{slice, take-at, getD-take, length-slice, length-take-le, ext-getD}
+use lib.Seq.{slice, take-at, getD-take, getD-drop, length-slice, length-take-le, ext-getD}
 use borrow.Author.Tests.{ne-eqb, not-true, not-false}
 use Rattle.rules.specs.Lists.{one}
 use Rattle.rules.specs.Selecting.{End}
 use Rattle.bounds.specs.Search.{place}
-use Rattle.selecting.specs.Ranked.{Pair, busy, select}
+use Rattle.selecting.specs.Ranked.{Pair, candidates, busy, select}
 use Rattle.selecting.specs.Ends.{nodeOf}
 use Rattle.selecting.specs.Taking.{usedOf, listed, IsLeast}
 use Rattle.selecting.proofs.Greedy.{or-false-left, or-false-right}
 use Rattle.selecting.proofs.Taking.{Taken, taken-start, taken-step, taken-all, turn-room, turn-falls, zeros, length-listed}
+use Rattle.selecting.proofs.Laws.{in-candidates}
 use Rattle.ends.specs.Ends.{Room, Selected, endsIn}
 use Rattle.ends.proofs.Reading.{getD-slice}
 use Rattle.tree.specs.Flat.{own}
@@ -30,15 +31,15 @@ use Rattle.index.specs.Index.{pairOf}
 use Rattle.heap.specs.declared.Entry.{Entry}
 use Rattle.heap.specs.Heap.{node-at, code-of, coded, Decoded}
 use Rattle.heap.proofs.Top.{AtSlot, coded-none, coded-some, code-at, code-small}
-use Rattle.owners.specs.Tables.{slot-at}
+use Rattle.owners.specs.Tables.{mark-at, slot-at}
 use Rattle.owners.specs.Owners.{tally}
 use Rattle.owners.proofs.Next.{same-at, same-past}
 use Rattle.owners.proofs.Turns.{take-kept}
 use Rattle.indexed.specs.Route.{pairs-in, marks-in, taken-in, Owning, Stale, Refreshed, Takes, Takings, Ready}
-use Rattle.indexed.proofs.Parts.{same-below, slice-kept, drop-kept, marks-kept, pairs-length}
+use Rattle.indexed.proofs.Parts.{same-below, slice-kept, drop-kept, marks-kept, pairs-length, is-free, is-taken}
 use Rattle.indexed.proofs.Keeping.{query, heap-whole, answered, slot-here}
 use Rattle.indexed.proofs.Filling.{owning-again, sets-changes}
-use Rattle.indexed.proofs.Choosing.{many, none-left, at-slot, owner-in, owner-slot, owner-free, slot-in, pair-lower, pair-below, next-pair}
+use Rattle.indexed.proofs.Choosing.{many, member, none-left, at-slot, owner-in, owner-slot, owner-free, slot-in, pair-lower, pair-below, next-pair}
 
 -- ---- what falls
 

@@ -1,12 +1,13 @@
 -- The indexed route over its workspace: what it keeps between two turns, and what each of its functions asks and gives.
--- From 4 d on stand the pairs, from 5 d the marks of the ends taken, from 6 d to 14 d the tables of the owners, from 14 d the heap, from 22 d the index.
+-- From 4 d on stand the pairs, from 5 d the marks of the ends taken, from 6 d to 14 d the tables of the owners, from 14 d the heap, from 22 d the index, and at 42 d the note on the disk.
 use Prim.Native.Nat.{ℕ, _+_, _*_, _^_, _≤_, _<_}
 use mathlib.Core.Path.{_≡_}
 use mathlib.Core.Bool.{Bool, true, false}
 use mathlib.Core.List.{List}
-use lib.ListN.{set, replicate}
+use lib.ListN.{length, getD, set, replicate}
 use lib.Seq.{slice}
 use Rattle.rules.specs.Selecting.{End}
+use Rattle.bounds.specs.declared.Bounds.{Bounds}
 use Rattle.selecting.specs.Ranked.{Pair, Node, candidates, busy, before}
 use Rattle.selecting.specs.Sets.{In, EndOf}
 use Rattle.selecting.specs.Ends.{endAt, nodeOf}
@@ -18,12 +19,12 @@ use Rattle.tree.specs.Places.{worth, gone}
 use Rattle.tree.specs.Flat.{own}
 use Rattle.tree.specs.Words.{Changes}
 use Rattle.index.specs.declared.Best.{Best}
-use Rattle.index.specs.Nodes.{node-at}
+use Rattle.index.specs.Nodes.{node-at, Removes}
 use Rattle.index.specs.Nodes as index
-use Rattle.index.specs.Index.{pairOf, Indexed, Round, Query, Answers}
+use Rattle.index.specs.Index.{pairOf, leaf-of, Indexed, Finite, Noted, Query, Answers}
 use Rattle.heap.specs.Heap.{Heaps, coded, Sets}
 use Rattle.heap.specs.Heap as heap
-use Rattle.owners.specs.Tables.{order-at, position-at, group-at, cursor-at, slot-at, Ordered, Runs}
+use Rattle.owners.specs.Tables.{mark-at, order-at, position-at, group-at, cursor-at, slot-at, Ordered, Runs}
 use Rattle.owners.specs.Owners.{Owners, without}
 use Rattle.owners.proofs.Seats.{seated}
 
@@ -73,7 +74,8 @@ pub record Ground (l : List End) (w : List ℕ) (d height slots limit : ℕ) (or
   pub ends : endsIn w d ≡ l
   pub sized : Sized d height slots
   pub limited : limit < gone
-  pub round-ends : Round l
+  pub finite-ends : Finite l
+  pub noted : Noted w d l
   pub twice : AtMostTwice (λ e. endAt l e .piece) d
   pub fixed : Fixed w d order pos group
   pub ordered : Ordered order pos d

@@ -3,25 +3,25 @@ use Prim.Native.Nat.{ℕ, _+_, _*_, _^_, _≤_, _<_}
 use mathlib.Core.Path.{_≡_}
 use mathlib.Core.List.{List}
 use mathlib.Core.Logic.{_⊎_}
-use lib.ListN.{replicate}
+use lib.ListN.{length, replicate}
 use Rattle.ends.specs.Ends.{Room, endsIn}
 use Rattle.selecting.specs.Ends.{endAt}
 use Rattle.selecting.specs.Owners.{AtMostTwice}
 use Rattle.selecting.specs.Ranked.{none as nobody}
 use Rattle.tree.specs.Places.{gone, none}
 use Rattle.tree.specs.Words.{Changes}
-use Rattle.index.specs.Index.{Indexed, Round}
+use Rattle.index.specs.Index.{Indexed, Finite, Noted}
 use Rattle.heap.specs.Heap.{node-at}
 use Rattle.owners.specs.Tables.{order-at, group-at, cursor-at, slot-at, Sorted, Runs, Started}
 use Rattle.owners.proofs.Seats.{seated}
 use Rattle.indexed.specs.declared.Size.{Size}
 use Rattle.indexed.specs.Route.{Sized, marks-in}
 
--- What a workspace must hold: room for at most 8192 ends, a limit below the greatest key, directions in the disk, and no piece number more than twice.
+-- What a workspace must hold: room for at most 8192 ends, a limit below the greatest key, finite directions, and no piece number more than twice.
 pub record Asks (w : List ℕ) (d limit : ℕ) : Type 0 where
   pub room : Room w d
   pub limited : limit < gone
-  pub round-ends : Round (endsIn w d)
+  pub finite-ends : Finite (endsIn w d)
   pub twice : AtMostTwice (λ e. endAt (endsIn w d) e .piece) d
 
 -- a power of two with a place for each of n, and not twice as great as need be
@@ -37,11 +37,16 @@ pub record Arranged (w : List ℕ) (d m : ℕ) : Type 0 where
   pub own : ℕ → ℕ
   pub started : Started (endsIn w d) (order-at w d) (group-at w d) (cursor-at w d) (slot-at w d) own d d m
 
+-- it is noted whether all directions are in the disk
+pub record Notes (w w′ : List ℕ) (d : ℕ) : Type 0 where
+  pub noted : Noted w′ d (endsIn w d)
+  pub kept : Changes w w′ (d * 42) (d * 43)
+
 -- ---- the index of all ends
 
 pub record Plants (w : List ℕ) (d base : ℕ) : Type 0 where
   pub sorted : Sorted w d
-  pub round-ends : Round (endsIn w d)
+  pub finite-ends : Finite (endsIn w d)
   pub some : 0 < base
   pub most : base ≤ 2 * d
 
@@ -63,6 +68,7 @@ pub record Cleared (w w′ : List ℕ) (d slots : ℕ) : Type 0 where
 
 pub record Begins (w : List ℕ) (d height slots limit : ℕ) : Type 0 where
   pub asks : Asks w d limit
+  pub noted : Noted w d (endsIn w d)
   pub m : ℕ
   pub arranged : Arranged w d m
   pub fits : m ≤ slots

@@ -14,7 +14,7 @@ ghost use Rattle.index.specs.Nodes.{Removes};
 ghost use Rattle.owners.specs.Tables.{order-at, position-at, Sorted};
 ghost use Rattle.owners.proofs.Seats.{seated};
 ghost use Rattle.indexed.specs.Route.{taken-in, Offers, Stale, Refreshed, Retires, marked, Replaces, Replaced, Takes, Takings, Ready};
-ghost use Rattle.indexed.specs.Start.{Fits, Arranged, Plants, Planted, Clears, Cleared, Begins, Fills, Asks};
+ghost use Rattle.indexed.specs.Start.{Notes, Fits, Arranged, Plants, Planted, Clears, Cleared, Begins, Fills, Asks};
 
 // Parts of the workspace, by their places, counted in ends.
 const PAIRS: usize = 4;
@@ -35,6 +35,8 @@ const HEAP: usize = 14;
 
 const INDEX: usize = 22;
 
+const NOTE: usize = 42;
+
 // A tree with a leaf for each of some number of things: how many leaves, and how high.
 pub struct Size {
     pub base: usize,
@@ -53,6 +55,15 @@ fn tree_for(n: usize) -> Size
         height += 1;
     }
     Size { base, height }
+}
+
+// It is noted whether all directions are in the disk, for which the index has a better bound.
+fn note(w: &mut [u64], d: usize)
+    requires { ⌜ Room (now w) d × (d ≡ 0 → ⊥) ⌝ }
+    ensures { λ _. ⌜ Notes (now (w .entry)) (now (w .exit)) d ⌝ }
+{
+    let round = around::all_round(w, d) as u64;
+    w[d * NOTE] = round;
 }
 
 // The ends in order and in groups; how many are owners.
@@ -260,6 +271,7 @@ pub fn indexed(w: &mut [u64], d: usize, limit: u64) -> usize
     if around::apart(w, d, limit) {
         return 0;
     }
+    note(w, d);
     let a = tree_for(d);
     slices::fill_from(w, d * TAKEN, d, 0);
     let m = arrange(w, d);

@@ -9,13 +9,13 @@ ghost use Rattle.pairing.specs.Routed.{Routed};
 // Words of workspace for each end.
 const END_ROOM: usize = 64;
 
-// The selected pairs of the ends in the workspace: by the index, or else by the chosen route, or else by the plain one; how many.
+// The selected pairs of the ends in the workspace: by the index alone, or else by the chosen route, or else by the plain one; how many.
 fn route(alone: bool, chosen: bool, w: &mut [u64], d: usize, limit: f64) -> usize
-    requires { ⌜ Routed (now w) d limit ⌝ }
+    requires { ⌜ Routed alone (now w) d limit ⌝ }
     ensures { λ r. ⌜ Selected (now (w .entry)) d (key limit) r (now (w .exit)) ⌝ }
 {
     if alone {
-        return chosen::indexed_pairs(w, d, limit);
+        return indexed::indexed(w, d, order::key(limit));
     }
     if chosen {
         return chosen::junction_pairs(w, d, limit);

@@ -1,13 +1,14 @@
 -- What a pairing call that isn't refused may rely on: refusal 6 rules out a limit that is no number, refusal 8 a piece with three ends, and
 -- refusal 9 a present direction that isn't finite.
-use Prim.Native.Nat.{ℕ, zero, suc, _*_, _≤_, _<_}
-use mathlib.Core.Path.{_≡_, refl, sym, _∙_, subst}
+use Prim.Native.Nat.{ℕ, zero, suc, _+_, _*_, _≤_, _<_}
+use mathlib.Core.Path.{_≡_, refl, sym, _∙_, ap, subst}
 use mathlib.Core.Bool.{Bool, true, false, not, _&&_, _||_}
 use mathlib.Core.List.{List, [], _∷_}
 use native.Mathlib.Omega.{arith}
 use lib.ListN.{length, getD}
 use lib.Dec.{T, ltb, eqb}
-use lib.Ieee.{Float, binary64, le, isNan, fits}
+use lib.Ieee.{Float, nan, binary64, le, isNan, fits}
+use lib.Ieee.Scale.{finite}
 use borrow.Author.Tests.{ltb-false, eqb-true, eq-eqb, not-false}
 use Rattle.rules.specs.Lists.{count}
 use Rattle.rules.specs.Plane.{unity, minus-unity}
@@ -16,7 +17,7 @@ use Rattle.order.specs.Key.{key-nan, key}
 use Rattle.order.proofs.Order.{le-num-r}
 use Rattle.order.proofs.Keys.{key-num, rank-under}
 use Rattle.selecting.specs.Owners.{AtMostTwice}
-use Rattle.selecting.proofs.Order.{tf, and-left}
+use Rattle.selecting.proofs.Order.{tf, and-left, and-right}
 use Rattle.selecting.proofs.Greedy.{or-false-left, or-false-right}
 
 -- ---- no refusal
@@ -129,3 +130,35 @@ twice-at all (p ∷ l) h x g = go (ltb 2 (count p all)) refl h x g (twice-at all
 pub at-most-twice : (pieces : List ℕ) → moreThanTwice pieces pieces ≡ false → AtMostTwice (λ e. getD pieces e 0) (length pieces)
 at-most-twice pieces h x y z x<y y<z z<d e f =
     omega (arith, twice-at pieces pieces h x (omega arith), count-three (getD pieces x 0) pieces x y z x<y y<z z<d refl (sym e) (sym (e ∙ f)))
+
+-- ---- 9
+
+wild-split : (a : ℕ) (marks : List ℕ) (x y : Float) (ways : List Float) → anyWild (a ∷ marks) (x ∷ y ∷ ways) ≡ false
+    → ((eqb a 1 && not (finite x && finite y)) ≡ false) × (anyWild marks ways ≡ false)
+unfolding anyWild
+wild-split a marks x y ways h = go (eqb a 1 && not (finite x && finite y)) h
+  where
+    go : (t : Bool) → _≡_ {A = Bool} (elim t [ true ↦ true | false ↦ anyWild marks ways ]) false → (t ≡ false) × (anyWild marks ways ≡ false)
+    go true e = absurd (tf refl e)
+    go false e = (refl, e)
+
+pub all-finite : (marks : List ℕ) (ways : List Float) → anyWild marks ways ≡ false → (e : ℕ) → e < length marks → e * 2 + 1 < length ways → getD marks e 0 ≡ 1
+    → T (finite (getD ways (e * 2) nan)) × T (finite (getD ways (e * 2 + 1) nan))
+all-finite [] ways h e g k m = absurd (omega arith)
+all-finite (a ∷ marks) [] h e g k m = absurd (omega arith)
+all-finite (a ∷ marks) (x ∷ []) h zero g k m = absurd (omega arith)
+all-finite (a ∷ marks) (x ∷ []) h (suc e) g k m = absurd (omega arith)
+all-finite (a ∷ marks) (x ∷ y ∷ ways) h zero g k m =
+    (subst T (sym (and-left (finite x) (finite y) both)) tt, subst T (sym (and-right (finite x) (finite y) both)) tt)
+  where
+    both : (finite x && finite y) ≡ true
+    both = not-false (finite x && finite y) (ap (λ (t : Bool). t && not (finite x && finite y)) (sym (eq-eqb a 1 m)) ∙ wild-split a marks x y ways h .0)
+all-finite (a ∷ marks) (x ∷ y ∷ ways) h (suc e) g k m =
+    let t = all-finite marks ways (wild-split a marks x y ways h .1) e (omega arith) (omega arith) m in
+    (subst (λ (i : ℕ). T (finite (getD (x ∷ y ∷ ways) i nan))) first (t .0), subst (λ (i : ℕ). T (finite (getD (x ∷ y ∷ ways) i nan))) second (t .1))
+  where
+    first : suc (suc (e * 2)) ≡ suc e * 2
+    first = omega arith
+
+    second : suc (suc (e * 2 + 1)) ≡ suc e * 2 + 1
+    second = omega arith

@@ -3,6 +3,7 @@
 use Prim.Native.Nat.{_+_, _*_, _≤_}
 use native.Mathlib.Nat.{pos-of-ne-zero}
 use native.Mathlib.Omega.{arith}
+use borrow.Author.Needs.{needs}
 use mathlib.Core.Path.{ap}
 use Prim.Native.Nat.{min}
 use mathlib.Core.Path.{_∙_}
@@ -113,10 +114,10 @@ search-sub-down : (t : ℕ) → search-lts.Need-sub-down (learnt t) (search-at t
 search-sub-down t c = omega (arith, pos-of-ne-zero (c .before .before .before .if1 .left))
 
 search-reach-requires : (t : ℕ) → search-lts.Need-reach-requires (learnt t) (search-at t) search′.Post
-search-reach-requires t c κs = let a = c .before .before .before .before .before in has (ready-left (a .pre .1 .0) (pos-of-ne-zero (c .before .before .before .if1 .left)))
+search-reach-requires t c κs = let a = c .before .before .before .before .before in (has (ready-left (a .pre .1 .0) (pos-of-ne-zero (c .before .before .before .if1 .left))), a .pre .1 .0 .note)
 
 search-reach-requires-2 : (t : ℕ) → search-lts.Need-reach-requires-2 (learnt t) (search-at t) search′.Post
-search-reach-requires-2 t c κs = let a = c .before .before .before .before .before .before in has (ready-right (a .pre .1 .0) (pos-of-ne-zero (c .before .before .before .before .if1 .left)))
+search-reach-requires-2 t c κs = let a = c .before .before .before .before .before .before in (has (ready-right (a .pre .1 .0) (pos-of-ne-zero (c .before .before .before .before .if1 .left))), a .pre .1 .0 .note)
 
 search-sooner-requires : (t : ℕ) → search-lts.Need-sooner-requires (learnt t) (search-at t) search′.Post
 search-sooner-requires t c κs = tt

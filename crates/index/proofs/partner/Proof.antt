@@ -4,7 +4,7 @@ use Rattle.index.proofs.partner.Statement.{statement}
 use Rattle.index.proofs.partner.Tie as tie
 
 reach-requires : tie.Need-reach-requires
-reach-requires c κs = has (c .before .pre)
+reach-requires c κs = (has (c .before .pre), c .before .pre .note)
 
 sooner-requires : tie.Need-sooner-requires
 sooner-requires c κs = search needs

@@ -1,4 +1,5 @@
-use Prim.Native.Nat.{_-_, _*_}
+use Prim.Native.Nat.{ℕ, _+_, _-_, _*_, _^_, _≤_, _<_}
+use mathlib.Core.Path.{_≡_, refl, sym, _∙_, ap}
 use native.Mathlib.Omega.{arith}
 use Rattle.tree.proofs.Words.{changes-then, changes-wider}
 use Rattle.owners.proofs.Turns.{room-kept}

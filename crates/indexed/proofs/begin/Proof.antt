@@ -1,4 +1,7 @@
+use mathlib.Core.Path.{_≡_, refl, sym, _∙_, ap}
+use native.Mathlib.Omega.{arith}
 use Rattle.indexed.proofs.Beginning.{begins-plants, begins-clears, begins-fills, begins-changes}
+use borrow.Author.Needs.{needs}
 use Rattle.indexed.proofs.begin.Statement.{statement}
 use Rattle.indexed.proofs.begin.Tie as tie
 

@@ -1,4 +1,5 @@
-use Prim.Native.Nat.{_-_}
+use Prim.Native.Nat.{ℕ, _+_, _-_, _*_, _^_, _≤_, _<_}
+use mathlib.Core.Path.{_≡_, refl, sym, _∙_, ap}
 use native.Mathlib.Omega.{arith}
 use Rattle.indexed.proofs.Planting.{Clearing, clearing-start, clearing-room, clearing-next, clearing-stop}
 use Rattle.indexed.proofs.clear.Statement.{statement}

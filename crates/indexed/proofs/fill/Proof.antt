@@ -1,4 +1,5 @@
-use Prim.Native.Nat.{_-_}
+use Prim.Native.Nat.{ℕ, _+_, _-_, _*_, _^_, _≤_, _<_}
+use mathlib.Core.Path.{_≡_, refl, sym, _∙_, ap}
 use native.Mathlib.Omega.{arith}
 use Rattle.indexed.proofs.Starting.{Pairing, pairing-start, pairing-long, pairing-in, pairing-idle, pairing-query, pairing-slot, pairing-next, pairing-wide, pairing-changes, pairing-stop}
 use Rattle.indexed.proofs.fill.Statement.{statement}

@@ -1,4 +1,5 @@
-use mathlib.Core.Path.{sym, _∙_}
+use mathlib.Core.Path.{_≡_, refl, sym, _∙_, ap}
+use native.Mathlib.Omega.{arith}
 use Rattle.indexed.proofs.Planting.{leaf-out, leaf-in}
 use Rattle.owners.specs.Tables.{order-at}
 use borrow.Author.Needs.{needs}

@@ -1,3 +1,6 @@
+use mathlib.Core.Path.{_≡_, refl, sym, _∙_, ap}
+use mathlib.Core.Bool.{not}
+use native.Mathlib.Omega.{arith}
 use Rattle.indexed.proofs.Parts.{is-taken, free-both}
 use borrow.Author.Needs.{needs}
 use Rattle.indexed.proofs.live.Statement.{statement}

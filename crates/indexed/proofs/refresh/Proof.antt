@@ -1,4 +1,6 @@
 use Rattle.indexed.proofs.Parts.{refreshed}
+use mathlib.Core.Path.{_≡_, refl, sym, _∙_, ap, subst}
+use native.Mathlib.Omega.{arith}
 use borrow.Author.Needs.{needs}
 use Rattle.indexed.proofs.refresh.Statement.{statement}
 use Rattle.indexed.proofs.refresh.Tie as tie

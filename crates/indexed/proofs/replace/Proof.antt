@@ -1,9 +1,11 @@
 use Rattle.owners.specs.Tables.{group-at}
-use Prim.Native.Nat.{_+_, _-_, _*_}
+use Prim.Native.Nat.{ℕ, _+_, _-_, _*_, _^_, _≤_, _<_}
+use mathlib.Core.Path.{_≡_, refl, sym, _∙_, ap}
 use native.Mathlib.Omega.{arith}
-use lib.ListN.{set, length-set}
+use lib.ListN.{length, set, length-set}
 use Rattle.indexed.proofs.Keeping.{heap-whole, slot-here}
 use Rattle.indexed.proofs.Handing.{ground-sorted, group-in, due-below, due-end, stale-next, replaces-idle, replaces-none, replaces-next}
+use borrow.Author.Needs.{needs}
 use Rattle.indexed.proofs.replace.Statement.{statement}
 use Rattle.indexed.proofs.replace.Tie as tie
 

@@ -1,7 +1,8 @@
 use Prim.Native.Nat.{_+_, _*_}
 use lib.ListN.{length-set}
 use Rattle.indexed.proofs.Parts.{retires-whole}
-use mathlib.Core.Path.{_∙_}
+use mathlib.Core.Path.{_≡_, refl, sym, _∙_, ap, subst}
+use native.Mathlib.Omega.{arith}
 use borrow.Author.Needs.{needs}
 use Rattle.indexed.proofs.retire.Statement.{statement}
 use Rattle.indexed.proofs.retire.Tie as tie

@@ -1,6 +1,7 @@
-use Prim.Native.Nat.{_+_, _-_, _*_}
+use Prim.Native.Nat.{ℕ, _+_, _-_, _*_, _^_, _≤_, _<_}
+use mathlib.Core.Path.{_≡_, refl, sym, _∙_, ap}
 use native.Mathlib.Omega.{arith}
-use lib.ListN.{length-set}
+use lib.ListN.{length, set, length-set}
 use Rattle.indexed.proofs.Taking.{takes-i, takes-j, hands-i, hands-j, takings}
 use Rattle.indexed.proofs.take.Statement.{statement}
 use Rattle.indexed.proofs.take.Tie as tie

@@ -1,4 +1,6 @@
-use Prim.Native.Nat.{_-_}
+use Prim.Native.Nat.{ℕ, _+_, _-_, _*_, _^_, _≤_, _<_}
+use mathlib.Core.Path.{_≡_, refl, sym, _∙_, ap}
+use mathlib.Core.Logic.{_⊎_, inl, inr, ⊎-elim}
 use native.Mathlib.Omega.{arith}
 use Rattle.indexed.proofs.Sizes.{Sizing, sizing-start, sizing-next, sizing-stop}
 use Rattle.indexed.proofs.tree_for.Statement.{statement}

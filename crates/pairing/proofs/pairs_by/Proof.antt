@@ -1,11 +1,14 @@
 -- A call by one of the routes. Refused, nothing is touched. Accepted, the ends are put into the workspace, the route leaves the selected pairs behind them,
 -- they are taken out, and the workspace is cleared: the laws of `lending` make the book's record of these four.
 use borrow.Author.Needs.{needs}
+use Prim.Native.Nat.{ℕ, _*_, _≤_}
 use mathlib.Core.Path.{_≡_, sym, _∙_}
 use native.Mathlib.Omega.{arith}
 use denote.Ref.{now}
+use lib.ListN.{length}
 use Rattle.rules.specs.Refusals.{LentEnds, pairRefusalOf}
 use Rattle.selecting.proofs.Refusals.{admitted}
+use Rattle.ends.specs.Ends.{Room}
 use Rattle.pair_refusals.proofs.Ladder.{refusal-by}
 use Rattle.lending.specs.Lent.{Matched}
 use Rattle.lending.proofs.Answers.{matched, put-room, few-words, takeable, refused, accepted}

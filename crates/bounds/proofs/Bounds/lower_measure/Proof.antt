@@ -1,7 +1,7 @@
--- `Bounds::lower_measure` meets its contract: the greater of the two bounds, or the corner's where the box has no width.
+-- `Bounds::lower_measure` meets its contract: the greater of the two bounds where all are in the disk and the box has a width, and else the corner's.
 use mathlib.Core.Path.{ap₂, _∙_}
 use Rattle.bounds.specs.Box.{greatest}
-use Rattle.bounds.proofs.Round.{lower-wide, lower-thin}
+use Rattle.bounds.proofs.Round.{lower-wide, lower-thin, lower-any}
 use borrow.Author.Needs.{needs}
 use Rattle.bounds.proofs.Bounds.lower_measure.Statement.{statement}
 use Rattle.bounds.proofs.Bounds.lower_measure.Tie as tie
@@ -18,11 +18,14 @@ greater-requires c κs = search needs
 returns : tie.Need-returns
 returns c =
     c .greater .ensures
-    ∙ ap₂ greatest (c .before .before .before .before .corner-measure .ensures) (c .before .gap-measure .ensures)
-    ∙ lower-wide _ _ _ (c .before .before .if1 .taken)
+    ∙ ap₂ greatest (c .before .before .before .before .before .corner-measure .ensures) (c .before .gap-measure .ensures)
+    ∙ lower-wide _ _ _ _ (c .before .before .before .before .if1 .taken) (c .before .before .if2 .taken)
 
 returns-2 : tie.Need-returns-2
-returns-2 c = c .before .before .corner-measure .ensures ∙ lower-thin _ _ _ (c .if1 .left)
+returns-2 c = c .before .before .before .corner-measure .ensures ∙ lower-thin _ _ _ _ (c .if2 .left)
+
+returns-3 : tie.Need-returns-3
+returns-3 c = c .before .corner-measure .ensures ∙ lower-any _ _ _ _ (c .if1 .left)
 
 pub lower-measure-spec : {M : Type 1} → statement M
 lower-measure-spec =
@@ -32,4 +35,5 @@ lower-measure-spec =
     gap-measure-requires
     greater-requires
     returns
-    returns-2)
+    returns-2
+    returns-3)
