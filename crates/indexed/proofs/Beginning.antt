@@ -2,7 +2,7 @@
 use Prim.Native.Nat.{ℕ, _+_, _-_, _*_, _^_, _≤_, _<_}
 use mathlib.Core.Path.{_≡_, refl, sym, _∙_, ap, subst}
 use mathlib.Core.List.{List, [], _∷_}
-use mathlib.Core.Bool.{Bool, true, false, cond, false≢true}
+use mathlib.Core.Bool.{Bool, true, false, cond}
 use native.Mathlib.Omega.{arith}
 use lib.Dec.{ltb, eqb}
 use lib.ListN.{length, getD, set, take, drop, replicate}
@@ -133,7 +133,7 @@ pub notes : {w : List ℕ} {d : ℕ} {r : Bool} → Room w d → (d ≡ 0 → �
 unfolding round-at
 notes {w} {d} {r} room some s =
     record {
-      noted = λ h. all-round room (s .yes (told r h));
+      told = subst (λ (t : Bool). Every (λ e. round-of (directionAt w d e)) d t) (sym (read r)) s;
       kept = changes-set w (d * 42) (boolByte r) (d * 42) (d * 43) (omega arith) (wider d some);
     }
   where
@@ -143,9 +143,9 @@ notes {w} {d} {r} room some s =
     inside : d * 42 < length w
     inside = omega (arith, wider d some, room .long)
 
-    told : (t : Bool) → eqb (getD (set w (d * 42) (boolByte t)) (d * 42) 0) 1 ≡ true → t ≡ true
-    told true h = refl
-    told false h = absurd (false≢true (sym (ap (λ (x : ℕ). eqb x 1) (getD-set-same w (d * 42) 0 0 inside)) ∙ h))
+    read : (t : Bool) → eqb (getD (set w (d * 42) (boolByte t)) (d * 42) 0) 1 ≡ t
+    read true = ap (λ (x : ℕ). eqb x 1) (getD-set-same w (d * 42) 1 0 inside)
+    read false = ap (λ (x : ℕ). eqb x 1) (getD-set-same w (d * 42) 0 0 inside)
 
 -- after the note
 module _ {w₀ w : List ℕ} {d limit : ℕ} (x₀ : Asks w₀ d limit) (n : Notes w₀ w d) where
@@ -156,7 +156,7 @@ module _ {w₀ w : List ℕ} {d limit : ℕ} (x₀ : Asks w₀ d limit) (n : Not
   noted-room = room-kept (n .kept) (x₀ .room)
 
   pub noted-here : Noted w d (endsIn w d)
-  noted-here = subst (λ (l : List End). Noted w d l) (sym (ends-kept (n .kept) (omega arith) (x₀ .room))) (n .noted)
+  noted-here = subst (λ (l : List End). Noted w d l) (sym (ends-kept (n .kept) (omega arith) (x₀ .room))) (λ h. all-round (x₀ .room) (n .told .yes h))
 
   pub noted-selected : {w′ : List ℕ} {r : ℕ} → Selected w d limit r w′ → Selected w₀ d limit r w′
   noted-selected s = selected-from (x₀ .room) (changes-wider (d * 4) (d * 64) (omega arith) (omega arith) (n .kept)) s

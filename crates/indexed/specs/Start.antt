@@ -4,13 +4,15 @@ use mathlib.Core.Path.{_≡_}
 use mathlib.Core.List.{List}
 use mathlib.Core.Logic.{_⊎_}
 use lib.ListN.{length, replicate}
-use Rattle.ends.specs.Ends.{Room, endsIn}
+use Rattle.ends.specs.Ends.{Room, directionAt, endsIn}
 use Rattle.selecting.specs.Ends.{endAt}
 use Rattle.selecting.specs.Owners.{AtMostTwice}
 use Rattle.selecting.specs.Ranked.{none as nobody}
 use Rattle.tree.specs.Places.{gone, none}
 use Rattle.tree.specs.Words.{Changes}
+use Rattle.index.specs.Search.{round-at}
 use Rattle.index.specs.Index.{Indexed, Finite, Noted}
+use Rattle.around.specs.Around.{Every, round-of}
 use Rattle.heap.specs.Heap.{node-at}
 use Rattle.owners.specs.Tables.{order-at, group-at, cursor-at, slot-at, Sorted, Runs, Started}
 use Rattle.owners.proofs.Seats.{seated}
@@ -39,7 +41,7 @@ pub record Arranged (w : List ℕ) (d m : ℕ) : Type 0 where
 
 -- it is noted whether all directions are in the disk
 pub record Notes (w w′ : List ℕ) (d : ℕ) : Type 0 where
-  pub noted : Noted w′ d (endsIn w d)
+  pub told : Every (λ e. round-of (directionAt w d e)) d (round-at w′ d)
   pub kept : Changes w w′ (d * 42) (d * 43)
 
 -- ---- the index of all ends
