@@ -1,9 +1,8 @@
 //! Batches: what each call of the library is given.
 
 use super::components::components;
-use super::Line;
-use crate::delivery::Point;
-use lovasuku_chains::size::{MOST_LINES, MOST_POINTS};
+use super::{at, Line, Point};
+use crate::size::{MOST_LINES, MOST_POINTS};
 use std::error::Error;
 use std::fmt;
 
@@ -13,7 +12,9 @@ pub type Batch = Vec<u32>;
 /// How much one call may be given.
 #[derive(Clone, Copy, Debug, PartialEq)]
 pub struct Capacity {
+    /// The most lines.
     pub lines: usize,
+    /// The most coordinates, counted in pairs of x and y.
     pub points: usize,
 }
 
@@ -33,12 +34,15 @@ const SPREAD: usize = 4;
 pub struct TooLarge {
     /// The number of its class.
     pub group: u32,
+    /// The number of its lines.
     pub lines: usize,
+    /// The number of their points.
     pub points: usize,
     /// The position of its first line.
     pub first: u32,
     /// The lowest and the highest x and y of its ends.
     pub place: [Point; 2],
+    /// What a call may be given.
     pub capacity: Capacity,
 }
 
@@ -48,7 +52,7 @@ impl fmt::Display for TooLarge {
         write!(
             f,
             "{} lines with {} points that meet, from {west} {south} to {east} {north}, are more \
-             than one call holds ({} lines, {} points); a lower tolerance or --class may part them",
+             than one call holds ({} lines, {} points)",
             self.lines, self.points, self.capacity.lines, self.capacity.points
         )
     }
@@ -92,7 +96,7 @@ impl Capacity {
 
 /// How much a call of these lines would be given.
 fn size(lines: &[Line], positions: &[u32]) -> Capacity {
-    let points = |&line: &u32| lines[line as usize].points.map_or(0, <[Point]>::len);
+    let points = |&line: &u32| at(lines, line).points.map_or(0, <[Point]>::len);
     Capacity { lines: positions.len(), points: positions.iter().map(points).sum() }
 }
 
@@ -100,12 +104,12 @@ fn too_large(lines: &[Line], component: &[u32], capacity: Capacity) -> TooLarge 
     let size = size(lines, component);
     let first = component.first().copied().unwrap_or_default();
     let mut place = [[f64::INFINITY; 2], [f64::NEG_INFINITY; 2]];
-    let ends = component.iter().filter_map(|&line| lines[line as usize].ends());
+    let ends = component.iter().filter_map(|&line| at(lines, line).ends());
     for [x, y] in ends.flatten() {
         place[0] = [place[0][0].min(x), place[0][1].min(y)];
         place[1] = [place[1][0].max(x), place[1][1].max(y)];
     }
-    let group = lines[first as usize].group;
+    let group = at(lines, first).group;
     TooLarge { group, lines: size.lines, points: size.points, first, place, capacity }
 }
 

@@ -5,11 +5,11 @@
 //! the pieces of round one, which a call without a tolerance gives.
 
 use super::joints::{end_counts, joints, EndCounts, Step};
-use super::{Chain, Line};
-use anyhow::{ensure, Result};
-use lovasuku_chains::{self as library, LinesBuf, Rooms, Settings};
+use super::{at, Chain, Fault, Line};
+use crate::{self as library, LinesBuf, Rooms, Settings};
 
 /// Lends batches to the library, one after another, in the same rooms.
+#[derive(Debug)]
 pub struct Caller {
     settings: Settings,
     rooms: Rooms,
@@ -20,18 +20,19 @@ pub struct Caller {
 type Piece = Vec<(u32, bool)>;
 
 impl Caller {
+    /// A caller for batches of one input.
     pub fn new(settings: Settings) -> Self {
         Caller { settings, rooms: Rooms::default(), lent: LinesBuf::default() }
     }
 
     /// The chains of a batch, with the positions of the whole input.
-    pub fn build(&mut self, lines: &[Line], batch: &[u32]) -> Result<Vec<Chain>> {
+    pub fn build(&mut self, lines: &[Line], batch: &[u32]) -> Result<Vec<Chain>, Fault> {
         self.lend(lines, batch);
         let pieces = match self.settings.tolerance > 0.0 {
             true => Some(self.pieces()?),
             false => None,
         };
-        let counts = end_counts(batch.iter().map(|&line| &lines[line as usize]));
+        let counts = end_counts(batch.iter().map(|&line| at(lines, line)));
         let chains = self.rooms.build(self.lent.lines(), self.settings)?;
         let chain = |chain: library::Chain| {
             let way = match &pieces {
@@ -45,7 +46,7 @@ impl Caller {
 
     fn lend(&mut self, lines: &[Line], batch: &[u32]) {
         self.lent.clear();
-        for line in batch.iter().map(|&line| &lines[line as usize]) {
+        for line in batch.iter().map(|&line| at(lines, line)) {
             match line.points {
                 Some(points) => self.lent.push(points.iter().copied(), line.group),
                 None => self.lent.push_passing([], line.group),
@@ -54,13 +55,15 @@ impl Caller {
     }
 
     /// The pieces of round one.
-    fn pieces(&mut self) -> Result<Pieces> {
+    fn pieces(&mut self) -> Result<Pieces, Fault> {
         let settings = self.settings.with_tolerance(0.0);
         let chains = self.rooms.build(self.lent.lines(), settings)?;
         let mut pieces = Pieces { all: Vec::new(), of_line: vec![0; self.lent.len()] };
         for chain in &chains {
             for &line in chain.members() {
-                pieces.of_line[line as usize] = pieces.all.len();
+                if let Some(piece) = pieces.of_line.get_mut(line as usize) {
+                    *piece = pieces.all.len();
+                }
             }
             pieces.all.push(chain.members().iter().copied().zip(chain.turned()).collect());
         }
@@ -76,15 +79,17 @@ struct Pieces {
 
 impl Pieces {
     /// The way of a chain: its pieces in their order, each forward or, if turned, backward.
-    fn way(&self, chain: &library::Chain) -> Result<Vec<Step>> {
+    fn way(&self, chain: &library::Chain) -> Result<Vec<Step>, Fault> {
         let mut way = Vec::with_capacity(chain.members().len());
         while let Some(&first) = chain.members().get(way.len()) {
-            let number = self.of_line[first as usize];
-            let piece = &self.all[number];
-            let members = chain.members()[way.len()..].iter();
+            let number = self.of_line.get(first as usize).copied().unwrap_or_default();
+            let piece = self.all.get(number).ok_or(Fault::Parted)?;
+            let members = chain.members().iter().skip(way.len());
             let whole = piece.iter().map(|(line, _)| line).eq(members.take(piece.len()));
-            ensure!(whole, "the library has parted a piece of round one");
-            let turned = chain.marks()[way.len()] == 1;
+            if piece.is_empty() || !whole {
+                return Err(Fault::Parted);
+            }
+            let turned = chain.marks().get(way.len()) == Some(&1);
             let step =
                 |&(line, back): &(u32, bool)| Step { line, back: back != turned, piece: number };
             match turned {
@@ -110,7 +115,7 @@ fn owned(
     way: &[Step],
     counts: &EndCounts,
 ) -> Chain {
-    let position = |line: u32| batch[line as usize];
+    let position = |line: u32| batch.get(line as usize).copied().unwrap_or_default();
     let way: Vec<Step> =
         way.iter().map(|&step| Step { line: position(step.line), ..step }).collect();
     Chain {

@@ -1,8 +1,7 @@
 //! Joints: where the lines of a chain were joined, and by what.
 
 use super::components::{exact_key, Key};
-use super::Line;
-use crate::delivery::Point;
+use super::{at, Line, Point};
 use std::collections::HashMap;
 
 /// A joint of two lines that follow each other in a chain.
@@ -12,6 +11,7 @@ pub struct Joint {
     pub lines: [u32; 2],
     /// The end of the first line and the end of the second.
     pub ends: [Point; 2],
+    /// What it was made by.
     pub kind: JointKind,
 }
 
@@ -57,7 +57,7 @@ pub struct Step {
 pub type EndCounts = HashMap<Key, u32>;
 
 /// Counts the ends of lines at each key.
-pub fn end_counts<'a>(lines: impl Iterator<Item = &'a Line<'a>>) -> EndCounts {
+pub fn end_counts<'a>(lines: impl Iterator<Item = Line<'a>>) -> EndCounts {
     let mut counts = EndCounts::new();
     for line in lines {
         for end in line.ends().into_iter().flatten() {
@@ -67,13 +67,25 @@ pub fn end_counts<'a>(lines: impl Iterator<Item = &'a Line<'a>>) -> EndCounts {
     counts
 }
 
+/// How many lines without length stand where two ends of lines with length lie, or more. There they
+/// are what keeps two lines from being joined.
+pub fn blocking(lines: &[Line]) -> usize {
+    let flat = |line: &&Line| line.ends().is_some() && line.has_no_length();
+    let counts = end_counts(lines.iter().filter(|line| !flat(line)).copied());
+    let blocks = |line: &Line| {
+        let ends = line.ends().map(|[first, _]| exact_key(line.group, first));
+        ends.and_then(|key| counts.get(&key)).map_or(false, |&count| count > 1)
+    };
+    lines.iter().filter(flat).filter(|line| blocks(line)).count()
+}
+
 /// The joints on a way.
 pub fn joints(lines: &[Line], way: &[Step], counts: &EndCounts) -> Vec<Joint> {
     let joint = |two: &[Step]| {
         let (from, to) = (two[0], two[1]);
         let end = end_of(lines, from.line, !from.back)?;
         let ends = [end, end_of(lines, to.line, to.back)?];
-        let key = exact_key(lines[from.line as usize].group, end);
+        let key = exact_key(at(lines, from.line).group, end);
         let kind = if from.piece != to.piece {
             JointKind::Tolerance
         } else if counts.get(&key).map_or(false, |&count| count > 2) {

@@ -1,7 +1,6 @@
 //! Components: lines that share a key or a cell, directly or over other lines.
 
-use super::Line;
-use crate::delivery::Point;
+use super::{Line, Point};
 use std::collections::HashMap;
 
 /// What the ends at one node have in common: the group and two whole numbers.
