@@ -24,6 +24,12 @@
 extern "C" {
 #endif
 
+/* The version that this header is of. */
+#define LOVASUKU_VERSION_MAJOR 0
+#define LOVASUKU_VERSION_MINOR 1
+#define LOVASUKU_VERSION_PATCH 0
+#define LOVASUKU_VERSION "0.1.0"
+
 /* How much a call takes. */
 #define LOVASUKU_MOST_LINES 4096
 #define LOVASUKU_MOST_POINTS 65536
@@ -33,6 +39,17 @@ extern "C" {
 #define LOVASUKU_RECORD 5
 #define LOVASUKU_LINE_WORKSPACE 192
 #define LOVASUKU_END_WORKSPACE 64
+
+/* The rooms of a call in elements: of building for n lines and c coordinates, counted in pairs of x and y; of
+ * pairing for d ends. */
+#define lovasuku_table_room(n) ((size_t)LOVASUKU_RECORD * (size_t)(n))
+#define lovasuku_members_room(n) ((size_t)(n))
+#define lovasuku_marks_room(n) ((size_t)(n))
+#define lovasuku_merged_room(c) ((size_t)2 * (size_t)(c))
+#define lovasuku_spare_room(c) ((size_t)2 * (size_t)(c))
+#define lovasuku_workspace_room(n) ((size_t)LOVASUKU_LINE_WORKSPACE * (size_t)(n))
+#define lovasuku_pairs_room(d) ((size_t)(d))
+#define lovasuku_pairs_workspace_room(d) ((size_t)LOVASUKU_END_WORKSPACE * (size_t)(d))
 
 /* The refusals, in order of checking. An answer is minus one of these, and the first that applies is given. */
 enum lovasuku_refusal {

@@ -1,4 +1,4 @@
-//! Links the doors to the float leaves. The archive is made by `rt staticlib probe` in the
+//! Links the doors to the float leaves. The archive is made by `rt staticlib float_probe` in the
 //! repository's root, which `LOVASUKU_ROOT` names where it isn't two folders above this one.
 
 use std::path::{Path, PathBuf};
@@ -8,7 +8,7 @@ use std::{env, fs};
 
 /// The crates whose code the archive holds.
 const LEAVES: [&str; 8] =
-    ["rules", "bits", "whole_root", "root", "order", "cell", "direction", "probe"];
+    ["rules", "float_bits", "float_whole_root", "float_root", "float_order", "float_cell", "point_direction", "float_probe"];
 
 fn main() {
     println!("cargo:rerun-if-env-changed=LOVASUKU_ROOT");
@@ -19,17 +19,17 @@ fn main() {
         None => manifest.join("../.."),
     };
     let folder = root.join("target/staticlib");
-    let archive = folder.join("libprobe.a");
+    let archive = folder.join("libfloat_probe.a");
     let sources = LEAVES.map(|name| root.join("crates").join(name).join("src/lib.rt"));
     for path in sources.iter().chain([&archive]) {
         println!("cargo:rerun-if-changed={}", path.display());
     }
     if sources.iter().any(|source| written(&archive) < written(source)) {
-        let made = Command::new("rt").args(["staticlib", "probe"]).current_dir(&root).status();
-        assert!(matches!(made, Ok(status) if status.success()), "`rt staticlib probe` failed");
+        let made = Command::new("rt").args(["staticlib", "float_probe"]).current_dir(&root).status();
+        assert!(matches!(made, Ok(status) if status.success()), "`rt staticlib float_probe` failed");
     }
     println!("cargo:rustc-link-search=native={}", folder.display());
-    println!("cargo:rustc-link-lib=static=probe");
+    println!("cargo:rustc-link-lib=static=float_probe");
 }
 
 /// When a file was last written; nothing where there is no such file.

@@ -2,10 +2,10 @@
 use crate::building_cases::THREE_LINES;
 use crate::building_cases::close;
 use crate::building_cases::too_far;
-use crate::judge::Settings;
 use crate::judge::apart;
 use crate::judge::builds;
 use rules::Direction;
+use rules::Settings;
 
 // 2^-537, 2^-538, 2^511 and 2^512
 const LEAST_PRESENT: u64 = 0x1E60_0000_0000_0000;
@@ -16,20 +16,26 @@ const GREATEST_OF_LENGTH_ONE: u64 = 0x5FE0_0000_0000_0000;
 
 const LEAST_OF_LENGTH_NOUGHT: u64 = 0x5FF0_0000_0000_0000;
 
-// Whether the direction from 0,0 to dx,0 is (x, 0).
+// The direction from 0,0 to dx,0.
+fn along(dx: u64) -> Direction {
+    point_direction::piece_direction(&[0, 0, dx, 0], 2, 0)
+}
+
+// Whether that direction is (x, 0).
 fn toward(dx: u64, x: f64) -> bool {
-    let direction = direction::from_first(&[0, 0, dx, 0]);
+    let direction = along(dx);
     match direction {
         Direction::Absent => false,
         Direction::Toward(a, b) => {
-            bits::bits_of(a) == bits::bits_of(x) && bits::bits_of(b) == bits::bits_of(0.0)
+            float_bits::bits_of(a) == float_bits::bits_of(x)
+                && float_bits::bits_of(b) == float_bits::bits_of(0.0)
         }
     }
 }
 
 // Whether it is absent.
 fn absent(dx: u64) -> bool {
-    let direction = direction::from_first(&[0, 0, dx, 0]);
+    let direction = along(dx);
     match direction {
         Direction::Absent => true,
         Direction::Toward(_, _) => false,
@@ -38,7 +44,7 @@ fn absent(dx: u64) -> bool {
 
 // Three lines from 0,0: to dx,0, to -1,0 and to 0,1. Whether the first two are joined, and the third is alone.
 fn straight_on(dx: u64, limit: f64) -> bool {
-    let x = bits::of_bits(dx);
+    let x = float_bits::of_bits(dx);
     let lines = [0.0, 0.0, x, 0.0, 0.0, 0.0, -1.0, 0.0, 0.0, 0.0, 0.0, 1.0];
     let laid = [-1.0, 0.0, 0.0, 0.0, x, 0.0, 0.0, 0.0, 0.0, 1.0];
     let on = Settings {
@@ -61,7 +67,7 @@ fn straight_on(dx: u64, limit: f64) -> bool {
 
 // The same lines: whether none are joined.
 fn stops(dx: u64, limit: f64) -> bool {
-    let x = bits::of_bits(dx);
+    let x = float_bits::of_bits(dx);
     let lines = [0.0, 0.0, x, 0.0, 0.0, 0.0, -1.0, 0.0, 0.0, 0.0, 0.0, 1.0];
     let on = Settings {
         tolerance: 0.0,
@@ -86,7 +92,7 @@ pub fn directions() -> bool {
 
 // Whether the word that stands in a key for the cell of v at tolerance 1 is `word`: 2^63 more than the cell.
 fn in_cell(v: f64, word: u64) -> bool {
-    cell::cell_key(bits::bits_of(v), 1.0) == word
+    float_cell::cell_key(float_bits::bits_of(v), 1.0) == word
 }
 
 // N: -0.25 is in the cell of -0.75 and not in that of 0.5, in which -0.0 is.

@@ -1,5 +1,9 @@
 // A call with rooms that hold 7 everywhere, and whether what it leaves is what is expected: the written part, 7 beyond it, and zeros where 01 asks for them.
 use rules::Answer;
+use rules::END_ROOM;
+use rules::LINE_ROOM;
+use rules::RECORD;
+use rules::Settings;
 
 // Whether a begins with b and is 7 from there on.
 fn begins_u32(a: &[u32], b: &[u32]) -> bool {
@@ -84,7 +88,7 @@ fn in_bits(numbers: &[f64]) -> [u64; 16] {
     let mut i = 0;
     while i < 16 {
         if i < numbers.len() {
-            words[i] = bits::bits_of(numbers[i]);
+            words[i] = float_bits::bits_of(numbers[i]);
         }
         i += 1;
     }
@@ -118,10 +122,10 @@ fn shows<'a>(
     let mut at = 0;
     let mut k = 0;
     while k < chains {
-        if !accepted(asking::chain(input, merged, table, k), 0) {
+        if !accepted(build_question::chain(input, merged, table, k), 0) {
             return false;
         }
-        let part = asking::view(input, merged, table, k);
+        let part = build_question::view(input, merged, table, k);
         if laid.len() - at < part.len() {
             return false;
         }
@@ -132,14 +136,7 @@ fn shows<'a>(
         at = end;
         k += 1;
     }
-    at == laid.len() && refused(asking::chain(input, merged, table, chains), 10)
-}
-
-// How lines are joined.
-pub struct Settings {
-    pub tolerance: f64,
-    pub switch: u8,
-    pub limit: f64,
+    at == laid.len() && refused(build_question::chain(input, merged, table, chains), 10)
 }
 
 // The lines at tolerance 0 and with the switch at 0.
@@ -180,7 +177,7 @@ fn leaves(
     if laid.len() < copied {
         return false;
     }
-    let chains = records.len() / 5;
+    let chains = records.len() / RECORD;
     let kinds = [0u8; 3];
     let mut table_room = [7u32; 16];
     let mut members_room = [7u32; 4];
@@ -188,14 +185,12 @@ fn leaves(
     let mut merged_room = [7u64; 16];
     let mut spare = [7u64; 16];
     let mut workspace = [7u64; 580];
-    let answer = building::build(
+    let answer = build_chains::build(
         coordinates,
         counts,
         groups,
         &kinds[..n],
-        settings.tolerance,
-        settings.switch,
-        settings.limit,
+        settings,
         &mut table_room,
         &mut members_room,
         &mut marks_room,
@@ -209,7 +204,7 @@ fn leaves(
         && begins_u8(&marks_room, marks)
         && begins_u64(&merged_room, &laid[..copied])
         && cleared(&spare, coordinates.len())
-        && cleared(&workspace, n * 192)
+        && cleared(&workspace, n * LINE_ROOM)
         && shows(coordinates, &merged_room, &table_room, chains, laid)
 }
 
@@ -312,7 +307,7 @@ fn paired(answer: Answer, room: &[u32], workspace: &[u64], d: usize, pairs: &[u3
     if 4 < d {
         return false;
     }
-    accepted(answer, pairs.len() / 2) && begins_u32(room, pairs) && cleared(workspace, d * 64)
+    accepted(answer, pairs.len() / 2) && begins_u32(room, pairs) && cleared(workspace, d * END_ROOM)
 }
 
 // Whether the plain route gives these pairs, of four present ends at most.
@@ -324,7 +319,7 @@ fn plain(directions: &[f64], pieces: &[u32], limit: f64, pairs: &[u32]) -> bool 
     if 4 < d {
         return false;
     }
-    let answer = pairing::pairs_plain(
+    let answer = pair_calls::pairs_plain(
         &present[..d],
         directions,
         pieces,
@@ -344,7 +339,7 @@ fn indexed(directions: &[f64], pieces: &[u32], limit: f64, pairs: &[u32]) -> boo
     if 4 < d {
         return false;
     }
-    let answer = pairing::pairs_indexed(
+    let answer = pair_calls::pairs_indexed(
         &present[..d],
         directions,
         pieces,
@@ -364,7 +359,7 @@ fn chosen(directions: &[f64], pieces: &[u32], limit: f64, pairs: &[u32]) -> bool
     if 4 < d {
         return false;
     }
-    let answer = pairing::pairs_chosen(
+    let answer = pair_calls::pairs_chosen(
         &present[..d],
         directions,
         pieces,

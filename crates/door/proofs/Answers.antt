@@ -6,9 +6,12 @@ use mathlib.Core.Bool.{Bool}
 use mathlib.Core.List.{List}
 use native.Mathlib.Omega.{arith}
 use Rattle.rules.specs.declared.Answer.{Answer}
-use Rattle.rules.specs.Refusals.{Lent, LentEnds, refusalOf, pairRefusalOf, chainRefusalOf}
-use Rattle.rules.specs.Calls.{unless, answerOf, asked, Built, builtOf, Paired, pairsOf, Numbered, numberOf}
-use Rattle.selecting.proofs.Calls.{built-once, paired-once}
+use Rattle.rules.specs.declared.Settings.{Settings}
+use Rattle.rules.specs.Layout.{Lines}
+use Rattle.rules.specs.Refusals.{Rooms, LentEnds, refusalOf, pairRefusalOf, chainRefusalOf}
+use Rattle.rules.specs.Calls.{unless, answerOf, asked, viewed, Built, builtOf, Paired, pairsOf, Numbered, numberOf}
+use Rattle.pair_laws.proofs.Calls.{paired-once}
+use Rattle.build_chains.proofs.Built.{built-once}
 use Rattle.door.specs.Proper.{Proper}
 use lib.ListN.{length}
 
@@ -18,30 +21,24 @@ unfolding answerOf unless
 proper-answer zero n = tt
 proper-answer (suc k) n = omega arith
 
-pub proper-asked : (r : Answer) (input merged table : List ℕ) (k : ℕ) → r ≡ asked input merged table k → Proper r
+pub proper-asked : (r : Answer) (width : ℕ) (input merged table : List ℕ) (k : ℕ) → r ≡ asked width input merged table k → Proper r
 unfolding asked
-proper-asked r input merged table k e = subst Proper (sym e) (proper-answer (chainRefusalOf input merged table k) 0)
+proper-asked r width input merged table k e = subst Proper (sym e) (proper-answer (chainRefusalOf width input merged table k) 0)
 
 pub proper-paired : {alone : Bool} {i : LentEnds} {r : Answer} {pairs workspace : List ℕ} → Paired alone i r pairs workspace → Proper r
 proper-paired {alone} {i} p = subst Proper (sym (p .answer)) (proper-answer (pairRefusalOf alone i) (length (pairsOf i)))
 
-pub proper-built : {i : Lent} {r : Answer} {table members marks merged spare workspace : List ℕ}
-    → Built i r table members marks merged spare workspace → Proper r
-proper-built {i} b = subst Proper (sym (b .answer)) (proper-answer (refusalOf i) (builtOf i .number))
+pub proper-built : {l : Lines} {s : Settings} {o : Rooms} {r : Answer} {o′ : Rooms} → Built l s o r o′ → Proper r
+proper-built {l} {s} {o} b = subst Proper (sym (b .answer)) (proper-answer (refusalOf l s o) (builtOf l s .number))
 
 -- ---- one number
 
 numbered-once : {P Q : Answer → Type 0} {r r′ : ℕ} → ((a b : Answer) → P a → Q b → a ≡ b) → Numbered P r → Numbered Q r′ → r ≡ r′
 numbered-once same a b = a .number ∙ ap numberOf (same (a .answer) (b .answer) (a .determined) (b .determined)) ∙ sym (b .number)
 
-pub one-building : (i : Lent) (r r′ : ℕ) (table table′ members members′ marks marks′ merged merged′ spare spare′ workspace workspace′ : List ℕ)
-    → Numbered (λ a. Built i a table members marks merged spare workspace) r
-    → Numbered (λ a. Built i a table′ members′ marks′ merged′ spare′ workspace′) r′
-    → (r ≡ r′) × (table ≡ table′) × (members ≡ members′) × (marks ≡ marks′) × (merged ≡ merged′) × (spare ≡ spare′) × (workspace ≡ workspace′)
-one-building i r r′ table table′ members members′ marks marks′ merged merged′ spare spare′ workspace workspace′ a b =
-    let same = built-once i _ _ table table′ members members′ marks marks′ merged merged′ spare spare′ workspace workspace′ (a .determined) (b .determined) in
-    let r-once = numbered-once (λ x y p q. built-once i x y table table′ members members′ marks marks′ merged merged′ spare spare′ workspace workspace′ p q .0) a b in
-    (r-once, same .1, same .2, same .3, same .4, same .5, same .6)
+pub one-building : {l : Lines} {s : Settings} {o : Rooms} {r r′ : ℕ} {o₁ o₂ : Rooms}
+    → Numbered (λ a. Built l s o a o₁) r → Numbered (λ a. Built l s o a o₂) r′ → (r ≡ r′) × (o₁ ≡ o₂)
+one-building a b = (numbered-once (λ x y p q. built-once p q .0) a b, built-once (a .determined) (b .determined) .1)
 
 pub one-pairing : (alone : Bool) (i : LentEnds) (r r′ : ℕ) (pairs pairs′ workspace workspace′ : List ℕ)
     → Numbered (λ a. Paired alone i a pairs workspace) r
@@ -50,3 +47,12 @@ pub one-pairing : (alone : Bool) (i : LentEnds) (r r′ : ℕ) (pairs pairs′ w
 one-pairing alone i r r′ pairs pairs′ workspace workspace′ a b =
     let same = paired-once alone i _ _ pairs pairs′ workspace workspace′ (a .determined) (b .determined) in
     (numbered-once (λ x y p q. paired-once alone i x y pairs pairs′ workspace workspace′ p q .0) a b, same .1, same .2)
+
+-- the chain question and the view are equations: one number, and one list of coordinates
+pub one-question : (w : ℕ) (input merged table : List ℕ) (k : ℕ) {r r′ : ℕ}
+    → r ≡ numberOf (asked w input merged table k) → r′ ≡ numberOf (asked w input merged table k) → r ≡ r′
+one-question w input merged table k a b = a ∙ sym b
+
+pub one-view : (w : ℕ) (input merged table : List ℕ) (k : ℕ) {v v′ : List ℕ}
+    → v ≡ viewed w input merged table k → v′ ≡ viewed w input merged table k → v ≡ v′
+one-view w input merged table k a b = a ∙ sym b

@@ -1,9 +1,12 @@
 // The door: what a C or Rust host calls. A slice passes as a pointer and a length in elements. Every call answers one 64-bit number: its result,
 // or minus the number of the refusal.
 use rules::Answer;
+use rules::Settings;
 ghost use mathlib.Core.Path.{_≡_};
 ghost use Rattle.door.specs.Proper.{Proper};
 ghost use mathlib.Core.Bool.{true, false};
+ghost use Rattle.rules.specs.Layout.{lent};
+ghost use Rattle.rules.specs.Refusals.{rooms, lentEnds};
 ghost use Rattle.rules.specs.Calls.{numberOf, Numbered, Built, Paired, asked};
 
 // An answer as a host sees it.
@@ -34,16 +37,21 @@ pub extern "C" fn lovasuku_build(
     spare: &mut [u64],
     workspace: &mut [u64],
 ) -> u64
-    ensures { λ r. ⌜ Numbered (λ a. Built (record { coordinates = now (coordinates .entry); counts = now (counts .entry); groups = now (groups .entry); kinds = now (kinds .entry); tolerance = tolerance; switch = switch; limit = limit; table = now (table .entry); members = now (members .entry); marks = now (marks .entry); merged = now (merged .entry); spare = now (spare .entry); workspace = now (workspace .entry) }) a (now (table .exit)) (now (members .exit)) (now (marks .exit)) (now (merged .exit)) (now (spare .exit)) (now (workspace .exit))) r ⌝ }
+    ensures { λ r. ⌜ Numbered (λ a. Built (lent (now (coordinates .entry)) (now (counts .entry)) (now (groups .entry)) (now (kinds .entry)))
+        (record { tolerance = tolerance; switch = switch; limit = limit })
+        (rooms (now (table .entry)) (now (members .entry)) (now (marks .entry)) (now (merged .entry)) (now (spare .entry)) (now (workspace .entry)))
+        a (rooms (now (table .exit)) (now (members .exit)) (now (marks .exit)) (now (merged .exit)) (now (spare .exit)) (now (workspace .exit)))) r ⌝ }
 {
-    number(building::build(
+    number(build_chains::build(
         coordinates,
         counts,
         groups,
         kinds,
-        tolerance,
-        switch,
-        limit,
+        Settings {
+            tolerance,
+            switch,
+            limit,
+        },
         table,
         members,
         marks,
@@ -63,9 +71,11 @@ pub extern "C" fn lovasuku_pairs_plain(
     pairs: &mut [u32],
     workspace: &mut [u64],
 ) -> u64
-    ensures { λ r. ⌜ Numbered (λ a. Paired false (record { present = now (present .entry); directions = now (directions .entry); pieces = now (pieces .entry); limit = limit; pairs = now (pairs .entry); workspace = now (workspace .entry) }) a (now (pairs .exit)) (now (workspace .exit))) r ⌝ }
+    ensures { λ r. ⌜ Numbered (λ a. Paired false
+        (lentEnds (now (present .entry)) (now (directions .entry)) (now (pieces .entry)) limit (now (pairs .entry)) (now (workspace .entry)))
+        a (now (pairs .exit)) (now (workspace .exit))) r ⌝ }
 {
-    number(pairing::pairs_plain(present, directions, pieces, limit, pairs, workspace))
+    number(pair_calls::pairs_plain(present, directions, pieces, limit, pairs, workspace))
 }
 
 // The indexed route: the number of pairs.
@@ -78,9 +88,11 @@ pub extern "C" fn lovasuku_pairs_indexed(
     pairs: &mut [u32],
     workspace: &mut [u64],
 ) -> u64
-    ensures { λ r. ⌜ Numbered (λ a. Paired true (record { present = now (present .entry); directions = now (directions .entry); pieces = now (pieces .entry); limit = limit; pairs = now (pairs .entry); workspace = now (workspace .entry) }) a (now (pairs .exit)) (now (workspace .exit))) r ⌝ }
+    ensures { λ r. ⌜ Numbered (λ a. Paired true
+        (lentEnds (now (present .entry)) (now (directions .entry)) (now (pieces .entry)) limit (now (pairs .entry)) (now (workspace .entry)))
+        a (now (pairs .exit)) (now (workspace .exit))) r ⌝ }
 {
-    number(pairing::pairs_indexed(present, directions, pieces, limit, pairs, workspace))
+    number(pair_calls::pairs_indexed(present, directions, pieces, limit, pairs, workspace))
 }
 
 // The chosen route: the number of pairs.
@@ -93,15 +105,17 @@ pub extern "C" fn lovasuku_pairs_chosen(
     pairs: &mut [u32],
     workspace: &mut [u64],
 ) -> u64
-    ensures { λ r. ⌜ Numbered (λ a. Paired false (record { present = now (present .entry); directions = now (directions .entry); pieces = now (pieces .entry); limit = limit; pairs = now (pairs .entry); workspace = now (workspace .entry) }) a (now (pairs .exit)) (now (workspace .exit))) r ⌝ }
+    ensures { λ r. ⌜ Numbered (λ a. Paired false
+        (lentEnds (now (present .entry)) (now (directions .entry)) (now (pieces .entry)) limit (now (pairs .entry)) (now (workspace .entry)))
+        a (now (pairs .exit)) (now (workspace .exit))) r ⌝ }
 {
-    number(pairing::pairs_chosen(present, directions, pieces, limit, pairs, workspace))
+    number(pair_calls::pairs_chosen(present, directions, pieces, limit, pairs, workspace))
 }
 
 // The chain question: 0, or -10 where the table has no chain k in these coordinates.
 #[no_mangle]
 pub extern "C" fn lovasuku_chain(coordinates: &[u64], merged: &[u64], table: &[u32], k: u64) -> u64
-    ensures { λ r. ⌜ r ≡ numberOf (asked (now (coordinates .entry)) (now (merged .entry)) (now (table .entry)) k) ⌝ }
+    ensures { λ r. ⌜ r ≡ numberOf (asked 2 (now (coordinates .entry)) (now (merged .entry)) (now (table .entry)) k) ⌝ }
 {
-    number(asking::chain(coordinates, merged, table, k as usize))
+    number(build_question::chain(coordinates, merged, table, k as usize))
 }

@@ -8,7 +8,7 @@ use lib.Ieee.{Float}
 use lib.ListN.{length}
 use borrow.Author.Tests.{eqb-true}
 use Rattle.rules.specs.Refusals.{LentEnds, pairRefusalOf}
-use Rattle.refusals.proofs.Laws.{Left}
+use Rattle.build_refusals.proofs.Laws.{Left}
 use Rattle.pair_refusals.specs.Ladder.{pairTests, pairRefusalBy}
 
 pub refusal-by : (alone : Bool) (i : LentEnds)

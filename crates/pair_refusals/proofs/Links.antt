@@ -8,7 +8,7 @@ use lib.ListN.{length, getD, take, set, replicate, getD-replicate, length-replic
 use lib.Seq.{getD-set-same, getD-set-other}
 use Rattle.rules.specs.Lists.{count}
 use Rattle.rules.specs.Refusals.{mostEnds}
-use Rattle.pair_refusals.specs.Linked.{bucketOf, LastBefore, Linked, Chain}
+use Rattle.pair_refusals.specs.Linked.{bucketOf, LastBefore, Linked, LinkedChain}
 use Rattle.pair_refusals.proofs.Times.{count-gap, count-same, count-other}
 
 -- among the first i, p stands as often as among those up to its bucket's last
@@ -19,7 +19,7 @@ count-last l p i k h w =
 
 -- ---- along a chain
 
-module _ {l next : List ℕ} {k p : ℕ} (C : Chain l next k p) (h : 0 < k) where
+module _ {l next : List ℕ} {k p : ℕ} (C : LinkedChain l next k p) (h : 0 < k) where
   word : LastBefore l (bucketOf p) (k - 1) (getD next (k - 1) 0)
   word =
       let e : k ≡ suc (k - 1) = omega arith in
@@ -28,7 +28,7 @@ module _ {l next : List ℕ} {k p : ℕ} (C : Chain l next k p) (h : 0 < k) wher
   pub chain-less : getD next (k - 1) 0 < k
   chain-less = omega (arith, word .within)
 
-  pub chain-next : Chain l next (getD next (k - 1) 0) p
+  pub chain-next : LinkedChain l next (getD next (k - 1) 0) p
   chain-next = record {
     within = omega (arith, word .within, C .within);
     few = omega (arith, word .within, C .few);
@@ -72,7 +72,7 @@ table-start l n h = record {
 
 module _ {l last next : List ℕ} {i : ℕ} (t : Table l last next i) (p b : ℕ) (e : bucketOf p ≡ b) (h : b < 8192) where
   -- p's bucket is gone through from its last place on
-  pub table-chain : i ≤ length l → i ≤ mostEnds → Chain l next (getD last b 0) p
+  pub table-chain : i ≤ length l → i ≤ mostEnds → LinkedChain l next (getD last b 0) p
   table-chain n m =
       let w = t .heads b h in
       record {

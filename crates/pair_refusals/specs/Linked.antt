@@ -20,7 +20,7 @@ abbrev pub Linked : List ℕ → List ℕ → ℕ → Type 0
 Linked l next i = (g : ℕ) → g < i → LastBefore l (bucketOf (getD l g 0)) g (getD next g 0)
 
 -- what is gone through from the word k on, in p's bucket
-pub record Chain (l next : List ℕ) (k p : ℕ) : Type 0 where
+pub record LinkedChain (l next : List ℕ) (k p : ℕ) : Type 0 where
   pub within : k ≤ length l
   pub few : k ≤ mostEnds
   pub here : (g : ℕ) → k ≡ suc g → bucketOf (getD l g 0) ≡ bucketOf p

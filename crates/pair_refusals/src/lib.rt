@@ -1,4 +1,6 @@
 // The refusals of pairing, in the order of checking.
+use rules::END_ROOM;
+use rules::MOST_ENDS;
 ghost use mathlib.Core.Path.{_≡_};
 ghost use mathlib.Core.Bool.{not, _&&_, _||_};
 ghost use Prim.Native.Nat.{ℕ, _*_, _≤_, _<_};
@@ -7,13 +9,8 @@ ghost use lib.Ieee.Scale.{finite};
 ghost use lib.ListN.{length, take};
 ghost use Rattle.rules.specs.Lists.{count};
 ghost use Rattle.rules.specs.Refusals.{mostEnds, endRoom, moreThanTwice, anyWild};
-ghost use Rattle.pair_refusals.specs.Linked.{bucketOf, Chain};
+ghost use Rattle.pair_refusals.specs.Linked.{bucketOf, LinkedChain};
 ghost use Rattle.pair_refusals.specs.Ladder.{pairRefusalBy};
-
-// How many ends a call takes, and the words of workspace that each asks for.
-const MOST_ENDS: usize = 8192;
-
-const END_ROOM: usize = 64;
 
 // Below so many pieces each is compared with all before it.
 const FEW: usize = 80;
@@ -80,7 +77,7 @@ fn bucket(p: u32) -> usize
 
 // How often p stands among the first `from` pieces, of which the last is in p's bucket: those of the bucket are gone through.
 fn times_linked(pieces: &[u32], next: &[u16; 8192], from: u16, p: u32) -> usize
-    requires { ⌜ Chain (now pieces) (now next) from p ⌝ }
+    requires { ⌜ LinkedChain (now pieces) (now next) from p ⌝ }
     ensures { λ r. ⌜ r ≡ count p (take from (now (pieces .entry))) ⌝ }
 {
     let mut c: usize = 0;
@@ -134,8 +131,8 @@ fn wild(mark: u8, x: f64, y: f64) -> bool
     if mark != 1 {
         return false;
     }
-    if order::is_finite(x) {
-        return !order::is_finite(y);
+    if float_order::is_finite(x) {
+        return !float_order::is_finite(y);
     }
     true
 }
@@ -174,10 +171,10 @@ pub fn pair_refusal(
     if tables_differ(d, present.len(), directions.len()) {
         return 2;
     }
-    if refusals::any_above_one(present) {
+    if build_refusals::any_above_one(present) {
         return 3;
     }
-    if refusals::limit_bad(limit) {
+    if build_refusals::limit_bad(limit) {
         return 6;
     }
     if room_short(d, pairs, workspace) {

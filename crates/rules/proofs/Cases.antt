@@ -10,7 +10,7 @@ use lib.Ieee.{ofBits, lt, eq, le, add, sub, mul, div}
 use Rattle.rules.specs.Root.{root}
 use Rattle.rules.specs.Plane.{float, sameInt, unity, nought}
 use Rattle.rules.specs.Cell.{cell}
-use Rattle.rules.specs.Layout.{listed}
+use Rattle.rules.specs.Layout.{listed, lent, build}
 use Rattle.rules.specs.Refusals.{pairRefusalOf}
 use Rattle.rules.specs.Calls.{pairsOf}
 use Rattle.rules.proofs.Computing.{book}
@@ -236,3 +236,15 @@ slipCases = slip-order ∷ slip-zero ∷ slip-nan ∷ []
 pub slips : T (every slipCases)
 unfolding slipCases lt eq le add mul ofBits
 slips = tt
+
+-- Points of three numbers: the extras ride along, also where a line is turned, and of a repeated x, y the earlier one's remain.
+pub extrasRide : Bool
+unfolding book
+extrasRide =
+    let r = build 3 (record { tolerance = float +1; switch = 0; limit = float +0 })
+    (lent (+0 ∷ +0 ∷ 5 ∷ +1 ∷ +0 ∷ 6 ∷ +2 ∷ +0 ∷ 8 ∷ +1 ∷ -0 ∷ 7 ∷ []) (2 ∷ 2 ∷ []) (0 ∷ 0 ∷ []) (0 ∷ 0 ∷ [])) in
+    same (r .merged) (+0 ∷ +0 ∷ 5 ∷ +1 ∷ +0 ∷ 6 ∷ +2 ∷ +0 ∷ 8 ∷ []) && same (r .marks) (0 ∷ 1 ∷ [])
+
+pub extrasRidden : T extrasRide
+unfolding extrasRide lt eq div
+extrasRidden = tt

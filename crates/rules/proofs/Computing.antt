@@ -5,13 +5,13 @@ use lib.Ieee.{div, ofBits, size, units}
 use Rattle.rules.specs.Lists.{count, stands, from, upto, total, keep, first}
 use Rattle.rules.specs.Root.{digits, floorRoot, rootUnits}
 use Rattle.rules.specs.Cell.{floor64, cell}
-use Rattle.rules.specs.Plane.{points, flat, equal, sameKey, exactKey, cellKey, toward, straight, directionOf, clamp, dot, measure}
+use Rattle.rules.specs.Plane.{numbersOf, reads, points, flat, equal, sameKey, exactKey, cellKey, keyOf, toward, straight, directionOf, clamp, dot, measure}
 use Rattle.rules.specs.Selecting.{within, pair, pairsWith, qualifying, before, insert, sorted, greedy, select}
 use Rattle.rules.specs.Walking.{back, forward, walk, walksFrom, walks}
 use Rattle.rules.specs.Chaining.{mate, lay, pieceAt, run, keyAt, node, endAt, chosen, joined, partner, merged, merge, join, plain, alone, pieces, limitOf, roundOne, roundTwo, chains}
 use Rattle.rules.specs.Layout.{lines, copied, copy, five, table, laidOut, build, given, ends, listed}
 use Rattle.rules.specs.Refusals.{firstOf, anyAbove, limitBad, refusalOf, moreThanTwice, anyWild, pairRefusalOf}
-use Rattle.rules.specs.Calls.{builtOf, pairsOf}
+use Rattle.rules.specs.Calls.{pairsOf}
 
 unfoldable pub the-library : Unit {0}
 unfolding flatMap div ofBits size units
@@ -22,7 +22,7 @@ unfolding count stands from upto total keep first digits floorRoot rootUnits flo
 the-numbers = tt
 
 unfoldable pub the-plane : Unit {0}
-unfolding points flat equal sameKey exactKey cellKey toward straight directionOf clamp dot measure
+unfolding numbersOf reads points flat equal sameKey exactKey cellKey keyOf toward straight directionOf clamp dot measure
 the-plane = tt
 
 unfoldable pub the-pairs : Unit {0}
@@ -34,7 +34,7 @@ unfolding back forward walk walksFrom walks mate lay pieceAt run keyAt node endA
 the-chains = tt
 
 unfoldable pub the-calls : Unit {0}
-unfolding lines copied copy five table laidOut build given ends listed firstOf anyAbove limitBad refusalOf moreThanTwice anyWild pairRefusalOf builtOf pairsOf
+unfolding lines copied copy five table laidOut build given ends listed firstOf anyAbove limitBad refusalOf moreThanTwice anyWild pairRefusalOf pairsOf
 the-calls = tt
 
 unfoldable pub book : Unit {0}

@@ -1,9 +1,9 @@
 -- 01, How much a contract has to say: what each public call determines, its answer and every lent slice at return. A refused call stores nothing.
 -- In each record the plain names are what is lent, as it stands at entry, and the names with a prime what it is at return.
-use Rattle.rules.specs.Library.{ℕ, zero, suc, _-_, _*_, _^_, _≡_, Bool, List, [], _++_, length, take, drop, replicate, Answer, Accepted, Refused}
+use Rattle.rules.specs.Library.{ℕ, zero, suc, _-_, _*_, _^_, _≡_, Bool, List, [], _++_, length, take, drop, replicate, Answer, Accepted, Refused, Settings}
 use Rattle.rules.specs.Selecting.{Pair, select}
-use Rattle.rules.specs.Layout.{Laid, build, ends, listed}
-use Rattle.rules.specs.Refusals.{Lent, LentEnds, refusalOf, pairRefusalOf, chainRefusalOf, sourceOf, entry, lineRoom, endRoom}
+use Rattle.rules.specs.Layout.{Lines, Laid, build, ends, listed}
+use Rattle.rules.specs.Refusals.{Rooms, LentEnds, refusalOf, pairRefusalOf, chainRefusalOf, sourceOf, entry, lineRoom, endRoom}
 
 -- the number that a host sees: a result counts up from 0, and refusal k is k below 2 ^ 64, which is -k
 unfoldable pub numberOf : Answer → ℕ
@@ -32,17 +32,24 @@ unfoldable pub cleared : ℕ → List ℕ → List ℕ
 cleared n l = replicate n 0 ++ drop n l
 
 -- ---- building
-unfoldable pub builtOf : Lent → Laid
-builtOf i = build (i .coordinates) (i .counts) (i .groups) (i .kinds) (record { tolerance = i .tolerance; switch = i .switch; limit = i .limit })
+abbrev pub builtOf : Lines → Settings → Laid
+builtOf l s = build 2 s l
 
-pub record Built (i : Lent) (r : Answer) (table′ members′ marks′ merged′ spare′ workspace′ : List ℕ) : Type 0 where
-  pub answer : r ≡ answerOf (refusalOf i) (builtOf i .number)
-  pub table : table′ ≡ unless (refusalOf i) (i .table) (written (builtOf i .records) (i .table))
-  pub members : members′ ≡ unless (refusalOf i) (i .members) (written (builtOf i .members) (i .members))
-  pub marks : marks′ ≡ unless (refusalOf i) (i .marks) (written (builtOf i .marks) (i .marks))
-  pub merged : merged′ ≡ unless (refusalOf i) (i .merged) (written (builtOf i .merged) (i .merged))
-  pub spare : spare′ ≡ unless (refusalOf i) (i .spare) (cleared (length (i .coordinates)) (i .spare))
-  pub workspace : workspace′ ≡ unless (refusalOf i) (i .workspace) (cleared (length (i .counts) * lineRoom) (i .workspace))
+-- the rooms with the answer written over their beginnings, and with zeros where it was worked out
+unfoldable pub filled : Lines → Settings → Rooms → Rooms
+filled l s o =
+    record {
+      table = written (builtOf l s .records) (o .table);
+      members = written (builtOf l s .members) (o .members);
+      marks = written (builtOf l s .marks) (o .marks);
+      merged = written (builtOf l s .merged) (o .merged);
+      spare = cleared (length (l .coordinates)) (o .spare);
+      workspace = cleared (length (l .counts) * lineRoom) (o .workspace);
+    }
+
+pub record Built (l : Lines) (s : Settings) (o : Rooms) (r : Answer) (o′ : Rooms) : Type 0 where
+  pub answer : r ≡ answerOf (refusalOf l s o) (builtOf l s .number)
+  pub rooms : o′ ≡ unless (refusalOf l s o) o (filled l s o)
 
 -- ---- pairing, by whichever route; `alone` for the indexed one
 unfoldable pub pairsOf : LentEnds → List Pair
@@ -53,12 +60,12 @@ pub record Paired (alone : Bool) (i : LentEnds) (r : Answer) (pairs′ workspace
   pub pairs : pairs′ ≡ unless (pairRefusalOf alone i) (i .pairs) (written (listed (pairsOf i)) (i .pairs))
   pub workspace : workspace′ ≡ unless (pairRefusalOf alone i) (i .workspace) (cleared (length (i .pieces) * endRoom) (i .workspace))
 
--- ---- the chain question and the view
-unfoldable pub asked : List ℕ → List ℕ → List ℕ → ℕ → Answer
-asked input merged table k = answerOf (chainRefusalOf input merged table k) 0
+-- ---- the chain question and the view, of points of w numbers each
+unfoldable pub asked : ℕ → List ℕ → List ℕ → List ℕ → ℕ → Answer
+asked w input merged table k = answerOf (chainRefusalOf w input merged table k) 0
 
 -- chain k's coordinates, a part of the slice that its source names; no part of the input where there is no such chain
-unfoldable pub viewed : List ℕ → List ℕ → List ℕ → ℕ → List ℕ
-viewed input merged table k =
-    unless (chainRefusalOf input merged table k) []
-    (take (entry table k 4 * 2) (drop (entry table k 3 * 2) (sourceOf (entry table k 2) input merged)))
+unfoldable pub viewed : ℕ → List ℕ → List ℕ → List ℕ → ℕ → List ℕ
+viewed w input merged table k =
+    unless (chainRefusalOf w input merged table k) []
+    (take (entry table k 4 * w) (drop (entry table k 3 * w) (sourceOf (entry table k 2) input merged)))

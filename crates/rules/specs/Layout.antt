@@ -1,16 +1,30 @@
 -- 01, Input and output: numbers read as lines and ends, and chains and pairs written as numbers.
-use Rattle.rules.specs.Library.{ℕ, suc, _+_, Bool, true, false, List, [], _∷_, _++_, flatMap, eqb, Float, nan, length, getD, take, drop, Direction, Absent, Toward}
+use Rattle.rules.specs.Library.{ℕ, suc, _+_, Bool, true, false, List, [], _∷_, _++_, flatMap, eqb, Float, nan, length, getD, take, drop, Direction, Absent, Toward, Settings}
 use Rattle.rules.specs.Lists.{total}
 use Rattle.rules.specs.Plane.{Point, points, flat}
 use Rattle.rules.specs.Selecting.{End, Pair}
-use Rattle.rules.specs.Chaining.{Piece, Line, Settings, chains}
+use Rattle.rules.specs.Chaining.{Piece, Line, chains}
 
 -- ---- building
+-- the lines that a call lends: coordinates, and for each line a coordinate count, a group and a kind
+pub record Lines : Type 0 where
+  pub coordinates : List ℕ
+  pub counts : List ℕ
+  pub groups : List ℕ
+  pub kinds : List ℕ
+
+abbrev pub lent : List ℕ → List ℕ → List ℕ → List ℕ → Lines
+lent a b c d = record { coordinates = a; counts = b; groups = c; kinds = d }
+
 -- the lines follow one another in the points
 unfoldable pub lines : List Point → List ℕ → List ℕ → List ℕ → List Line
 lines ps [] gs ks = []
 lines ps (c ∷ cs) gs ks =
     record { points = take c ps; group = getD gs 0 0; kind = getD ks 0 0 } ∷ lines (drop c ps) cs (drop 1 gs) (drop 1 ks)
+
+-- with points of w numbers each
+abbrev pub linesIn : ℕ → Lines → List Line
+linesIn w l = lines (points w (l .coordinates)) (l .counts) (l .groups) (l .kinds)
 
 -- a chain of one line has source 0 and no copy
 unfoldable pub copied : Piece → Bool
@@ -38,18 +52,19 @@ pub record Laid : Type 0 where
   pub marks : List ℕ
   pub merged : List ℕ
 
-unfoldable pub laidOut : List ℕ → List Piece → Laid
-laidOut counts ps =
+unfoldable pub laidOut : ℕ → List ℕ → List Piece → Laid
+laidOut w counts ps =
     record {
       number = length ps;
       records = table counts 0 0 ps;
       members = flatMap (λ p. p .lines) ps;
       marks = flatMap (λ p. p .marks) ps;
-      merged = flat (flatMap copy ps);
+      merged = flat w (flatMap copy ps);
     }
 
-unfoldable pub build : List ℕ → List ℕ → List ℕ → List ℕ → Settings → Laid
-build coordinates counts groups kinds s = laidOut counts (chains s (lines (points coordinates) counts groups kinds))
+-- of points of width w
+unfoldable pub build : ℕ → Settings → Lines → Laid
+build w s l = laidOut w (l .counts) (chains s (linesIn w l))
 
 -- ---- pairing
 -- the direction numbers of an absent end aren't looked at

@@ -1,26 +1,42 @@
 -- 01, Ends and Direction: points, the keys that group ends, directions, and the measure of a pair.
 -- A coordinate is its 64 bits: a NaN keeps its payload, and the exact key is the bits.
-use Rattle.rules.specs.Library.{ℕ, Bool, true, false, _&&_, not, cond, List, [], _∷_, none, some, eqb, ℤ, pos, negsuc, Float, fin, binary64, ofBits, add, sub, mul, div, lt, eq, Direction, Absent, Toward}
+use Rattle.rules.specs.Library.{ℕ, zero, suc, _/_, Bool, true, false, _&&_, not, cond, List, [], _∷_, _++_, length, getD, take, drop, replicate, none, some, eqb, ℤ, pos, negsuc, Float, fin, binary64, ofBits, add, sub, mul, div, lt, eq, Direction, Absent, Toward, Grid, Exact, Cells}
 use Rattle.rules.specs.Lists.{first}
 use Rattle.rules.specs.Root.{root}
 use Rattle.rules.specs.Cell.{cell}
 
+-- x, y, and the extras that ride along: nothing here but reading and writing looks at them
 pub record Point : Type 0 where
   pub x : ℕ
   pub y : ℕ
+  pub extras : List ℕ
 
+-- a point of no extras
 abbrev pub point : ℕ → ℕ → Point
-point a b = record { x = a; y = b }
+point a b = record { x = a; y = b; extras = [] }
 
--- x, y, x, y .. as points, and back; an odd last number is no point
-unfoldable pub points : List ℕ → List Point
-points [] = []
-points (a ∷ []) = []
-points (a ∷ b ∷ l) = point a b ∷ points l
+-- ---- points as numbers. Each has w of them, its width: x, y and w - 2 extras
 
-unfoldable pub flat : List Point → List ℕ
-flat [] = []
-flat (p ∷ l) = p .x ∷ p .y ∷ flat l
+-- the point that some numbers are
+abbrev pub pointOf : List ℕ → Point
+pointOf l = record { x = getD l 0 0; y = getD l 1 0; extras = drop 2 l }
+
+-- the w numbers of a point, with zeros for extras that it lacks
+unfoldable pub numbersOf : ℕ → Point → List ℕ
+numbersOf w p = take w (p .x ∷ p .y ∷ (p .extras ++ replicate w 0))
+
+-- the first n points of l
+unfoldable pub reads : ℕ → ℕ → List ℕ → List Point
+reads w zero l = []
+reads w (suc n) l = pointOf (take w l) ∷ reads w n (drop w l)
+
+-- numbers as points, and back; fewer than w numbers at the end are no point
+unfoldable pub points : ℕ → List ℕ → List Point
+points w l = reads w (length l / w) l
+
+unfoldable pub flat : ℕ → List Point → List ℕ
+flat w [] = []
+flat w (p ∷ l) = numbersOf w p ++ flat w l
 
 abbrev pub float : ℕ → Float
 float bits = ofBits binary64 bits
@@ -49,6 +65,11 @@ exactKey g p = key g (pos (p .x)) (pos (p .y))
 -- round two: the cells of x and y
 unfoldable pub cellKey : Float → ℕ → Point → Key
 cellKey tolerance g p = key g (cell tolerance (p .x)) (cell tolerance (p .y))
+
+-- the key that a round's grid gives to a point of a group
+unfoldable pub keyOf : Grid → ℕ → Point → Key
+keyOf Exact g p = exactKey g p
+keyOf (Cells tolerance) g p = cellKey tolerance g p
 
 -- ---- directions
 abbrev pub nought : Float

@@ -31,6 +31,8 @@
 //! | pair the ends at one node | [`Rooms::pairs`] |
 //! | look up a chain in a stored table | [`chain_question`], [`chain_coordinates`] |
 //! | keep the chains, as tylertoo does | [`build_chains`] |
+//! | join more lines than a call holds, with what joined them and the gaps left | [`large`] |
+//! | look for ends near one another | [`Nearest`] |
 //! | lend rooms of one's own | [`door`] |
 //!
 //! No function panics, and none asks its caller for unsafe code. Rooms are lent again and again:
@@ -42,7 +44,9 @@
 mod chains;
 mod declared;
 pub mod door;
+pub mod large;
 mod lines;
+mod nearest;
 mod owned;
 mod pairing;
 mod question;
@@ -54,6 +58,7 @@ mod two;
 
 pub use chains::{Chain, Chains, Iter};
 pub use lines::{Lines, LinesBuf, PASSING, PLAIN};
+pub use nearest::Nearest;
 pub use owned::{build_chains, LineInput, OwnedChain};
 pub use pairing::{Ends, Route};
 pub use question::{chain_coordinates, chain_question};

@@ -1,20 +1,29 @@
 //! Runs the command; see `lovasuku --help`.
 
-use lovasuku_command::{arguments, command};
+use lovasuku_command::arguments::{asked, Asked, Request};
+use lovasuku_command::{command, manual};
+use std::io::Write;
 use std::process::ExitCode;
 
 fn main() -> ExitCode {
-    let request = arguments::request();
-    match command::run(&request) {
-        Ok(summary) => {
-            if !request.quiet {
-                eprint!("{summary}");
-            }
-            ExitCode::SUCCESS
-        }
+    let done = match asked() {
+        Asked::Join(request) => join(&request),
+        Asked::Manual(page) => manual::page(page.as_deref())
+            .and_then(|page| Ok(std::io::stdout().lock().write_all(&page)?)),
+    };
+    match done {
+        Ok(()) => ExitCode::SUCCESS,
         Err(fault) => {
             eprintln!("lovasuku: {fault:#}");
             ExitCode::FAILURE
         }
     }
+}
+
+fn join(request: &Request) -> anyhow::Result<()> {
+    let summary = command::run(request)?;
+    if !request.quiet {
+        eprint!("{summary}");
+    }
+    Ok(())
 }

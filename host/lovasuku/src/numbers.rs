@@ -28,15 +28,23 @@ pub fn short(x: f64) -> String {
 }
 
 fn to_digits(x: f64, digits: i32) -> String {
+    let whole = x.abs().max(1e-12).log10().floor() as i32;
+    to_decimals(x, (digits - 1 - whole).clamp(0, 17) as usize)
+}
+
+/// A number to so many decimals at most. A zero has no sign.
+pub fn to_decimals(x: f64, decimals: usize) -> String {
     if x.abs() >= 1e15 {
         return format!("{x:.2e}");
     }
-    let whole = x.abs().max(1e-12).log10().floor() as i32;
-    let behind = (digits - 1 - whole).clamp(0, 17) as usize;
-    let text = format!("{x:.behind$}");
-    match text.contains('.') {
-        true => text.trim_end_matches('0').trim_end_matches('.').to_owned(),
-        false => text,
+    let text = format!("{:.decimals$}", x + 0.0);
+    let text = match text.contains('.') {
+        true => text.trim_end_matches('0').trim_end_matches('.'),
+        false => &text,
+    };
+    match text {
+        "-0" => "0".into(),
+        _ => text.to_owned(),
     }
 }
 
@@ -56,6 +64,7 @@ mod tests {
         let all = [0.0, 5.0, 4.242640687, 2310.4321, 123456789.4, 0.000123456789, 1e300];
         let wanted = ["0", "5", "4.24264", "2310.43", "123456789", "0.000123457", "1.00e300"];
         assert_eq!(all.map(rounded), wanted);
+        assert_eq!([-0.0, -1e-30].map(rounded), ["0", "0"]);
         assert_eq!([7.029224, 0.565685, 2310.43].map(short), ["7.03", "0.566", "2310"]);
     }
 }

@@ -2,88 +2,210 @@
 
 use crate::arguments::Request;
 use crate::classes::Classes;
-use crate::delivery::Delivery;
+use crate::delivery::{Delivery, Point};
+use crate::joining::Why;
+use crate::measure::{Measure, RADIUS};
 use crate::numbers::{count, parted, rounded};
 use crate::tally::Tally;
 use std::fmt::Write;
 use std::time::Duration;
 
-/// The summary of a run.
-pub fn summary(
-    request: &Request,
-    delivery: &Delivery,
-    classes: &Classes,
-    tally: &Tally,
-    took: Duration,
-) -> String {
-    let mut out = String::new();
-    // Writing to a text never fails.
-    let mut row =
-        |name: &str, words: String| writeln!(out, "{name:>9}  {words}").unwrap_or_default();
-    row("lines", lines(request, classes, tally));
-    row("chains", chains(tally));
-    row("joined", joined(tally));
-    row("bridges", bridges(request, delivery, tally));
-    if let Some(words) = limit(request) {
-        row("limit", words);
-    }
-    row("took", format!("{:.3} seconds", took.as_secs_f64()));
-    out
+/// What the summary of a run tells of.
+pub struct Summary<'a> {
+    pub request: &'a Request,
+    pub delivery: &'a Delivery<'a>,
+    pub classes: &'a Classes<'a>,
+    pub measure: &'a Measure,
+    pub tally: &'a Tally,
+    /// What the user has to know, beside what the delivery warns of.
+    pub warnings: &'a [String],
 }
 
-fn lines(request: &Request, classes: &Classes, tally: &Tally) -> String {
-    let mut words = parted(tally.lines);
-    if tally.passing > 0 {
-        words += &format!(", of which {} passed through", parted(tally.passing));
-    }
-    if let Some(name) = &request.class {
-        words += &format!(", in {} by {name:?}", count(classes.values.len(), "class"));
-    }
-    words
-}
-
-fn chains(tally: &Tally) -> String {
-    let words = parted(tally.chains);
-    match tally.longest_chain {
-        None => words,
-        Some(longest) => format!(
-            "{words}; the longest is chain {}: {}, {} long",
-            longest.chain,
-            count(longest.lines, "line"),
-            rounded(longest.length),
-        ),
-    }
-}
-
-fn joined(tally: &Tally) -> String {
-    let [nodes, junctions, tolerance] = [tally.nodes, tally.junctions, tally.tolerance].map(parted);
-    format!("{nodes} at nodes, {junctions} at junctions, {tolerance} by the tolerance")
-}
-
-fn bridges(request: &Request, delivery: &Delivery, tally: &Tally) -> String {
-    let (chain, longest) = match tally.longest_bridge {
-        None => return "none: every segment is of the input".into(),
-        Some(longest) => longest,
-    };
-    let [a, b] = longest.lines.map(|line| delivery.name(line));
-    let mut words = format!(
-        "{} made by the tolerance; the longest is {} long, from line {a} to line {b} in chain \
-         {chain}",
-        count(tally.bridges, "segment"),
-        rounded(longest.length()),
-    );
-    if request.bridges.is_none() {
-        words += " (--bridges FILE lists them)";
-    }
-    words
-}
-
-fn limit(request: &Request) -> Option<String> {
-    match (request.bend, request.settings.limit) {
-        (Some(bend), Some(limit)) => {
-            Some(format!("{limit}, which a bend of {bend} degrees stands for"))
+impl Summary<'_> {
+    /// The summary, a row for each thing that there is to say.
+    pub fn text(&self, took: Duration) -> String {
+        let rows = [
+            ("lines", Some(self.lines())),
+            ("empty", self.empty()),
+            ("left out", self.left_out()),
+            ("chains", Some(self.chains())),
+            ("joined", Some(self.joined())),
+            ("bridges", Some(self.bridges())),
+            ("gaps", self.gaps()),
+            ("limit", self.limit()),
+            ("lengths", self.lengths()),
+        ];
+        let mut out = String::new();
+        // Writing to a text never fails.
+        let mut row =
+            |name: &str, words: &str| writeln!(out, "{name:>9}  {words}").unwrap_or_default();
+        for (name, words) in rows {
+            if let Some(words) = words {
+                row(name, &words);
+            }
         }
-        (Some(bend), None) => Some(format!("a bend of {bend} degrees pairs no junction")),
-        (None, _) => None,
+        for warning in self.delivery.warnings.iter().chain(self.warnings) {
+            row("warning", warning);
+        }
+        row("took", &format!("{:.3} seconds", took.as_secs_f64()));
+        out
     }
+
+    fn lines(&self) -> String {
+        let mut words = parted(self.tally.lines);
+        if self.tally.multi > 0 {
+            words += &format!(
+                ", of which {} passed through (--explode joins their parts)",
+                count(self.tally.multi, "MultiLineString")
+            );
+        }
+        if let Some(name) = &self.request.class {
+            words += &format!(", in {} by {name:?}", count(self.classes.values.len(), "class"));
+        }
+        words
+    }
+
+    fn empty(&self) -> Option<String> {
+        let Tally { without_length, blocking, .. } = *self.tally;
+        let mut words = format!("{} without length", count(without_length, "line"));
+        if blocking > 0 {
+            words += &format!(
+                ", of which {} at nodes that they keep from being joined",
+                parted(blocking)
+            );
+        }
+        (without_length > 0).then(|| words + " (--drop-empty leaves them out)")
+    }
+
+    fn left_out(&self) -> Option<String> {
+        let left_out = &self.delivery.left_out;
+        let other = |(what, &number): (&String, &usize)| {
+            let what = what.strip_prefix("a ").unwrap_or(what);
+            match what {
+                "null" => format!("{} without geometry", count(number, "feature")),
+                kind => count(number, kind),
+            }
+        };
+        let mut words: Vec<String> = left_out.others.iter().map(other).collect();
+        if left_out.without_length > 0 {
+            words.push(format!("{} without length", count(left_out.without_length, "line")));
+        }
+        (!words.is_empty()).then(|| words.join(", "))
+    }
+
+    fn chains(&self) -> String {
+        let words = parted(self.tally.chains);
+        match self.tally.longest_chain {
+            None => words,
+            Some(longest) => format!(
+                "{words}; the longest is chain {}: {}, {} long",
+                longest.chain,
+                count(longest.lines, "line"),
+                self.measure.words(longest.length),
+            ),
+        }
+    }
+
+    fn joined(&self) -> String {
+        let Tally { nodes, junctions, tolerance, .. } = *self.tally;
+        let [nodes, junctions, tolerance] = [nodes, junctions, tolerance].map(parted);
+        format!("{nodes} at nodes, {junctions} at junctions, {tolerance} by the tolerance")
+    }
+
+    fn bridges(&self) -> String {
+        let (chain, longest) = match self.tally.longest_bridge {
+            None => return "none: every segment is of the input".into(),
+            Some(longest) => longest,
+        };
+        let mut words = format!(
+            "{} made by the tolerance; the longest is {} in chain {chain}",
+            count(self.tally.bridges, "segment"),
+            self.from_to(longest.lines, longest.ends),
+        );
+        if self.tally.longer > 0 {
+            words += &format!(
+                "; {} longer than the tolerance, since a cell is up to {} across",
+                parted(self.tally.longer),
+                rounded(self.request.settings.tolerance * std::f64::consts::SQRT_2)
+            );
+        }
+        words + self.listed()
+    }
+
+    fn gaps(&self) -> Option<String> {
+        let gaps = &self.tally.gaps;
+        let shortest = match self.tally.shortest_gap() {
+            Some(shortest) => shortest,
+            None if self.request.settings.tolerance > 0.0 => {
+                return Some("none below the tolerance stayed open".into())
+            }
+            None => return None,
+        };
+        let kinds = [
+            (Why::Cells, "between two cells"),
+            (Why::Junction, "among three ends or more"),
+            (Why::Ring, "of one chain"),
+        ];
+        let kind = |(why, words): (Why, &str)| {
+            let number = gaps.iter().filter(|gap| gap.why == why).count();
+            (number > 0).then(|| format!("{} {words}", parted(number)))
+        };
+        let kinds: Vec<String> = kinds.into_iter().filter_map(kind).collect();
+        Some(format!(
+            "{} below the tolerance stayed open ({}); the shortest is {}{}",
+            parted(gaps.len()),
+            kinds.join(", "),
+            self.from_to(shortest.lines, shortest.ends),
+            self.listed()
+        ))
+    }
+
+    /// A length, its two lines and its place in words.
+    fn from_to(&self, lines: [u32; 2], ends: [Point; 2]) -> String {
+        let [a, b] = lines.map(|line| self.delivery.name(line));
+        let length = self.measure.words(self.measure.distance(ends[0], ends[1]));
+        let [x, y] = ends[0];
+        format!("{length} long, from line {a} to line {b} at {x} {y}")
+    }
+
+    fn listed(&self) -> &'static str {
+        match self.request.bridges {
+            None => " (--bridges FILE lists them)",
+            Some(_) => "",
+        }
+    }
+
+    fn limit(&self) -> Option<String> {
+        match (self.request.bend, self.request.settings.limit) {
+            (Some(bend), Some(limit)) => {
+                Some(format!("{limit}, which a bend of {bend} degrees stands for"))
+            }
+            (Some(bend), None) => Some(format!("a bend of {bend} degrees pairs no junction")),
+            (None, _) => None,
+        }
+    }
+
+    fn lengths(&self) -> Option<String> {
+        let degrees = "metres on the sphere, for degrees of longitude and latitude";
+        match (self.measure.degrees && self.tally.lines > 0, self.measure.named) {
+            (false, _) => None,
+            (true, true) => Some(degrees.into()),
+            (true, false) => Some(format!("{degrees} (--units if the coordinates are others)")),
+        }
+    }
+}
+
+/// The tolerance from which on degrees are likely to have been taken for metres.
+const MANY_DEGREES: f64 = 0.1;
+
+/// A warning where a tolerance in degrees is so large that metres were meant.
+pub fn of_degrees(measure: &Measure, tolerance: f64) -> Option<String> {
+    let kilometres = tolerance.to_radians() * RADIUS / 1000.0;
+    (measure.degrees && tolerance > MANY_DEGREES).then(|| {
+        format!(
+            "the coordinates are degrees, so a tolerance of {tolerance} is cells of some {} km \
+             (--units if they are others)",
+            rounded(kilometres.round())
+        )
+    })
 }

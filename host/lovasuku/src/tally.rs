@@ -1,21 +1,30 @@
 //! The numbers of a run, for the summary and the map.
 
 use crate::delivery::{Delivery, Geometry, Point};
-use crate::joining::{distance, Chain, Joint, JointKind};
+use crate::joining::{blocking, Chain, Gap, Joint, JointKind, Line};
+use crate::measure::Measure;
 
 /// What a run did, in numbers.
 #[derive(Clone, Debug, Default, PartialEq)]
 pub struct Tally {
     pub lines: usize,
-    /// Lines of other geometry or of fewer than two points.
-    pub passing: usize,
+    /// MultiLineStrings, which passed through.
+    pub multi: usize,
+    /// Lines without length.
+    pub without_length: usize,
+    /// Those of them that stand where two other lines end, or more.
+    pub blocking: usize,
     pub chains: usize,
     pub nodes: usize,
     pub junctions: usize,
     pub tolerance: usize,
     pub bridges: usize,
+    /// Bridges that are longer than the tolerance.
+    pub longer: usize,
     pub longest_chain: Option<Longest>,
     pub longest_bridge: Option<(usize, Joint)>,
+    /// Gaps below the tolerance that stayed open.
+    pub gaps: Vec<Gap>,
 }
 
 /// The longest chain: its position, its lines and its length.
@@ -27,20 +36,29 @@ pub struct Longest {
 }
 
 impl Tally {
-    pub fn of(delivery: &Delivery, chains: &[Chain], lengths: &[f64]) -> Self {
+    pub fn of(
+        delivery: &Delivery,
+        lines: &[Line],
+        chains: &[Chain],
+        lengths: &[f64],
+        tolerance: f64,
+    ) -> Self {
+        let geometries = || delivery.features.iter().map(|feature| &feature.geometry);
         let mut tally = Tally {
             lines: delivery.features.len(),
-            passing: delivery.features.iter().filter(|feature| passes(&feature.geometry)).count(),
+            multi: geometries().filter(|each| matches!(each, Geometry::Lines(_))).count(),
+            without_length: geometries().filter(|each| each.has_no_length()).count(),
+            blocking: blocking(lines),
             chains: chains.len(),
             ..Tally::default()
         };
         for (position, (chain, &length)) in chains.iter().zip(lengths).enumerate() {
-            tally.add(position, chain, length);
+            tally.add(position, chain, length, tolerance);
         }
         tally
     }
 
-    fn add(&mut self, position: usize, chain: &Chain, length: f64) {
+    fn add(&mut self, position: usize, chain: &Chain, length: f64, tolerance: f64) {
         if self.longest_chain.map_or(true, |longest| longest.length < length) {
             let lines = chain.members.len();
             self.longest_chain = Some(Longest { chain: position, lines, length });
@@ -53,21 +71,23 @@ impl Tally {
             }
             if joint.is_bridge() {
                 self.bridges += 1;
+                self.longer += usize::from(joint.length() > tolerance);
                 if self.longest_bridge.map_or(true, |(_, other)| other.length() < joint.length()) {
                     self.longest_bridge = Some((position, *joint));
                 }
             }
         }
     }
+
+    /// The shortest gap.
+    pub fn shortest_gap(&self) -> Option<&Gap> {
+        self.gaps.iter().min_by(|a, b| a.length().total_cmp(&b.length()))
+    }
 }
 
-fn passes(geometry: &Geometry) -> bool {
-    !matches!(geometry, Geometry::Line(points) if points.len() > 1)
-}
-
-/// The length of a chain, in the units of its coordinates.
-pub fn length_of(delivery: &Delivery, chain: &Chain) -> f64 {
-    runs_of(delivery, chain).into_iter().map(length).sum()
+/// The length of a chain.
+pub fn length_of(delivery: &Delivery, measure: &Measure, chain: &Chain) -> f64 {
+    runs_of(delivery, chain).into_iter().fold(0.0, |sum, run| sum + measure.length(run))
 }
 
 /// The runs of points that a chain is drawn by.
@@ -77,8 +97,4 @@ pub fn runs_of<'a>(delivery: &'a Delivery, chain: &'a Chain) -> Vec<&'a [Point]>
         (None, Some(&line)) => delivery.features[line as usize].geometry.runs().collect(),
         (None, None) => Vec::new(),
     }
-}
-
-fn length(points: &[Point]) -> f64 {
-    points.windows(2).map(|two| distance(two[0], two[1])).sum()
 }

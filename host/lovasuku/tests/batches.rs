@@ -2,9 +2,9 @@
 
 mod networks;
 
-use lovasuku_chains::Settings;
+use lovasuku_chains::{large, Settings};
 use lovasuku_command::delivery::Point;
-use lovasuku_command::joining::{join, Capacity, Chain, Joint, JointKind, Line, TooLarge};
+use lovasuku_command::joining::{join, Capacity, Chain, Fault, Joint, JointKind, Line};
 use lovasuku_command::progress::Progress;
 use networks::{network, Network};
 use std::collections::HashSet;
@@ -22,7 +22,7 @@ fn chains(network: &Network, settings: Settings, capacity: Capacity) -> Option<V
     match join(&network.lines(), settings, capacity, &Progress::new(false)) {
         Ok(chains) => Some(chains),
         Err(fault) => {
-            assert!(fault.downcast_ref::<TooLarge>().is_some(), "{fault}");
+            assert!(matches!(fault, Fault::TooLarge(_)), "{fault}");
             None
         }
     }
@@ -50,6 +50,8 @@ fn batches_equal_one_call() {
     let mut compared = 0;
     for (seed, network, settings) in networks(400, 60) {
         let whole = chains(&network, settings, Capacity::default()).unwrap();
+        let one_core = large::join(&network.lines(), settings, Capacity::default()).unwrap();
+        assert!(whole.iter().map(bits).eq(one_core.iter().map(bits)), "seed {seed}, one core");
         for lines in [4, 8, 16, 48] {
             let capacity = Capacity { lines, points: 6 * lines };
             if let Some(cut) = chains(&network, settings, capacity) {

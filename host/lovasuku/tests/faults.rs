@@ -27,10 +27,11 @@ fn three(middle: &str) -> String {
 fn geometry_that_is_no_line() {
     let null = r#"{"type":"Feature","id":7,"geometry":null}"#;
     let all = [
-        (null.into(), "feature 1 (id 7, line 2): its geometry is null"),
+        (null.into(), "feature 1 (id 7, line 2): its geometry is null, not a line (--skip-other leaves such features out)"),
         (r#"{"type":"Feature"}"#.into(), "feature 1 (line 2): it has no geometry"),
-        (feature("Polygon", "[]"), "feature 1 (line 2): its geometry is a Polygon, not a line"),
-        (feature("Point", "[0,0]"), "feature 1 (line 2): its geometry is a Point, not a line"),
+        (feature("Polygon", "[]"), "feature 1 (line 2): its geometry is a Polygon, not a line (--skip-other leaves such features out)"),
+        (feature("Point", "[0,0]"), "feature 1 (line 2): its geometry is a Point, not a line (--skip-other leaves such features out)"),
+        (feature("Circle", "[0,0]"), "feature 1 (line 2): its geometry is a Circle, which is none of GeoJSON"),
         ("[]".into(), "feature 1 (line 2): it is not an object with readable names"),
         (
             r#"{"type":"LineString"}"#.into(),

@@ -132,11 +132,11 @@ fn other_line_geometry_passes_through() {
     let text = [
         feature("MultiLineString", parts),
         feature("LineString", "[[0,0],[1,0]]"),
-        feature("LineString", "[]"),
+        feature("LineString", "[[1.0,0.0]]"),
         feature("LineString", "[[1,0],[1,5]]"),
     ];
     let out = joined(&text.join("\n"), &["--tolerance", "1"]);
     assert_eq!(common::members(&out), ["[1,3]", "[0]", "[2]"]);
     assert!(out.contains(&format!("\"MultiLineString\",\"coordinates\":{parts}")), "{out}");
-    assert!(out.contains("\"LineString\",\"coordinates\":[]}"), "{out}");
+    assert!(out.contains("\"LineString\",\"coordinates\":[[1.0,0.0]]}"), "{out}");
 }

@@ -5,8 +5,8 @@ mod common;
 use common::{features, joined, members, run, sample, sample_text, Folder};
 use serde_json::Value;
 
-const FINE: [&str; 6] = ["--class", "kind", "--bend", "60", "--tolerance", "2"];
-const COARSE: [&str; 6] = ["--class", "kind", "--bend", "60", "--tolerance", "10"];
+const FINE: [&str; 8] = ["--class", "kind", "--bend", "60", "--tolerance", "2", "--units", "m"];
+const COARSE: [&str; 8] = ["--class", "kind", "--bend", "60", "--tolerance", "10", "--units", "m"];
 
 /// Joins a sample and compares the chains, the bridges and the map with the expected files.
 fn compare(name: &str, expected: &str, args: &[&str]) -> String {
@@ -44,16 +44,18 @@ fn the_yard_at_a_coarse_tolerance() {
     let summary = compare("yard.geojson", "yard-coarse", &COARSE);
     let rows: Vec<&str> = summary.lines().collect();
     let wanted = [
-        "    lines  23, of which 1 passed through, in 2 classes by \"kind\"",
-        "   chains  10; the longest is chain 0: 6 lines, 2331.4 long",
+        "    lines  23, of which 1 MultiLineString passed through (--explode joins their parts), \
+         in 2 classes by \"kind\"",
+        "   chains  10; the longest is chain 0: 6 lines, 2331.4 m long",
         "   joined  7 at nodes, 4 at junctions, 2 by the tolerance",
-        "  bridges  2 segments made by the tolerance; the longest is 7.02922 long, \
-         from line \"S2\" to line \"S3\" in chain 1",
+        "  bridges  2 segments made by the tolerance; the longest is 7.02922 m long, \
+         from line \"S2\" to line \"S3\" at 933.2 1083.4 in chain 1",
+        "     gaps  none below the tolerance stayed open",
         "    limit  -0.5, which a bend of 60 degrees stands for",
     ];
-    assert_eq!(rows[..5], wanted);
-    assert!(rows[5].starts_with("     took  ") && rows[5].ends_with(" seconds"));
-    assert_eq!(rows.len(), 6);
+    assert_eq!(rows[..6], wanted);
+    assert!(rows[6].starts_with("     took  ") && rows[6].ends_with(" seconds"));
+    assert_eq!(rows.len(), 7);
 }
 
 #[test]

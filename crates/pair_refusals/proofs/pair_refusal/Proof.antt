@@ -9,7 +9,7 @@ use lib.ListN.{length, drop}
 use borrow.Author.Needs.{needs}
 use borrow.Author.Tests.{lt-ltb, le-ltb}
 use Rattle.rules.specs.Refusals.{anyWild}
-use Rattle.refusals.proofs.Laws.{Left, rung, halt, top}
+use Rattle.build_refusals.proofs.Laws.{Left, rung, halt, top}
 use Rattle.pair_refusals.specs.Ladder.{pairTests, pairRefusalBy}
 use Rattle.pair_refusals.proofs.Ladder.{opened, tables-agree, not-asked, asked}
 use Rattle.pair_refusals.proofs.pair_refusal.Statement.{statement}

@@ -7,12 +7,12 @@ use mathlib.Core.Logic.{⊎-elim}
 use native.Mathlib.Omega.{arith}
 use lib.ListN.{take, getD}
 use Rattle.rules.specs.Lists.{count}
-use Rattle.pair_refusals.specs.Linked.{Chain}
+use Rattle.pair_refusals.specs.Linked.{LinkedChain}
 use Rattle.pair_refusals.proofs.Times.{none-first, count-most}
 use Rattle.pair_refusals.proofs.Links.{chain-less, chain-next, count-met, count-passed}
 
 abbrev Inv-loop : tie.InvT-loop
-Inv-loop pieces next from p c₀ k₀ c k = Chain pieces next k p × (c + count p (take k pieces) ≡ count p (take from pieces))
+Inv-loop pieces next from p c₀ k₀ c k = LinkedChain pieces next k p × (c + count p (take k pieces) ≡ count p (take from pieces))
 
 abbrev μ-loop : tie.MeasureT-loop
 μ-loop pieces next from p c₀ k₀ c k = k

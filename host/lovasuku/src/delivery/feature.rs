@@ -5,14 +5,23 @@ use super::positions::Run;
 use super::Point;
 
 /// A feature: a line, or other line geometry, with what the delivery tells about it.
-#[derive(Debug)]
+#[derive(Clone, Debug)]
 pub struct Feature<'a> {
-    /// Its id as it is written, a text in quotes or a number.
+    /// Its position among all features of the delivery.
+    pub position: u32,
+    /// Which part of a feature it is, where the parts of MultiLineStrings are lines of their own.
+    pub part: u32,
+    /// What names it as it is written, a text in quotes or a number.
     pub id: Option<&'a str>,
     /// The object of its properties as it is written.
     pub properties: Option<&'a str>,
+    /// Its members beside those that GeoJSON asks for.
+    pub foreign: Object<'a>,
     pub geometry: Geometry,
 }
+
+/// The members that GeoJSON asks for.
+const ASKED_FOR: [&str; 4] = ["type", "id", "properties", "geometry"];
 
 /// The geometry of a feature.
 #[derive(Clone, Debug, PartialEq)]
@@ -21,6 +30,8 @@ pub enum Geometry {
     Line(Vec<Point>),
     /// A MultiLineString, which passes through.
     Lines(Vec<Vec<Point>>),
+    /// What is no line, in words.
+    Other(String),
 }
 
 /// What becomes of heights.
@@ -38,6 +49,20 @@ impl Geometry {
         match self {
             Geometry::Line(points) => Box::new(std::iter::once(&points[..])),
             Geometry::Lines(parts) => Box::new(parts.iter().map(|part| &part[..])),
+            Geometry::Other(_) => Box::new(std::iter::empty()),
+        }
+    }
+
+    /// True where there is no position.
+    pub fn is_empty(&self) -> bool {
+        self.runs().all(<[Point]>::is_empty)
+    }
+
+    /// True for a line of one position, or of several at one point.
+    pub fn has_no_length(&self) -> bool {
+        match self {
+            Geometry::Line(points) => points.windows(2).all(|two| two[0] == two[1]),
+            _ => false,
         }
     }
 }
@@ -51,11 +76,19 @@ impl<'a> Feature<'a> {
             Some(other) => return Err(format!("its type is {other:?}, not \"Feature\"")),
             None => return Err("it has no type".into()),
         }
-        Ok(Feature {
-            id: id(&object)?,
-            properties: properties(&object)?,
-            geometry: geometry(&object, heights)?,
-        })
+        let id = match object.get("id") {
+            None | Some("null") => None,
+            Some(id) => Some(scalar(id).ok_or("its id is neither a text nor a number")?),
+        };
+        let (properties, geometry) = (properties(&object)?, geometry(&object, heights)?);
+        let mut foreign = object;
+        foreign.retain(|name, _| !ASKED_FOR.contains(&name));
+        Ok(Feature { position: 0, part: 0, id, properties, foreign, geometry })
+    }
+
+    /// Takes away the box, which is that of the geometry as it was written.
+    pub fn drop_box(&mut self) {
+        self.foreign.retain(|name, _| name != "bbox");
     }
 
     /// The value of a property as it is written; a null is no value.
@@ -74,14 +107,10 @@ fn words(text: &str) -> Option<String> {
     serde_json::from_str(text).ok()
 }
 
-fn id<'a>(feature: &Object<'a>) -> Result<Option<&'a str>, String> {
-    match feature.get("id") {
-        None | Some("null") => Ok(None),
-        Some(id) if id.starts_with(['"', '-']) || id.starts_with(|c: char| c.is_ascii_digit()) => {
-            Ok(Some(id))
-        }
-        Some(_) => Err("its id is neither a text nor a number".into()),
-    }
+/// A value that may name a line: a text or a number.
+pub fn scalar(value: &str) -> Option<&str> {
+    let named = |first: char| first == '"' || first == '-' || first.is_ascii_digit();
+    Some(value).filter(|value| value.starts_with(named))
 }
 
 fn properties<'a>(feature: &Object<'a>) -> Result<Option<&'a str>, String> {
@@ -93,19 +122,24 @@ fn properties<'a>(feature: &Object<'a>) -> Result<Option<&'a str>, String> {
 }
 
 fn geometry(feature: &Object, heights: Heights) -> Result<Geometry, String> {
-    let text = feature.get("geometry").ok_or("it has no geometry")?;
-    if text == "null" {
-        return Err("its geometry is null".into());
-    }
+    let text = match feature.get("geometry") {
+        None => return Err("it has no geometry".into()),
+        Some("null") => return Ok(Geometry::Other("null".into())),
+        Some(text) => text,
+    };
     let object = Object::of(text).ok_or("its geometry is not an object")?;
     let coordinates = object.get("coordinates").unwrap_or("null");
     match object.get("type").and_then(words).as_deref() {
         Some("LineString") => line(coordinates, heights),
         Some("MultiLineString") => lines(coordinates, heights),
-        Some(other) => Err(format!("its geometry is a {other}, not a line")),
+        Some(kind) if OTHER.contains(&kind) => Ok(Geometry::Other(format!("a {kind}"))),
+        Some(other) => Err(format!("its geometry is a {other}, which is none of GeoJSON")),
         None => Err("its geometry has no type".into()),
     }
 }
+
+/// The kinds of geometry that are no lines.
+const OTHER: [&str; 5] = ["Point", "MultiPoint", "Polygon", "MultiPolygon", "GeometryCollection"];
 
 const NO_POSITIONS: &str = "its coordinates are not positions of finite numbers";
 
@@ -162,9 +196,12 @@ mod tests {
 
     #[test]
     fn what_is_no_line() {
-        assert_eq!(fault("null"), "its geometry is null");
         assert_eq!(fault("{}"), "its geometry has no type");
-        assert_eq!(fault(r#"{"type": "Polygon"}"#), "its geometry is a Polygon, not a line");
+        let circle = "its geometry is a Circle, which is none of GeoJSON";
+        assert_eq!(fault(r#"{"type": "Circle"}"#), circle);
+        let polygon = r#"{"type": "Feature", "geometry": {"type": "Polygon"}}"#;
+        let feature = Feature::of(polygon, Heights::Refused).unwrap();
+        assert_eq!(feature.geometry, Geometry::Other("a Polygon".into()));
         assert_eq!(fault(r#"{"type": "LineString"}"#), super::NO_POSITIONS);
         assert_eq!(fault(r#"{"type": "LineString", "coordinates": [[1]]}"#), super::NO_POSITIONS);
     }

@@ -7,7 +7,7 @@ use std::fmt;
 
 /// The names of an object and its values as they are written, in their order. A name that stands
 /// twice has its last value.
-#[derive(Debug, Default)]
+#[derive(Clone, Debug, Default, PartialEq)]
 pub struct Object<'a>(Vec<(Name<'a>, &'a str)>);
 
 impl<'a> Object<'a> {
@@ -64,7 +64,7 @@ impl<'de> Visitor<'de> for ObjectVisitor {
 }
 
 /// A name, borrowed from the text where it is written without escapes.
-#[derive(Debug)]
+#[derive(Clone, Debug, PartialEq)]
 struct Name<'a>(Cow<'a, str>);
 
 impl<'de> Deserialize<'de> for Name<'de> {

@@ -6,11 +6,12 @@ use serde_json::value::RawValue;
 use std::cell::Cell;
 use std::fmt;
 
-/// The features of a text, and the reference system that a FeatureCollection names.
+/// The features of a text, and what a FeatureCollection has beside them.
 #[derive(Debug, Default, PartialEq)]
 pub struct Split<'a> {
     pub features: Vec<&'a str>,
-    pub crs: Option<&'a str>,
+    /// All members of the FeatureCollection but its type and its features.
+    pub members: Object<'a>,
 }
 
 /// Takes a text apart: one FeatureCollection, or features one after another.
@@ -22,7 +23,7 @@ pub fn split(text: &str) -> Result<Split<'_>, String> {
     };
     if let Some(collection) = collection(first) {
         return match values.next() {
-            None => of_collection(&collection),
+            None => of_collection(collection),
             Some(_) => Err("there is more after the FeatureCollection".into()),
         };
     }
@@ -30,7 +31,7 @@ pub fn split(text: &str) -> Result<Split<'_>, String> {
     for value in values {
         features.push(value.map_err(|fault| bad(features.len(), &fault))?.get());
     }
-    Ok(Split { features, crs: None })
+    Ok(Split { features, members: Object::default() })
 }
 
 /// The FeatureCollection that a text is, if it is one.
@@ -38,14 +39,14 @@ fn collection(text: &str) -> Option<Object<'_>> {
     Object::of(text).filter(|object| object.get("type") == Some("\"FeatureCollection\""))
 }
 
-fn of_collection<'a>(collection: &Object<'a>) -> Result<Split<'a>, String> {
+fn of_collection(collection: Object<'_>) -> Result<Split<'_>, String> {
     let list = collection.get("features").unwrap_or("null");
     let features: Vec<&RawValue> =
         serde_json::from_str(list).map_err(|_| "the FeatureCollection has no list of features")?;
-    Ok(Split {
-        features: features.into_iter().map(RawValue::get).collect(),
-        crs: collection.get("crs").filter(|&crs| crs != "null"),
-    })
+    let features = features.into_iter().map(RawValue::get).collect();
+    let mut members = collection;
+    members.retain(|name, _| name != "type" && name != "features");
+    Ok(Split { features, members })
 }
 
 /// The fault of bad JSON in a feature.
@@ -117,18 +118,21 @@ impl<'de> Visitor<'de> for Features<'_> {
 
 #[cfg(test)]
 mod tests {
-    use super::{split, Split};
+    use super::{split, Object, Split};
 
     #[test]
-    fn a_collection_with_its_reference_system() {
-        let text = r#" {"crs": {"n" : 1}, "features": [{"a":1}, 2], "type": "FeatureCollection"} "#;
-        let wanted = Split { features: vec![r#"{"a":1}"#, "2"], crs: Some(r#"{"n" : 1}"#) };
+    fn a_collection_with_its_members() {
+        let text = r#" {"crs": {"n" : 1}, "features": [{"a":1}, 2], "type": "FeatureCollection",
+            "name": "x"} "#;
+        let members = Object::of(r#"{"crs":{"n" : 1},"name":"x"}"#).unwrap();
+        let wanted = Split { features: vec![r#"{"a":1}"#, "2"], members };
         assert_eq!(split(text), Ok(wanted));
     }
 
     #[test]
     fn features_one_after_another() {
-        let wanted = Split { features: vec!["{\"a\":1}", "{}", "{}"], crs: None };
+        let features = vec!["{\"a\":1}", "{}", "{}"];
+        let wanted = Split { features, members: Object::default() };
         assert_eq!(split("{\"a\":1}\n{}\n\n {}\n"), Ok(wanted));
     }
 

@@ -1,36 +1,33 @@
-//! What the map shows: chains, the lines of the input, junctions and bridges.
+//! What the map shows of the network: chains, the lines of the input, and junctions.
 
-use super::colours::Colours;
-use super::labels::{self, Ring};
-use super::page::{fineness, Page, FEW_BRIDGES, FEW_LINES};
-use super::svg::{escape, place, way};
+use super::colours::{Colours, COLOURS};
+use super::page::{fineness, Page, FEW_LINES};
+use super::svg::{escape, place, way, Once};
 use super::Sheet;
 use crate::delivery::Point;
 use crate::joining::{Chain, Joint, JointKind};
-use crate::numbers::{count, rounded, short};
+use crate::numbers::count;
 use crate::tally::runs_of;
 use std::collections::HashMap;
 use std::fmt::{Error, Write};
-
-/// How many members a title names at most.
-const NAMED: usize = 60;
 
 /// How many lines have their ends marked at most.
 const MARKED: usize = 4_000;
 
 /// What is drawn, or that it cannot be written, which does not happen with a text.
-type Drawn<T = ()> = Result<T, Error>;
+pub type Drawn<T = ()> = Result<T, Error>;
 
-/// Draws the chains and gives back their colours.
+/// Draws the chains and gives back their colours. The longest are drawn by themselves.
 pub fn chains(out: &mut String, sheet: &Sheet, page: &Page) -> Drawn<Vec<&'static str>> {
     let mut colours = Colours::default();
-    let mut given = Vec::with_capacity(sheet.chains.len());
+    let of = |chain: &Chain| colours.give(&ends(sheet, page, chain));
+    let given: Vec<&'static str> = sheet.chains.iter().map(of).collect();
+    let titled = titled(sheet, page);
     writeln!(out, "<g class=\"chains\">")?;
-    for (position, chain) in sheet.chains.iter().enumerate() {
-        let colour = colours.give(&ends(sheet, page, chain));
-        given.push(colour);
-        let kind = if chain.points.is_some() { "chain" } else { "alone" };
-        let title = escape(&title(sheet, position, chain));
+    others(out, sheet, page, &given, &titled)?;
+    for (position, chain) in sheet.chains.iter().enumerate().filter(|(k, _)| titled[*k]) {
+        let (kind, colour) = (kind(chain), given[position]);
+        let title = escape(&title(sheet, page, position, chain));
         write!(out, "<g class=\"{kind}\" stroke=\"{colour}\"><title>{title}</title>")?;
         let ways: Vec<String> =
             runs_of(sheet.delivery, chain).into_iter().map(|run| way(page, run)).collect();
@@ -38,6 +35,43 @@ pub fn chains(out: &mut String, sheet: &Sheet, page: &Page) -> Drawn<Vec<&'stati
     }
     writeln!(out, "</g>")?;
     Ok(given)
+}
+
+fn kind(chain: &Chain) -> &'static str {
+    match chain.points {
+        Some(_) => "chain",
+        None => "alone",
+    }
+}
+
+/// Which chains are drawn by themselves: the longest.
+fn titled(sheet: &Sheet, page: &Page) -> Vec<bool> {
+    let mut order: Vec<usize> = (0..sheet.chains.len()).collect();
+    if order.len() > page.detail.titled {
+        order.sort_by(|&a, &b| sheet.lengths[b].total_cmp(&sheet.lengths[a]));
+        order.truncate(page.detail.titled);
+    }
+    let mut titled = vec![false; sheet.chains.len()];
+    order.into_iter().for_each(|position| titled[position] = true);
+    titled
+}
+
+/// Draws the other chains, those of one kind and one colour as one path.
+fn others(out: &mut String, sheet: &Sheet, page: &Page, given: &[&str], titled: &[bool]) -> Drawn {
+    let mut once = Once::default();
+    for (of_kind, colour) in ["chain", "alone"].into_iter().flat_map(|k| COLOURS.map(|c| (k, c))) {
+        let others = sheet
+            .chains
+            .iter()
+            .enumerate()
+            .filter(|(k, chain)| !titled[*k] && kind(chain) == of_kind && given[*k] == colour);
+        let runs = others.flat_map(|(_, chain)| runs_of(sheet.delivery, chain));
+        let way = once.way(page, runs);
+        if !way.is_empty() {
+            writeln!(out, "<g class=\"{of_kind}\" stroke=\"{colour}\"><path d=\"{way}\"/></g>")?;
+        }
+    }
+    Ok(())
 }
 
 /// The places on the page where the lines of a chain end.
@@ -48,13 +82,14 @@ fn ends(sheet: &Sheet, page: &Page, chain: &Chain) -> Vec<Point> {
     ends.map(|&end| page.place(end)).collect()
 }
 
-fn title(sheet: &Sheet, position: usize, chain: &Chain) -> String {
-    let named = chain.members.iter().take(NAMED).map(|&line| sheet.delivery.label(line));
+fn title(sheet: &Sheet, page: &Page, position: usize, chain: &Chain) -> String {
+    let most = page.detail.named;
+    let named = chain.members.iter().take(most).map(|&line| sheet.delivery.label(line));
     let mut members = named.collect::<Vec<_>>().join(", ");
-    if chain.members.len() > NAMED {
-        members += &format!(" and {} more", chain.members.len() - NAMED);
+    if chain.members.len() > most {
+        members += &format!(" and {} more", chain.members.len() - most);
     }
-    let length = rounded(sheet.lengths[position]);
+    let length = sheet.measure.words(sheet.lengths[position]);
     let lines = count(chain.members.len(), "line");
     format!("chain {position}: {lines}, {length} long\nmembers: {members}")
 }
@@ -63,11 +98,13 @@ fn title(sheet: &Sheet, position: usize, chain: &Chain) -> String {
 pub fn lines(out: &mut String, sheet: &Sheet, page: &Page) -> Drawn {
     let features = &sheet.delivery.features;
     writeln!(out, "<g class=\"input\">")?;
-    for run in features.iter().flat_map(|feature| feature.geometry.runs()) {
-        writeln!(out, "<path d=\"{}\"/>", way(page, run))?;
+    let mut runs = features.iter().flat_map(|feature| feature.geometry.runs());
+    match page.detail.is_full() {
+        true => runs.try_for_each(|run| writeln!(out, "<path d=\"{}\"/>", way(page, run)))?,
+        false => writeln!(out, "<path d=\"{}\"/>", Once::default().way(page, runs))?,
     }
     writeln!(out, "</g>")?;
-    if features.len() > MARKED {
+    if features.len() > MARKED || !page.detail.is_full() {
         return Ok(());
     }
     let runs = features.iter().flat_map(|feature| feature.geometry.runs());
@@ -87,7 +124,10 @@ pub fn lines(out: &mut String, sheet: &Sheet, page: &Page) -> Drawn {
 /// in round two, with no segment between them, are shown there too.
 pub fn junctions(out: &mut String, sheet: &Sheet, page: &Page) -> Drawn {
     writeln!(out, "<g class=\"junctions\">")?;
-    for (at, joints) in paired(sheet.chains) {
+    let junctions = paired(sheet.chains);
+    let (titled, others) = junctions.split_at(junctions.len().min(page.detail.titled));
+    for (at, joints) in titled {
+        let at = *at;
         let [x, y] = place(page, at);
         let pair = |joint: &&Joint| {
             let [a, b] = joint.lines.map(|line| sheet.delivery.label(line));
@@ -103,7 +143,22 @@ pub fn junctions(out: &mut String, sheet: &Sheet, page: &Page) -> Drawn {
             fineness(sheet.tally.lines, FEW_LINES)
         )?;
     }
+    dots(out, page, "#222", others.iter().map(|(at, _)| at))?;
     writeln!(out, "</g>")
+}
+
+/// Draws points of one colour as dots of one path.
+pub fn dots<'p>(
+    out: &mut String,
+    page: &Page,
+    colour: &str,
+    points: impl Iterator<Item = &'p Point>,
+) -> Drawn {
+    let way = Once::default().way(page, points.map(std::slice::from_ref));
+    match way.is_empty() {
+        true => Ok(()),
+        false => writeln!(out, "<path class=\"dots\" stroke=\"{colour}\" d=\"{way}\"/>"),
+    }
 }
 
 /// The mark of a junction.
@@ -127,45 +182,4 @@ fn paired(chains: &[Chain]) -> Vec<(Point, Vec<&Joint>)> {
         junctions[place].1.push(joint);
     }
     junctions
-}
-
-/// Draws the bridges, each in a ring that is seen however short it is.
-pub fn bridges(out: &mut String, sheet: &Sheet, page: &Page) -> Drawn {
-    let of_chain = |(position, chain): (usize, &'_ Chain)| {
-        let bridges = chain.joints.iter().filter(|joint| joint.is_bridge());
-        bridges.map(|&bridge| (position, bridge)).collect::<Vec<_>>()
-    };
-    let all: Vec<(usize, Joint)> = sheet.chains.iter().enumerate().flat_map(of_chain).collect();
-    let fine = fineness(all.len(), FEW_BRIDGES);
-    let rings: Vec<Ring> = all.iter().map(|(_, bridge)| ring(page, bridge, fine)).collect();
-    let labels = labels::places(page, &rings);
-    writeln!(out, "<g class=\"bridges\">")?;
-    for (((chain, bridge), ring), label) in all.iter().zip(&rings).zip(labels) {
-        let title = escape(&bridge_title(sheet, *chain, bridge));
-        write!(out, "<g><title>{title}</title><path d=\"{}\"/>", way(page, &bridge.ends))?;
-        let Ring { middle: [x, y], radius, .. } = ring;
-        write!(out, "<circle cx=\"{x:.1}\" cy=\"{y:.1}\" r=\"{radius:.1}\"/>")?;
-        if let Some([x, y]) = label {
-            write!(out, "<text x=\"{x:.1}\" y=\"{y:.1}\">{}</text>", ring.label)?;
-        }
-        writeln!(out, "</g>")?;
-    }
-    writeln!(out, "</g>")
-}
-
-/// The ring around a bridge, smaller where there are many.
-fn ring(page: &Page, bridge: &Joint, fine: f64) -> Ring {
-    let ends = bridge.ends.map(|end| page.place(end));
-    let middle = [0, 1].map(|k| (ends[0][k] + ends[1][k]) / 2.0);
-    let apart = (ends[1][0] - ends[0][0]).hypot(ends[1][1] - ends[0][1]);
-    let radius = (10.0 * fine).max(apart / 2.0 + 6.0 * fine);
-    Ring { middle, radius, length: bridge.length(), label: short(bridge.length()) }
-}
-
-fn bridge_title(sheet: &Sheet, chain: usize, bridge: &Joint) -> String {
-    let [a, b] = bridge.lines.map(|line| sheet.delivery.label(line));
-    let length = rounded(bridge.length());
-    format!(
-        "bridge of length {length}, made by the tolerance\nfrom line {a} to line {b} in chain {chain}"
-    )
 }

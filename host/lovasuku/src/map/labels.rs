@@ -87,11 +87,14 @@ fn within(page: &Page, [left, upper, right, lower]: Area) -> bool {
 mod tests {
     use super::{area, meet, places, Ring};
     use crate::delivery::Delivery;
+    use crate::map::detail::Detail;
     use crate::map::page::Page;
+    use crate::measure::Measure;
 
     #[test]
     fn labels_stand_apart_and_the_longest_come_first() {
-        let page = Page::of(&Delivery { features: Vec::new(), crs: None, named_by_ids: false });
+        let delivery = Delivery::default();
+        let page = Page::of(&delivery, &Measure::of(&delivery, None), Detail::FULL);
         let ring = |length: usize| Ring {
             middle: [400.0, 300.0],
             radius: 10.0,

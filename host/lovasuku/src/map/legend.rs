@@ -3,12 +3,17 @@
 use super::drawing::DIAMOND;
 use super::page::{Page, HEAD, MARGIN, PANEL, WIDTH};
 use super::svg::escape;
-use super::Sheet;
-use crate::numbers::{count, rounded};
+use super::{bridges_of, Sheet};
+use crate::delivery::Point;
+use crate::numbers::{count, parted, short, to_decimals};
 use std::fmt::{Result, Write};
 
 /// The distance of the legend's rows.
 const ROW: f64 = 25.0;
+
+/// How wide the words of a row are at most, in pixels, and how many characters fit without being narrowed.
+const WORDS: f64 = 262.0;
+const MOST_CHARACTERS: usize = 36;
 
 /// Where the panel beside the map begins.
 const LEFT: f64 = WIDTH - MARGIN - PANEL + 4.0;
@@ -37,12 +42,19 @@ pub fn legend(out: &mut String, sheet: &Sheet, page: &Page, colours: &[&str]) ->
         row(out, &mut y, &diamond, "junction where a pair was selected")?;
     }
     if sheet.tally.bridges > 0 {
-        row(out, &mut y, BRIDGE, "bridge, with its length: a segment")?;
-        words_below(out, &mut y, "of no line, made by the tolerance")?;
+        let words = format!("bridge, with its length in {}: a", sheet.measure.unit);
+        row(out, &mut y, BRIDGE, &words)?;
+        words_below(out, &mut y, "segment of no line, by the tolerance")?;
+    }
+    if !sheet.tally.gaps.is_empty() {
+        row(out, &mut y, GAP, "gap below the tolerance, still open")?;
     }
     y += 18.0;
+    bridges(out, sheet, page, &mut y)?;
     chains(out, sheet, page, colours, y)
 }
+
+const GAP: &str = "<g class=\"gaps\"><circle cx=\"21\" cy=\"0\" r=\"7\"/></g>";
 
 const INPUT: &str = "<g class=\"input\"><path d=\"M2 0H40\"/></g><g class=\"ends\">\
      <circle cx=\"2\" cy=\"0\" r=\"2.2\"/><circle cx=\"40\" cy=\"0\" r=\"2.2\"/></g>";
@@ -55,9 +67,48 @@ fn stroke(kind: &str, colour: Option<&&str>) -> String {
     format!("<g class=\"{kind}\" stroke=\"{colour}\"><path d=\"M2 0H40\"/></g>")
 }
 
+/// How many rows there is room for below a heading.
+fn room(page: &Page, y: f64) -> usize {
+    ((page.height() - MARGIN - y - 2.0 * ROW) / ROW).max(0.0) as usize
+}
+
+/// How many bridges are listed at most.
+const LISTED: usize = 8;
+
+/// Lists the longest bridges with their places, as many as half the room holds.
+fn bridges(out: &mut String, sheet: &Sheet, page: &Page, y: &mut f64) -> Result {
+    let room = LISTED.min(room(page, *y) / 2);
+    let all = bridges_of(sheet);
+    if all.is_empty() || room == 0 {
+        return Ok(());
+    }
+    let heading_words = match all.len() > room {
+        true => format!("The longest of {} bridges", parted(all.len())),
+        false => "Bridges, longest first".into(),
+    };
+    heading(out, y, &heading_words)?;
+    for (chain, bridge) in all.iter().take(room) {
+        let [a, b] = bridge.lines.map(|line| sheet.delivery.label(line));
+        let length = short(sheet.measure.distance(bridge.ends[0], bridge.ends[1]));
+        let place = place_in_words(sheet, bridge.ends[0]);
+        let words = format!("{length} {} at {place}", sheet.measure.unit);
+        let title = escape(&format!("from line {a} to line {b} in chain {chain}"));
+        let sign = format!("<title>{title}</title>{BRIDGE}");
+        row(out, y, &sign, &words)?;
+    }
+    *y += 14.0;
+    Ok(())
+}
+
+/// A place in so few digits that it is found again.
+fn place_in_words(sheet: &Sheet, at: Point) -> String {
+    let decimals = if sheet.measure.degrees { 6 } else { 2 };
+    at.map(|x| to_decimals(x, decimals)).join(" ")
+}
+
 /// Lists the longest chains, as many as there is room for.
 fn chains(out: &mut String, sheet: &Sheet, page: &Page, colours: &[&str], mut y: f64) -> Result {
-    let room = ((page.height() - MARGIN - y - 2.0 * ROW) / ROW).max(0.0) as usize;
+    let room = room(page, y);
     if sheet.chains.is_empty() || room == 0 {
         return Ok(());
     }
@@ -70,7 +121,8 @@ fn chains(out: &mut String, sheet: &Sheet, page: &Page, colours: &[&str], mut y:
         let kind = if chain.points.is_some() { "chain" } else { "alone" };
         let sign = stroke(kind, colours.get(position));
         let lines = count(chain.members.len(), "line");
-        let words = format!("chain {position} · {lines} · {}", rounded(sheet.lengths[position]));
+        let length = sheet.measure.words(sheet.lengths[position]);
+        let words = format!("chain {position} · {lines} · {length}");
         row(out, &mut y, &sign, &words)?;
     }
     Ok(())
@@ -84,9 +136,17 @@ fn heading(out: &mut String, y: &mut f64, words: &str) -> Result {
 
 fn row(out: &mut String, y: &mut f64, sign: &str, words: &str) -> Result {
     let base = *y + 4.5;
+    let narrow = match words.chars().count() > MOST_CHARACTERS {
+        true => format!(" textLength=\"{WORDS}\" lengthAdjust=\"spacingAndGlyphs\""),
+        false => String::new(),
+    };
     let words = escape(words);
     writeln!(out, "<g class=\"legend\" transform=\"translate({LEFT} {y})\">{sign}</g>")?;
-    writeln!(out, "<text class=\"words\" x=\"{}\" y=\"{base}\">{words}</text>", LEFT + 54.0)?;
+    writeln!(
+        out,
+        "<text class=\"words\" x=\"{}\" y=\"{base}\"{narrow}>{words}</text>",
+        LEFT + 54.0
+    )?;
     *y += ROW;
     Ok(())
 }
@@ -99,8 +159,9 @@ fn words_below(out: &mut String, y: &mut f64, words: &str) -> Result {
 }
 
 /// Draws the scale in the lower left corner of the frame.
-pub fn scale(out: &mut String, page: &Page) -> Result {
-    let (pixels, words) = page.scale_bar();
+pub fn scale(out: &mut String, sheet: &Sheet, page: &Page) -> Result {
+    let (pixels, words) = page.scale_bar(sheet.measure);
+    let words = escape(&words);
     let [x, y] = [MARGIN + 18.0, HEAD + page.frame_height - 18.0];
     let end = x + pixels;
     writeln!(out, "<path class=\"scale\" d=\"M{x} {}V{y}H{end:.1}v-6\"/>", y - 6.0)?;

@@ -1,6 +1,8 @@
 //! The map: an SVG of the input, the chains, the junctions and the bridges.
 
+mod bridging;
 mod colours;
+mod detail;
 mod drawing;
 mod labels;
 mod legend;
@@ -8,8 +10,10 @@ mod page;
 mod svg;
 
 use crate::delivery::Delivery;
-use crate::joining::Chain;
+use crate::joining::{Chain, Joint};
+use crate::measure::Measure;
 use crate::tally::Tally;
+use detail::{Detail, MOST_BYTES};
 use page::{fineness, Page, FEW_BRIDGES, FEW_LINES, HEAD, MARGIN, WIDTH};
 use std::fmt::{Error, Write};
 
@@ -21,6 +25,7 @@ pub struct Sheet<'a> {
     /// The settings in words.
     pub settings: &'a str,
     pub delivery: &'a Delivery<'a>,
+    pub measure: &'a Measure,
     pub chains: &'a [Chain],
     /// The length of each chain.
     pub lengths: &'a [f64],
@@ -42,6 +47,8 @@ text{font:14px system-ui,'Segoe UI',Helvetica,Arial,sans-serif;fill:#2b2b2b}\
 .bridges path{fill:none;stroke:#e0001b;stroke-linecap:round}\
 .bridges circle{fill:#e0001b;fill-opacity:.1;stroke:#e0001b}\
 .bridges text{fill:#c80018;font-weight:600;paint-order:stroke;stroke:#fff;stroke-width:4px;stroke-linejoin:round}\
+.gaps circle{fill:#f2a900;fill-opacity:.15;stroke:#b87a00;stroke-width:1.5;stroke-dasharray:3 2}\
+g path.dots{fill:none;stroke-linecap:round;stroke-width:3}\
 path.scale{fill:none;stroke:#2b2b2b;stroke-width:1.5}\
 text.scale{font-size:13px;text-anchor:middle}";
 
@@ -65,16 +72,34 @@ fn widths(tally: &Tally) -> String {
     of("", fine, bridges) + &hover + &of(".legend ", 1.0, 1.0)
 }
 
-/// Draws the map.
+/// Draws the map, with as much detail as its size allows.
 pub fn map(sheet: &Sheet) -> Vec<u8> {
-    let mut out = String::new();
-    // Writing to a text never fails.
-    draw(&mut out, sheet).unwrap_or_default();
-    out.into_bytes()
+    let mut detail = Detail::of(sheet.tally.lines);
+    loop {
+        let mut out = String::new();
+        // Writing to a text never fails.
+        draw(&mut out, sheet, detail).unwrap_or_default();
+        if out.len() <= MOST_BYTES || detail.titled == 0 {
+            return out.into_bytes();
+        }
+        detail = detail.less();
+    }
 }
 
-fn draw(out: &mut String, sheet: &Sheet) -> Result<(), Error> {
-    let page = Page::of(sheet.delivery);
+/// The bridges of all chains with the positions of these, the longest first.
+fn bridges_of(sheet: &Sheet) -> Vec<(usize, Joint)> {
+    let of_chain = |(position, chain): (usize, &'_ Chain)| {
+        let bridges = chain.joints.iter().filter(|joint| joint.is_bridge());
+        bridges.map(|&bridge| (position, bridge)).collect::<Vec<_>>()
+    };
+    let mut all: Vec<(usize, Joint)> = sheet.chains.iter().enumerate().flat_map(of_chain).collect();
+    let length = |bridge: &Joint| sheet.measure.distance(bridge.ends[0], bridge.ends[1]);
+    all.sort_by(|(_, a), (_, b)| length(b).total_cmp(&length(a)));
+    all
+}
+
+fn draw(out: &mut String, sheet: &Sheet, detail: Detail) -> Result<(), Error> {
+    let page = Page::of(sheet.delivery, sheet.measure, detail);
     let height = page.height();
     writeln!(
         out,
@@ -93,8 +118,9 @@ fn draw(out: &mut String, sheet: &Sheet) -> Result<(), Error> {
     let colours = drawing::chains(out, sheet, &page)?;
     drawing::lines(out, sheet, &page)?;
     drawing::junctions(out, sheet, &page)?;
-    drawing::bridges(out, sheet, &page)?;
+    bridging::gaps(out, sheet, &page)?;
+    bridging::bridges(out, sheet, &page)?;
     legend::legend(out, sheet, &page, &colours)?;
-    legend::scale(out, &page)?;
+    legend::scale(out, sheet, &page)?;
     writeln!(out, "</svg>")
 }

@@ -1,6 +1,9 @@
 //! The page: where the map's points lie on it, and its scale.
 
+use super::detail::Detail;
 use crate::delivery::{Delivery, Point};
+use crate::measure::{bounds, Measure, RADIUS};
+use crate::numbers::parted;
 
 /// The size of the page and of the frame on it that the map is drawn in, in pixels.
 pub const WIDTH: f64 = 1200.0;
@@ -17,9 +20,6 @@ pub const FEW_LINES: f64 = 300.0;
 /// How many bridges have rings of the full size.
 pub const FEW_BRIDGES: f64 = 20.0;
 
-/// The mean radius of the earth in metres.
-const RADIUS: f64 = 6_371_008.8;
-
 /// Where points lie on the page.
 #[derive(Clone, Copy, Debug)]
 pub struct Page {
@@ -31,17 +31,18 @@ pub struct Page {
     /// What x is narrowed by, which is 1 unless x and y are degrees.
     narrow: f64,
     pub frame_height: f64,
-    /// True where x and y are degrees of longitude and latitude.
-    pub degrees: bool,
+    pub detail: Detail,
 }
 
 impl Page {
-    pub fn of(delivery: &Delivery) -> Self {
+    pub fn of(delivery: &Delivery, measure: &Measure, detail: Detail) -> Self {
         let bounds = bounds(delivery);
         let [west, south] = bounds[0];
         let [east, north] = bounds[1];
-        let degrees = are_degrees(delivery.crs, bounds);
-        let narrow = if degrees { middle(south, north).to_radians().cos().max(0.01) } else { 1.0 };
+        let narrow = match measure.degrees {
+            true => middle(south, north).to_radians().cos().max(0.01),
+            false => 1.0,
+        };
         let halves = [half(west, east) * narrow, half(south, north)];
         let inner = FRAME_WIDTH - 2.0 * INSET;
         let fair = inner * halves[1] / halves[0] + 2.0 * INSET;
@@ -50,7 +51,7 @@ impl Page {
         let fits = [inner / halves[0], (frame_height - 2.0 * INSET) / halves[1]];
         let scale = fits[0].min(fits[1]);
         let scale = if scale.is_finite() { scale } else { 1.0 };
-        Page { bounds, scale, narrow, frame_height, degrees }
+        Page { bounds, scale, narrow, frame_height, detail }
     }
 
     pub fn height(&self) -> f64 {
@@ -70,40 +71,16 @@ impl Page {
     }
 
     /// A round length for the scale: its pixels and its words.
-    pub fn scale_bar(&self) -> (f64, String) {
-        let unit = if self.degrees { RADIUS.to_radians() } else { 1.0 };
+    pub fn scale_bar(&self, measure: &Measure) -> (f64, String) {
+        let unit = if measure.degrees { RADIUS.to_radians() } else { 1.0 };
         let round = round_below(FRAME_WIDTH / 5.0 / self.scale * 2.0 * unit);
-        let words = match round {
-            length if !self.degrees => format!("{} units", plain(length)),
-            length if length >= 1000.0 => format!("{} km", plain(length / 1000.0)),
-            length => format!("{} m", plain(length)),
-        };
-        (round / unit / 2.0 * self.scale, words)
+        (round / unit / 2.0 * self.scale, format!("{} {}", plain(round), measure.unit))
     }
 }
 
 /// What strokes and signs are made smaller by, so that more than a few things are told apart.
 pub fn fineness(things: usize, few: f64) -> f64 {
     (few / (things.max(1) as f64)).powf(0.4).clamp(0.2, 1.0)
-}
-
-/// The lowest and the highest x and y of all points.
-fn bounds(delivery: &Delivery) -> [Point; 2] {
-    let mut bounds = [[f64::INFINITY; 2], [f64::NEG_INFINITY; 2]];
-    for &[x, y] in delivery.features.iter().flat_map(|feature| feature.geometry.runs()).flatten() {
-        bounds[0] = [bounds[0][0].min(x), bounds[0][1].min(y)];
-        bounds[1] = [bounds[1][0].max(x), bounds[1][1].max(y)];
-    }
-    match bounds[0][0].is_finite() {
-        true => bounds,
-        false => [[0.0; 2]; 2],
-    }
-}
-
-/// True where nothing speaks against degrees, which GeoJSON has unless it names another system.
-fn are_degrees(crs: Option<&str>, [[west, south], [east, north]]: [Point; 2]) -> bool {
-    let named = crs.map_or(true, |crs| crs.contains("CRS84") || crs.contains("4326"));
-    named && west >= -180.0 && east <= 180.0 && south >= -90.0 && north <= 90.0
 }
 
 fn middle(low: f64, high: f64) -> f64 {
@@ -123,9 +100,10 @@ fn round_below(x: f64) -> f64 {
 
 /// A round number in words.
 fn plain(x: f64) -> String {
-    match (1e-4..1e7).contains(&x) {
-        true => format!("{}", (x * 1e6).round() / 1e6),
-        false => format!("{x:e}"),
+    match x {
+        _ if (1e4..1e9).contains(&x) => parted(x as usize),
+        _ if (1e-4..1e9).contains(&x) => format!("{}", (x * 1e6).round() / 1e6),
+        _ => format!("{x:e}"),
     }
 }
 
@@ -137,6 +115,6 @@ mod tests {
     fn round_numbers() {
         let all = [0.7, 1.0, 3.0, 7.0, 12.0, 999.0];
         assert_eq!(all.map(round_below), [0.5, 1.0, 2.0, 5.0, 10.0, 500.0]);
-        assert_eq!([0.5, 200.0, 2e300].map(plain), ["0.5", "200", "2e300"]);
+        assert_eq!([0.5, 200.0, 5e5, 2e300].map(plain), ["0.5", "200", "500,000", "2e300"]);
     }
 }

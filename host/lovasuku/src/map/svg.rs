@@ -2,61 +2,112 @@
 
 use super::page::Page;
 use crate::delivery::Point;
+use std::collections::HashSet;
 use std::fmt::Write;
 
 /// The text without what has a meaning in XML or is not allowed in it.
 pub fn escape(text: &str) -> String {
-    let mut out = String::with_capacity(text.len());
-    for each in text.chars() {
-        match each {
-            '&' => out.push_str("&amp;"),
-            '<' => out.push_str("&lt;"),
-            '>' => out.push_str("&gt;"),
-            '"' => out.push_str("&quot;"),
-            '\n' => out.push('\n'),
-            '\0'..='\u{1f}' | '\u{fffe}' | '\u{ffff}' => out.push(' '),
-            _ => out.push(each),
-        }
-    }
-    out
+    let barred = |c: char| c < ' ' && c != '\n' || c == '\u{fffe}' || c == '\u{ffff}';
+    quick_xml::escape::escape(&text.replace(barred, " ")).into_owned()
 }
 
-/// The way of a path through points, to a tenth of a pixel.
+/// A place on the page, in steps of the page's grid.
+type Step = [i64; 2];
+
+fn step(page: &Page, point: Point) -> Step {
+    page.place(point).map(|x| (x / page.detail.grid).round() as i64)
+}
+
+/// The way of a path through points, on the page's grid.
 pub fn way(page: &Page, points: &[Point]) -> String {
-    let mut out = String::new();
-    let mut last = None;
-    for &point in points {
-        let tenths = page.place(point).map(|x| (10.0 * x).round() as i64);
-        if last != Some(tenths) {
-            let [x, y] = tenths.map(tenth);
-            let step = if last.is_none() { 'M' } else { 'L' };
-            write!(out, "{step}{x} {y}").unwrap_or_default();
+    let mut path = Path::new(page);
+    let mut steps: Vec<Step> = points.iter().map(|&point| step(page, point)).collect();
+    steps.dedup();
+    match steps[..] {
+        // A way of one place is drawn as a dot.
+        [one] => path.dot(one),
+        _ => steps.windows(2).for_each(|two| path.segment(two[0], two[1])),
+    }
+    path.out
+}
+
+/// The way of one path through many runs of points, each segment once.
+#[derive(Debug, Default)]
+pub struct Once {
+    seen: HashSet<[Step; 2]>,
+}
+
+impl Once {
+    /// What the runs add to what was drawn so far.
+    pub fn way<'p>(&mut self, page: &Page, runs: impl IntoIterator<Item = &'p [Point]>) -> String {
+        let mut path = Path::new(page);
+        for run in runs {
+            let mut steps: Vec<Step> = run.iter().map(|&point| step(page, point)).collect();
+            steps.dedup();
+            if let [one] = steps[..] {
+                if self.seen.insert([one; 2]) {
+                    path.dot(one);
+                }
+            }
+            for two in steps.windows(2) {
+                if self.seen.insert([two[0].min(two[1]), two[0].max(two[1])]) {
+                    path.segment(two[0], two[1]);
+                }
+            }
         }
-        last = Some(tenths);
-    }
-    // A way of one place is drawn as a dot.
-    if !out.is_empty() && !out.contains('L') {
-        out.push_str("h0");
-    }
-    out
-}
-
-/// A number of tenths in digits.
-fn tenth(tenths: i64) -> String {
-    match (tenths / 10, tenths % 10) {
-        (whole, 0) => whole.to_string(),
-        _ => format!("{:.1}", tenths as f64 / 10.0),
+        path.out
     }
 }
 
-/// A place on the page in digits: x and y, to a tenth of a pixel.
+/// A path in the making, which goes on from where it stands.
+struct Path {
+    out: String,
+    at: Option<Step>,
+    grid: f64,
+}
+
+impl Path {
+    fn new(page: &Page) -> Self {
+        Path { out: String::new(), at: None, grid: page.detail.grid }
+    }
+
+    fn write(&mut self, letter: char, to: Step) {
+        let [x, y] = to.map(|steps| digits(steps, self.grid));
+        // Writing to a text never fails.
+        write!(self.out, "{letter}{x} {y}").unwrap_or_default();
+    }
+
+    fn segment(&mut self, from: Step, to: Step) {
+        if self.at != Some(from) {
+            self.write('M', from);
+        }
+        self.write('l', [to[0] - from[0], to[1] - from[1]]);
+        self.at = Some(to);
+    }
+
+    fn dot(&mut self, at: Step) {
+        self.write('M', at);
+        self.out.push_str("h0");
+        self.at = None;
+    }
+}
+
+/// A number of steps in digits of pixels.
+fn digits(steps: i64, grid: f64) -> String {
+    match grid < 1.0 && steps % 10 != 0 {
+        true => format!("{:.1}", steps as f64 * grid),
+        false => ((steps as f64 * grid).round() as i64).to_string(),
+    }
+}
+
+/// A place on the page in digits: x and y, on the page's grid.
 pub fn place(page: &Page, point: Point) -> [String; 2] {
-    page.place(point).map(|x| tenth((10.0 * x).round() as i64))
+    step(page, point).map(|steps| digits(steps, page.detail.grid))
 }
 
 #[cfg(test)]
 mod tests {
-    use super::{escape, tenth};
+    use super::{digits, escape};
 
     #[test]
     fn nothing_is_left_that_xml_would_read() {
@@ -64,7 +115,9 @@ mod tests {
     }
 
     #[test]
-    fn tenths_in_digits() {
-        assert_eq!([0, 5, -5, 120, 1234].map(tenth), ["0", "0.5", "-0.5", "12", "123.4"]);
+    fn steps_in_digits() {
+        let tenths = [0, 5, -5, 120, 1234].map(|steps| digits(steps, 0.1));
+        assert_eq!(tenths, ["0", "0.5", "-0.5", "12", "123.4"]);
+        assert_eq!([3, -7].map(|steps| digits(steps, 4.0)), ["12", "-28"]);
     }
 }

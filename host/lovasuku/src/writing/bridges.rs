@@ -1,29 +1,70 @@
-//! The bridges as features.
+//! The bridges and the gaps as features.
 
-use super::{collection, list, number, position, value};
-use crate::delivery::Delivery;
-use crate::joining::{Chain, Joint};
+use super::{list, number, position, value};
+use crate::delivery::{Delivery, Point};
+use crate::joining::{Chain, Gap, Joint, Why};
+use crate::measure::Measure;
 
-/// A FeatureCollection of one feature a bridge: its two lines, its length, and the position of its
-/// chain among the chains.
-pub fn bridges(delivery: &Delivery, chains: &[Chain]) -> Vec<u8> {
-    let of_chain = |(chain, each): (usize, &Chain)| -> Vec<Vec<u8>> {
-        let bridges = each.joints.iter().filter(|joint| joint.is_bridge());
-        bridges.map(|bridge| feature(delivery, chain, bridge)).collect()
-    };
-    let features: Vec<Vec<u8>> = chains.iter().enumerate().flat_map(of_chain).collect();
-    collection(delivery, &features)
+/// What the features of bridges and gaps are written from.
+#[derive(Debug)]
+pub struct Bridges<'a> {
+    pub delivery: &'a Delivery<'a>,
+    pub measure: &'a Measure,
+    pub tolerance: f64,
 }
 
-fn feature(delivery: &Delivery, chain: usize, bridge: &Joint) -> Vec<u8> {
-    let mut out = b"{\"type\":\"Feature\",\"properties\":{\"lines\":".to_vec();
-    list(&mut out, bridge.lines, |out, line| out.extend(delivery.name(line).bytes()));
-    out.extend(b",\"length\":");
-    number(&mut out, bridge.length());
-    out.extend(b",\"chain\":");
-    value(&mut out, &chain);
+impl Bridges<'_> {
+    /// One feature a bridge, and behind these one a gap below the tolerance that stayed open.
+    pub fn write(&self, chains: &[Chain], gaps: &[Gap]) -> Vec<Vec<u8>> {
+        let of_chain = |(chain, each): (usize, &Chain)| -> Vec<Vec<u8>> {
+            let bridges = each.joints.iter().filter(|joint| joint.is_bridge());
+            bridges.map(|bridge| self.bridge(chain, bridge)).collect()
+        };
+        let bridges = chains.iter().enumerate().flat_map(of_chain);
+        bridges.chain(gaps.iter().map(|gap| self.gap(gap))).collect()
+    }
+
+    /// A bridge: its two lines, its length, whether that is more than the tolerance, and its chain.
+    fn bridge(&self, chain: usize, bridge: &Joint) -> Vec<u8> {
+        let mut out = self.head("bridge", bridge.lines, bridge.ends);
+        out.extend(b",\"longer\":");
+        value(&mut out, &(bridge.length() > self.tolerance));
+        out.extend(b",\"chain\":");
+        value(&mut out, &chain);
+        end(out, &bridge.ends)
+    }
+
+    /// A gap: its two lines, its length, why it stayed open, and its chains.
+    fn gap(&self, gap: &Gap) -> Vec<u8> {
+        let mut out = self.head("gap", gap.lines, gap.ends);
+        out.extend(b",\"why\":");
+        let why = match gap.why {
+            Why::Cells => "cells",
+            Why::Junction => "junction",
+            Why::Ring => "ring",
+        };
+        value(&mut out, &why);
+        out.extend(b",\"chains\":");
+        list(&mut out, gap.chains, |out, chain| value(out, &chain));
+        end(out, &gap.ends)
+    }
+
+    fn head(&self, kind: &str, lines: [u32; 2], [a, b]: [Point; 2]) -> Vec<u8> {
+        let mut out = b"{\"type\":\"Feature\",\"properties\":{\"kind\":".to_vec();
+        value(&mut out, &kind);
+        out.extend(b",\"lines\":");
+        list(&mut out, lines, |out, line| out.extend(self.delivery.name(line).bytes()));
+        out.extend(b",\"length\":");
+        number(&mut out, self.measure.distance(a, b));
+        out.extend(b",\"unit\":");
+        value(&mut out, &self.measure.unit);
+        out
+    }
+}
+
+fn end(mut out: Vec<u8>, ends: &[Point; 2]) -> Vec<u8> {
     out.extend(b"},\"geometry\":{\"type\":\"LineString\",\"coordinates\":");
-    list(&mut out, &bridge.ends, position);
+    list(&mut out, ends, position);
     out.extend(b"}}");
     out
 }

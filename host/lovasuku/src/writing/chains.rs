@@ -1,58 +1,90 @@
 //! The chains as features.
 
-use super::{collection, list, position, value};
-use crate::delivery::object::Object;
+use super::{entry, list, position, value, Keep};
 use crate::delivery::{Delivery, Geometry, Point};
 use crate::joining::Chain;
-use crate::parallel::each;
+use crate::measure::Measure;
 use crate::progress::Progress;
+use rayon::prelude::*;
+
+/// How the features of chains are written.
+#[derive(Debug)]
+pub struct Chains<'a> {
+    pub delivery: &'a Delivery<'a>,
+    pub measure: &'a Measure,
+    pub keep: Keep,
+    /// The names of the properties that every chain has.
+    pub own: Vec<String>,
+}
+
+/// The features of chains, and how many of them have a member with a property of a chain's own name,
+/// which is left out.
+#[derive(Debug, Default)]
+pub struct Written {
+    pub features: Vec<Vec<u8>>,
+    pub clashes: usize,
+}
 
 /// How many chains one core writes at a time.
 const PART: usize = 256;
 
-/// The properties that every chain has; members' own ones of these names are left out.
-const OWN: [&str; 3] = ["members", "turned", "count"];
-
-/// A FeatureCollection of one feature a chain, in their order.
-pub fn chains(delivery: &Delivery, chains: &[Chain], progress: &Progress) -> Vec<u8> {
-    progress.begin("writing", chains.len());
-    let parts: Vec<&[Chain]> = chains.chunks(PART).collect();
-    let part = |part: &[Chain]| {
-        progress.add(part.len());
-        part.iter().map(|chain| feature(delivery, chain)).collect::<Vec<_>>()
-    };
-    let written = each(&parts, || (), |_, chains| part(chains));
-    collection(delivery, &written.concat())
+/// The names of the properties that every chain has, each behind the prefix. That of the parts is
+/// for lines that are parts of features.
+pub fn own_names(prefix: &str, parts: bool) -> Vec<String> {
+    let names = ["members", "turned", "count", "parts"];
+    let names = names.into_iter().filter(|&name| parts || name != "parts");
+    names.map(|name| format!("{prefix}{name}")).collect()
 }
 
-fn feature(delivery: &Delivery, chain: &Chain) -> Vec<u8> {
-    let mut out = b"{\"type\":\"Feature\",\"properties\":{\"members\":".to_vec();
-    list(&mut out, &chain.members, |out, &line| out.extend(delivery.name(line).bytes()));
-    out.extend(b",\"turned\":");
-    list(&mut out, &chain.turned, value);
-    out.extend(b",\"count\":");
-    value(&mut out, &chain.members.len());
-    for (name, text) in shared(delivery, chain).iter() {
-        out.push(b',');
-        value(&mut out, &name);
-        out.push(b':');
-        out.extend(text.bytes());
+impl Chains<'_> {
+    /// One feature a chain, in their order.
+    pub fn write(&self, chains: &[Chain], progress: &Progress) -> Written {
+        progress.begin("writing", chains.len());
+        let part = |(part, chains): (usize, &[Chain])| -> Vec<(Vec<u8>, bool)> {
+            progress.add(chains.len());
+            let all = chains.iter().enumerate();
+            all.map(|(k, chain)| self.feature(part * PART + k, chain)).collect()
+        };
+        let all: Vec<(Vec<u8>, bool)> =
+            chains.par_chunks(PART).enumerate().flat_map_iter(part).collect();
+        let clashes = all.iter().filter(|(_, clash)| *clash).count();
+        Written { features: all.into_iter().map(|(feature, _)| feature).collect(), clashes }
     }
-    out.extend(b"},\"geometry\":");
-    geometry(&mut out, delivery, chain);
-    out.push(b'}');
-    out
-}
 
-/// The properties that all members share, as they are written, in the order of the first.
-fn shared<'a>(delivery: &Delivery<'a>, chain: &Chain) -> Object<'a> {
-    let mut all = chain.members.iter().map(|&line| delivery.features[line as usize].object());
-    let mut shared = all.next().unwrap_or_default();
-    shared.retain(|name, _| !OWN.contains(&name));
-    for other in all {
-        shared.retain(|name, text| other.get(name) == Some(text));
+    /// The feature of a chain, and whether a member has a property of a chain's own name.
+    fn feature(&self, id: usize, chain: &Chain) -> (Vec<u8>, bool) {
+        let Chains { delivery, measure, keep, own } = self;
+        let mut out = b"{\"type\":\"Feature\",\"id\":".to_vec();
+        value(&mut out, &id);
+        out.extend(b",\"properties\":{");
+        for (k, name) in own.iter().enumerate() {
+            if k > 0 {
+                out.push(b',');
+            }
+            value(&mut out, name);
+            out.push(b':');
+            let part = |&line: &u32| delivery.features[line as usize].part;
+            match k {
+                0 => list(&mut out, &chain.members, |out, &line| {
+                    out.extend(delivery.name(line).bytes())
+                }),
+                1 => list(&mut out, &chain.turned, value),
+                2 => value(&mut out, &chain.members.len()),
+                _ => list(&mut out, &chain.members, |out, line| value(out, &part(line))),
+            }
+        }
+        let (properties, clash) = keep.properties(delivery, measure, chain, own);
+        for (name, text) in &properties {
+            entry(&mut out, name, text);
+        }
+        out.extend(b"},\"geometry\":");
+        geometry(&mut out, delivery, chain);
+        for (name, text) in keep.foreign(delivery, measure, chain).iter() {
+            entry(&mut out, name, text);
+        }
+        out.push(b'}');
+        (out, clash)
     }
-    shared
 }
 
 /// The geometry of a chain: its points, or those of its only line as they were.
@@ -67,7 +99,7 @@ fn geometry(out: &mut Vec<u8>, delivery: &Delivery, chain: &Chain) {
             out.extend(b"{\"type\":\"MultiLineString\",\"coordinates\":");
             list(out, parts, |out, part| run(out, part));
         }
-        (None, None) => return out.extend(b"null"),
+        (None, None | Some(Geometry::Other(_))) => return out.extend(b"null"),
     }
     out.push(b'}');
 }

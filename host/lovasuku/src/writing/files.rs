@@ -1,42 +1,52 @@
 //! How outputs are put in their places: all of them, or none.
 
-use anyhow::{Context, Result};
-use std::fs;
+use super::parts::Parts;
+use super::places::Place;
+use anyhow::{anyhow, Context, Result};
+use std::fs::OpenOptions;
 use std::io::{self, Write};
 use std::path::{Path, PathBuf};
 
-/// A text and the path it is for; `-` is the standard output.
+/// A text and where it goes.
 #[derive(Debug)]
 pub struct Output {
-    pub path: PathBuf,
+    pub target: Target,
     pub text: Vec<u8>,
 }
 
-/// A file that is written beside its place, and taken away again unless it is put there.
-struct Beside {
-    file: PathBuf,
-    place: PathBuf,
+/// The path of an output as it was asked for, and the place that it leads to.
+#[derive(Clone, Debug)]
+pub struct Target {
+    pub path: PathBuf,
+    place: Place,
+}
+
+impl Target {
+    /// Where a path leads to, if that may be written.
+    pub fn of(path: &Path) -> Result<Self> {
+        let place = Place::of(path).with_context(|| fault(path))?;
+        place.may_be_written().with_context(|| fault(path))?;
+        Ok(Target { path: path.to_owned(), place })
+    }
 }
 
 /// Puts all outputs in their places. Files are written beside their places first, so that none is
 /// changed where one cannot be written.
 pub fn put(outputs: &[Output]) -> Result<()> {
-    let mut waiting = Vec::new();
-    let mut direct = Vec::new();
-    for output in outputs {
-        if is_file(&output.path) {
-            waiting.push(Beside::write(output).with_context(|| fault(&output.path))?);
-        } else {
-            direct.push(output);
+    let parts = Parts::begin().context("signals cannot be heeded")?;
+    for Output { target, text } in outputs {
+        if let Place::File(place) = &target.place {
+            let written = parts.open(place).and_then(|mut part| {
+                part.write_all(text)?;
+                part.sync_all()
+            });
+            written.with_context(|| fault(&target.path))?;
         }
     }
-    for output in direct {
-        write_through(output).with_context(|| fault(&output.path))?;
+    for output in outputs {
+        write_through(output).with_context(|| fault(&output.target.path))?;
     }
-    for beside in waiting {
-        beside.put().with_context(|| fault(&beside.place))?;
-    }
-    Ok(())
+    parts.put().map_err(|(place, error)| anyhow!(error).context(fault(&place)))
 }
 
 fn fault(path: &Path) -> String {
@@ -46,44 +56,16 @@ fn fault(path: &Path) -> String {
     }
 }
 
-/// True where the path names a file, or nothing yet; false for the standard output, a pipe or a
-/// device.
-fn is_file(path: &Path) -> bool {
-    path != Path::new("-") && fs::metadata(path).map_or(true, |about| about.is_file())
-}
-
-fn write_through(output: &Output) -> io::Result<()> {
-    if output.path == Path::new("-") {
-        let mut out = io::stdout().lock();
-        out.write_all(&output.text)?;
-        out.flush()
-    } else {
-        fs::write(&output.path, &output.text)
-    }
-}
-
-impl Beside {
-    fn write(output: &Output) -> io::Result<Self> {
-        // The place of a link is the file that it leads to.
-        let place = fs::canonicalize(&output.path).unwrap_or_else(|_| output.path.clone());
-        let name = place.file_name().ok_or(io::ErrorKind::InvalidInput)?.to_string_lossy();
-        let file = place.with_file_name(format!(".{name}.{}.part", std::process::id()));
-        let beside = Beside { file, place };
-        fs::write(&beside.file, &output.text)?;
-        if let Ok(about) = fs::metadata(&beside.place) {
-            fs::set_permissions(&beside.file, about.permissions())?;
+/// Writes what is no file by itself. What is open already goes on where it stands.
+fn write_through(Output { target, text }: &Output) -> io::Result<()> {
+    match &target.place {
+        Place::File(_) => Ok(()),
+        Place::Out => {
+            let mut out = io::stdout().lock();
+            out.write_all(text)?;
+            out.flush()
         }
-        Ok(beside)
-    }
-
-    fn put(&self) -> io::Result<()> {
-        fs::rename(&self.file, &self.place)
-    }
-}
-
-impl Drop for Beside {
-    fn drop(&mut self) {
-        // After it was put in its place there is nothing left here to take away.
-        let _ = fs::remove_file(&self.file);
+        Place::Err => io::stderr().write_all(text),
+        Place::Through(path) => OpenOptions::new().append(true).open(path)?.write_all(text),
     }
 }

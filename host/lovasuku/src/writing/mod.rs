@@ -3,29 +3,18 @@
 mod bridges;
 mod chains;
 mod files;
+mod format;
+mod keep;
+mod parts;
+mod places;
 
-use crate::delivery::{Delivery, Point};
-pub use bridges::bridges;
-pub use chains::chains;
-pub use files::{put, Output};
-
-/// A FeatureCollection of features that are written already, in the reference system of the
-/// delivery.
-fn collection(delivery: &Delivery, features: &[Vec<u8>]) -> Vec<u8> {
-    let mut out = b"{\"type\":\"FeatureCollection\",\n".to_vec();
-    if let Some(crs) = delivery.crs {
-        out.extend(format!("\"crs\":{crs},\n").bytes());
-    }
-    out.extend(b"\"features\":[\n");
-    for (k, feature) in features.iter().filter(|feature| !feature.is_empty()).enumerate() {
-        if k > 0 {
-            out.extend(b",\n");
-        }
-        out.extend(feature);
-    }
-    out.extend(b"\n]}\n");
-    out
-}
+use crate::delivery::Point;
+pub use bridges::Bridges;
+pub use chains::{own_names, Chains};
+pub use files::{put, Output, Target};
+pub use format::Format;
+pub use keep::Keep;
+pub use places::apart;
 
 /// Writes a list, each item by the given function.
 fn list<T>(
@@ -41,6 +30,14 @@ fn list<T>(
         item(out, each);
     }
     out.push(b']');
+}
+
+/// Writes a name and a value that is written already, behind others of an object.
+fn entry(out: &mut Vec<u8>, name: &str, text: &str) {
+    out.push(b',');
+    value(out, &name);
+    out.push(b':');
+    out.extend(text.bytes());
 }
 
 /// Writes a position.

@@ -1,0 +1,71 @@
+-- The rounds of an accepted call: what they ask, and what they leave. Points have a width, to which the counts add up.
+use Prim.Native.Nat.{ℕ, _+_, _-_, _*_, _≤_}
+use mathlib.Core.Path.{_≡_}
+use mathlib.Core.Bool.{true, false}
+use mathlib.Core.List.{List, map, flatMap}
+use lib.Dec.{eqb}
+use lib.ListN.{length, take, drop}
+use lib.Seq.{slice}
+use Rattle.rules.specs.declared.Settings.{Settings}
+use Rattle.rules.specs.Lists.{total}
+use Rattle.rules.specs.Plane.{flat}
+use Rattle.rules.specs.Chaining.{Piece}
+use Rattle.rules.specs.Layout.{Lines, copy}
+use Rattle.rules.specs.Refusals.{mostLines, lineRoom, limitBad}
+use Rattle.build_refusals.specs.Tests.{switchBad}
+use Rattle.rules.specs.Calls.{written}
+use Rattle.chain_pieces.specs.Held.{linesOf, marksOf, Held}
+use Rattle.chain_pieces.specs.Map.{markBlock, takenBlock}
+use Rattle.chain_keys.specs.Tells.{OneGroup}
+use Rattle.build_lines.specs.Taken.{Adds}
+use Rattle.build_layout.specs.Laying.{leftOf}
+
+-- ---- any pieces
+
+-- the words of the workspace from `at` to its named length
+abbrev pub partFrom : ℕ → ℕ → List ℕ → List ℕ
+partFrom n at workspace = take (n * lineRoom - at) (drop at workspace)
+
+-- the pieces ps of n lines stand in the workspace from `at` on with their marks, and what they copy in `out`; beyond its named length the workspace is as before
+pub record Left (width n : ℕ) (coordinates counts : List ℕ) (ps : List Piece) (at number : ℕ) (out′ out workspace′ workspace : List ℕ) : Type 0 where
+  pub within : at ≤ n * lineRoom
+  pub held : Held width (partFrom n at workspace′) 0 n coordinates out′ counts ps
+  pub turned : slice (n * markBlock) (n * markBlock + length (marksOf ps)) (partFrom n at workspace′) ≡ marksOf ps
+  pub number-is : number ≡ length ps
+  pub copied-is : out′ ≡ written (flat width (flatMap copy ps)) out
+  pub rest : drop (n * lineRoom) workspace′ ≡ drop (n * lineRoom) workspace
+
+-- ---- round one
+
+-- what is asked of a call's lines; what the pieces copy goes into `out`
+pub record Buildable (width : ℕ) (l : Lines) (s : Settings) (out workspace : List ℕ) : Type 0 where
+  pub few : length (l .counts) ≤ mostLines
+  pub groups-long : length (l .groups) ≡ length (l .counts)
+  pub kinds-long : length (l .kinds) ≡ length (l .counts)
+  pub adds : Adds width (l .counts) (l .coordinates)
+  pub switched : switchBad (s .switch) (s .limit) ≡ false
+  pub out-long : length (l .coordinates) ≤ length out
+  pub workspace-long : length (l .counts) * lineRoom ≤ length workspace
+
+-- ---- round two
+
+-- what is asked of any m pieces that stand where round one leaves its own, with what they copy in `copies`
+pub record Second (width n m : ℕ) (s : Settings) (coordinates groups copies merged workspace : List ℕ) : Type 0 where
+  pub counts : List ℕ
+  pub ps : List Piece
+  pub two : 2 ≤ width
+  pub few : n ≤ mostLines
+  pub number : m ≡ length ps
+  pub held : Held width (partFrom n (n * takenBlock) workspace) 0 n coordinates copies counts ps
+  pub grouped : OneGroup groups ps
+  pub fair : eqb (s .switch) 1 ≡ true → limitBad (s .limit) ≡ false
+  pub fits : total (map (λ (p : Piece). length (p .points)) ps) * width ≤ length merged
+  pub workspace-long : n * lineRoom ≤ length workspace
+
+-- ---- both
+
+-- the pieces that the rounds leave of a call's lines; beyond the coordinates' length spare is as before
+pub record AllLeft (width : ℕ) (l : Lines) (s : Settings) (at number lines : ℕ) (merged′ merged spare′ spare workspace′ workspace : List ℕ) : Type 0 where
+  pub left : Left width (length (l .counts)) (l .coordinates) (l .counts) (leftOf width s l) at number merged′ merged workspace′ workspace
+  pub lines-are : lines ≡ length (linesOf (leftOf width s l))
+  pub spare-rest : drop (length (l .coordinates)) spare′ ≡ drop (length (l .coordinates)) spare

@@ -1,0 +1,257 @@
+// Building: refusals, round one, round two where the tolerance is above 0, the layout, and the zeros that are left.
+use chain_pieces::TAKEN;
+use rules::Answer;
+use rules::Grid;
+use rules::LINE_ROOM;
+use rules::Settings;
+ghost use mathlib.Core.Path.{_≡_};
+ghost use Prim.Native.Nat.{_*_, _≤_};
+ghost use lib.ListN.{length};
+ghost use Rattle.rules.specs.declared.Grid.the-variants.{Cells};
+ghost use Rattle.rules.specs.Chaining.{ruleOf, join, roundOne};
+ghost use Rattle.rules.specs.Layout.{lent};
+ghost use Rattle.rules.specs.Refusals.{rooms, refusalOf};
+ghost use Rattle.rules.specs.Calls.{Built};
+ghost use Rattle.chain_pieces.specs.Map.{takenBlock};
+ghost use Rattle.build_lines.specs.Taken.{plainOf};
+ghost use Rattle.build_chains.specs.Building.{Buildable, Left, Second, AllLeft};
+
+// The numbers of a point: its x and its y.
+const WIDTH: usize = 2;
+
+// Where the pieces that the rounds leave stand in the workspace, how many there are, and how many lines they have.
+pub struct Pieces {
+    pub at: usize,
+    pub number: usize,
+    pub lines: usize,
+}
+
+// Round one: the plain lines of a call as pieces, joined where their ends are the same place. What the pieces copy goes into `out`.
+fn round_one(
+    coordinates: &[u64],
+    width: usize,
+    counts: &[u32],
+    groups: &[u32],
+    kinds: &[u8],
+    settings: Settings,
+    out: &mut [u64],
+    workspace: &mut [u64],
+) -> Pieces
+    requires { ⌜ Buildable width (lent (now coordinates) (now counts) (now groups) (now kinds)) settings (now out) (now workspace) ⌝ }
+    ensures { λ r. ⌜ Left width (length (now (counts .entry))) (now (coordinates .entry)) (now (counts .entry))
+        (roundOne settings (plainOf width (lent (now (coordinates .entry)) (now (counts .entry)) (now (groups .entry)) (now (kinds .entry)))))
+        (r .at) (r .number) (now (out .exit)) (now (out .entry)) (now (workspace .exit)) (now (workspace .entry))
+        × (r .at ≡ length (now (counts .entry)) * takenBlock)
+        × (r .lines ≡ length (plainOf width (lent (now (coordinates .entry)) (now (counts .entry)) (now (groups .entry)) (now (kinds .entry))))) ⌝ }
+{
+    let n = counts.len();
+    let at = n * TAKEN;
+    let end = n * LINE_ROOM;
+    let lines = build_lines::take_lines(&mut workspace[at..end], n, counts, kinds);
+    let number = chain_round::join_pieces(
+        &mut workspace[at..end],
+        n,
+        lines,
+        Grid::Exact,
+        settings,
+        width,
+        groups,
+        coordinates,
+        coordinates,
+        out,
+    );
+    Pieces { at, number, lines }
+}
+
+// Round two, of the m pieces of n lines that stand where round one leaves its own: joined where their ends are in one cell. Returns how many there are then.
+fn round_two<'a>(
+    coordinates: &'a [u64],
+    width: usize,
+    n: usize,
+    groups: &[u32],
+    settings: Settings,
+    m: usize,
+    copies: &'a [u64],
+    merged: &mut [u64],
+    workspace: &mut [u64],
+) -> usize
+    requires { ⌜ Second width n m settings (now coordinates) (now groups) (now copies) (now merged) (now workspace) ⌝ }
+    ensures { λ r. ⌜ ((y : Second width n m settings (now (coordinates .entry)) (now (groups .entry)) (now (copies .entry)) (now (merged .entry)) (now (workspace .entry)))
+        → Left width n (now (coordinates .entry)) (y .counts) (join (ruleOf (Cells (settings .tolerance)) settings) (y .ps))
+        0 r (now (merged .exit)) (now (merged .entry)) (now (workspace .exit)) (now (workspace .entry))) ⌝ }
+{
+    let end = n * LINE_ROOM;
+    let grid = Grid::Cells(settings.tolerance);
+    chain_round::join_pieces(
+        &mut workspace[0..end],
+        n,
+        m,
+        grid,
+        settings,
+        width,
+        groups,
+        coordinates,
+        copies,
+        merged,
+    )
+}
+
+// The lines joined in one round, which merges into `merged`, or in two where the tolerance is above 0: round one merges into `spare` then, and round
+// two from there into `merged`.
+fn join_lines(
+    coordinates: &[u64],
+    width: usize,
+    counts: &[u32],
+    groups: &[u32],
+    kinds: &[u8],
+    settings: Settings,
+    merged: &mut [u64],
+    spare: &mut [u64],
+    workspace: &mut [u64],
+) -> Pieces
+    requires { ⌜ Buildable width (lent (now coordinates) (now counts) (now groups) (now kinds)) settings (now merged) (now workspace)
+        × (length (now coordinates) ≤ length (now spare)) ⌝ }
+    ensures { λ r. ⌜ AllLeft width (lent (now (coordinates .entry)) (now (counts .entry)) (now (groups .entry)) (now (kinds .entry))) settings
+        (r .at) (r .number) (r .lines) (now (merged .exit)) (now (merged .entry)) (now (spare .exit)) (now (spare .entry))
+        (now (workspace .exit)) (now (workspace .entry)) ⌝ }
+{
+    let n = counts.len();
+    if 0.0 < settings.tolerance {
+        let one = round_one(
+            coordinates,
+            width,
+            counts,
+            groups,
+            kinds,
+            settings,
+            spare,
+            workspace,
+        );
+        let number = round_two(
+            coordinates,
+            width,
+            n,
+            groups,
+            settings,
+            one.number,
+            spare,
+            merged,
+            workspace,
+        );
+        return Pieces {
+            at: 0,
+            number,
+            lines: one.lines,
+        };
+    }
+    round_one(
+        coordinates,
+        width,
+        counts,
+        groups,
+        kinds,
+        settings,
+        merged,
+        workspace,
+    )
+}
+
+// A call that is not refused: the rounds, the layout, and the zeros that are left.
+fn build_admitted(
+    coordinates: &[u64],
+    counts: &[u32],
+    groups: &[u32],
+    kinds: &[u8],
+    settings: Settings,
+    table: &mut [u32],
+    members: &mut [u32],
+    marks: &mut [u8],
+    merged: &mut [u64],
+    spare: &mut [u64],
+    workspace: &mut [u64],
+) -> Answer
+    requires { ⌜ refusalOf (lent (now coordinates) (now counts) (now groups) (now kinds)) settings
+        (rooms (now table) (now members) (now marks) (now merged) (now spare) (now workspace)) ≡ 0 ⌝ }
+    ensures { λ r. ⌜ Built (lent (now (coordinates .entry)) (now (counts .entry)) (now (groups .entry)) (now (kinds .entry))) settings
+        (rooms (now (table .entry)) (now (members .entry)) (now (marks .entry)) (now (merged .entry)) (now (spare .entry)) (now (workspace .entry)))
+        r (rooms (now (table .exit)) (now (members .exit)) (now (marks .exit)) (now (merged .exit)) (now (spare .exit)) (now (workspace .exit))) ⌝ }
+{
+    let n = counts.len();
+    let left = join_lines(
+        coordinates,
+        WIDTH,
+        counts,
+        groups,
+        kinds,
+        settings,
+        merged,
+        spare,
+        workspace,
+    );
+    let at = left.at;
+    let end = n * LINE_ROOM;
+    let number = build_layout::lay_out(
+        &workspace[at..end],
+        n,
+        left.number,
+        left.lines,
+        counts,
+        kinds,
+        table,
+        members,
+        marks,
+    );
+    point_slices::clear(spare, coordinates.len());
+    point_slices::clear(workspace, end);
+    Answer::Accepted(number as u64)
+}
+
+// Builds the chains of a call: table, members, marks and merged coordinates. A refused call changes no slice; an accepted one leaves spare and
+// workspace zero over their named length, whatever they held.
+pub fn build(
+    coordinates: &[u64],
+    counts: &[u32],
+    groups: &[u32],
+    kinds: &[u8],
+    settings: Settings,
+    table: &mut [u32],
+    members: &mut [u32],
+    marks: &mut [u8],
+    merged: &mut [u64],
+    spare: &mut [u64],
+    workspace: &mut [u64],
+) -> Answer
+    ensures { λ r. ⌜ Built (lent (now (coordinates .entry)) (now (counts .entry)) (now (groups .entry)) (now (kinds .entry))) settings
+        (rooms (now (table .entry)) (now (members .entry)) (now (marks .entry)) (now (merged .entry)) (now (spare .entry)) (now (workspace .entry)))
+        r (rooms (now (table .exit)) (now (members .exit)) (now (marks .exit)) (now (merged .exit)) (now (spare .exit)) (now (workspace .exit))) ⌝ }
+{
+    let refused = build_refusals::refusal(
+        coordinates,
+        counts,
+        groups,
+        kinds,
+        settings,
+        table,
+        members,
+        marks,
+        merged,
+        spare,
+        workspace,
+    );
+    if refused != 0 {
+        return Answer::Refused(refused);
+    }
+    build_admitted(
+        coordinates,
+        counts,
+        groups,
+        kinds,
+        settings,
+        table,
+        members,
+        marks,
+        merged,
+        spare,
+        workspace,
+    )
+}

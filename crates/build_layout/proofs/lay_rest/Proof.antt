@@ -1,0 +1,124 @@
+-- After k lines those of them that pass through are chains: `Resting` says how, and its laws are the start, a line of either sort, and the end.
+use Prim.Native.Nat.{_-_}
+use mathlib.Core.Path.{sym, _∙_}
+use mathlib.Core.Logic.{⊎-elim}
+use native.Mathlib.Omega.{arith}
+use lib.ListN.{length}
+use borrow.Author.Tests.{not-true, not-false}
+use Rattle.build_layout.specs.Laying.{Rest}
+use Rattle.build_layout.proofs.Resting.{Resting, resting-start, next-small, resting-room, resting-passes, resting-plain, resting-done}
+use Rattle.build_layout.proofs.lay_rest.Statement.{statement}
+use Rattle.build_layout.proofs.lay_rest.Tie as tie
+
+abbrev Inv-loop : tie.InvT-loop
+Inv-loop counts kinds j m table₀ members₀ marks₀ k₀ r₀ first₀ table members marks k r first =
+    (y : Rest counts kinds j m table₀ members₀ marks₀) → Resting (y .width) counts kinds (y .coordinates) (y .groups) j m table table₀ members members₀ marks marks₀ k r first
+
+abbrev μ-loop : tie.MeasureT-loop
+μ-loop counts kinds j m table₀ members₀ marks₀ k₀ r₀ first₀ table members marks k r first = length counts - k
+
+loop-holds : tie.Need-loop-holds Inv-loop μ-loop
+loop-holds c =
+    let a = c .before .before .before .before .before .args in
+    λ y. resting-start (y .width) (a .counts .now) (a .kinds .now) (y .coordinates) (y .groups) (a .j) (a .m) (a .table .now) (a .members .now) (a .marks .now)
+
+mul-count : tie.Need-mul-count Inv-loop μ-loop
+mul-count c = omega arith
+
+shared-slice-read-count : tie.Need-shared-slice-read-count Inv-loop μ-loop
+shared-slice-read-count c = omega arith
+
+shared-slice-read-is-plain : tie.Need-shared-slice-read-is-plain Inv-loop μ-loop
+shared-slice-read-is-plain c = omega arith
+
+is-plain-requires : tie.Need-is-plain-requires Inv-loop μ-loop
+is-plain-requires c κs = omega arith
+
+add-lay-line : tie.Need-add-lay-line Inv-loop μ-loop
+add-lay-line c =
+    let l = c .before .before .before .before .before in
+    let y = l .before .before .before .before .before .before .pre in
+    omega (arith, y .table-fits, l .loop .inv y .fewer)
+
+add-lay-line-2 : tie.Need-add-lay-line-2 Inv-loop μ-loop
+add-lay-line-2 c =
+    let l = c .before .before .before .before .before in
+    let y = l .before .before .before .before .before .before .pre in
+    omega (arith, y .members-few, l .loop .inv y .fewer)
+
+lay-line-requires : tie.Need-lay-line-requires Inv-loop μ-loop
+lay-line-requires c κs =
+    let l = c .before .before .before .before .before .before .before .before in
+    let y = l .before .before .before .before .before .before .pre in
+    resting-room y (l .loop .inv y) (omega arith) (sym (c .before .before .before .before .is-plain .ensures) ∙ not-true _ (c .before .before .before .if1 .taken))
+
+add-r : tie.Need-add-r Inv-loop μ-loop
+add-r c =
+    let l = c .before .before .before .before .before .before .before .before .before .before .before .before .before .before .before in
+    let y = l .before .before .before .before .before .before .pre in
+    omega (arith, y .members-few, l .loop .inv y .fewer)
+
+add-first : tie.Need-add-first Inv-loop μ-loop
+add-first c =
+    let l = c .before .before .before .before .before in
+    let y = l .before .before .before .before .before .before .pre in
+    omega (arith, next-small y (l .loop .inv y) (omega arith))
+
+add-k : tie.Need-add-k Inv-loop μ-loop
+add-k c = omega arith
+
+loop-less : tie.Need-loop-less Inv-loop μ-loop
+loop-less c = omega arith
+
+loop-again : tie.Need-loop-again Inv-loop μ-loop
+loop-again c =
+    let l = c .before .before .before .before .before in
+    let tested = sym (c .before .is-plain .ensures) in
+    λ y.
+    ⊎-elim
+    (λ t. resting-passes y (l .loop .inv y) (omega arith) (tested ∙ not-true _ (t .0 .taken)) (t .4 .ensures) (t .11) (t .12) (t .13) (t .14))
+    (λ t. resting-plain y (l .loop .inv y) (omega arith) (tested ∙ not-false _ (t .0 .left)) (t .1) (t .2) (t .3) (t .4))
+    (c .if1 .came)
+
+add-result : tie.Need-add-result Inv-loop μ-loop
+add-result c =
+    let l = c .before in
+    let y = l .before .before .before .before .before .before .pre in
+    omega (arith, y .table-fits, l .loop .inv y .fewer)
+
+same-length : tie.Need-same-length Inv-loop μ-loop
+same-length c = c .before .loop .inv (c .before .before .before .before .before .before .before .pre) .table-size
+
+same-length-2 : tie.Need-same-length-2 Inv-loop μ-loop
+same-length-2 c = c .before .loop .inv (c .before .before .before .before .before .before .before .pre) .members-size
+
+same-length-3 : tie.Need-same-length-3 Inv-loop μ-loop
+same-length-3 c = c .before .loop .inv (c .before .before .before .before .before .before .before .pre) .marks-size
+
+returns : tie.Need-returns Inv-loop μ-loop
+returns c = λ y. resting-done y (c .before .loop .inv y) (omega arith)
+
+pub lay-rest-spec : {M : Type 1} → statement M
+lay-rest-spec =
+    tie.close
+    (tie.spec
+    Inv-loop
+    μ-loop
+    loop-holds
+    mul-count
+    shared-slice-read-count
+    shared-slice-read-is-plain
+    is-plain-requires
+    add-lay-line
+    add-lay-line-2
+    lay-line-requires
+    add-r
+    add-first
+    add-k
+    loop-less
+    loop-again
+    add-result
+    same-length
+    same-length-2
+    same-length-3
+    returns)

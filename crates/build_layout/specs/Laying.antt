@@ -1,0 +1,101 @@
+-- From the pieces that the rounds of an accepted call leave to its answer. Chains and members are numbered on from the pieces to the lines that pass
+-- through. In each record a name with a prime is what a slice is at return, and the plain name what it was.
+use Prim.Native.Nat.{ℕ, _+_, _*_, _≤_, _<_}
+use mathlib.Core.Path.{_≡_}
+use mathlib.Core.Bool.{false}
+use mathlib.Core.List.{List, [], _∷_}
+use lib.ListN.{length, getD}
+use lib.Seq.{slice}
+use Rattle.rules.specs.declared.Settings.{Settings}
+use Rattle.rules.specs.Lists.{total}
+use Rattle.rules.specs.Chaining.{Piece, pieces, roundOne, roundTwo}
+use Rattle.rules.specs.Layout.{Lines, lent, linesIn, table as table-of, Laid}
+use Rattle.rules.specs.Refusals.{mostLines, mostPoints, recordSize}
+use Rattle.rules.specs.Calls.{written}
+use Rattle.point_slices.specs.Holds.{HoldsFrom}
+use Rattle.chain_pieces.specs.Held.{linesOf, marksOf, Held}
+use Rattle.build_lines.specs.Taken.{Adds, plainOf}
+use Rattle.chain_pieces.specs.Map.{markBlock}
+
+-- ---- the pieces of a call
+
+-- the lines that pass through
+abbrev pub passingOf : ℕ → Lines → List Piece
+passingOf width l = pieces false 0 (linesIn width l)
+
+-- the pieces that the rounds leave
+abbrev pub leftOf : ℕ → Settings → Lines → List Piece
+leftOf width s l = roundTwo s (roundOne s (plainOf width l))
+
+-- ---- words that are read narrower than they stand
+
+-- the k words of w from `from` on are below `most`, and `out` has room for them
+pub record Narrow (w : List ℕ) (from k most : ℕ) (out : List ℕ) : Type 0 where
+  pub inside : from + k ≤ length w
+  pub room : k ≤ length out
+  pub below : (i : ℕ) → i < k → getD w (from + i) 0 < most
+
+-- ---- one line that passes through
+
+pub record ChainLayable (k chain m : ℕ) (table members marks : List ℕ) : Type 0 where
+  pub narrow : (k ≤ mostLines) × (m ≤ mostLines)
+  pub record-fits : chain * recordSize + recordSize ≤ length table
+  pub member-fits : m < length members
+  pub mark-fits : m < length marks
+
+pub record Chained (k first count chain m : ℕ) (table′ table members′ members marks′ marks : List ℕ) : Type 0 where
+  pub row : HoldsFrom table′ table (chain * recordSize) recordSize (m ∷ 1 ∷ 0 ∷ first ∷ count ∷ [])
+  pub member : HoldsFrom members′ members m 1 (k ∷ [])
+  pub mark : HoldsFrom marks′ marks m 1 (0 ∷ [])
+
+-- ---- all lines that pass through
+
+-- the groups are any, and the coordinates any, of any width, to which the counts add up; j chains and m members stand before
+pub record Rest (counts kinds : List ℕ) (j m : ℕ) (table members marks : List ℕ) : Type 0 where
+  pub width : ℕ
+  pub coordinates : List ℕ
+  pub groups : List ℕ
+  pub few : length counts ≤ mostLines
+  pub kinds-long : length kinds ≡ length counts
+  pub adds : Adds width counts coordinates
+  pub small : total counts ≤ mostPoints
+  pub members-few : m + length (passingOf width (lent coordinates counts groups kinds)) ≤ mostLines
+  pub table-fits : (j + length (passingOf width (lent coordinates counts groups kinds))) * recordSize ≤ length table
+  pub members-fit : m + length (passingOf width (lent coordinates counts groups kinds)) ≤ length members
+  pub marks-fit : m + length (passingOf width (lent coordinates counts groups kinds)) ≤ length marks
+
+-- the lines ps that pass through are chains; r chains stand then. What they copy is nothing, so that any number of points may stand before
+pub record Rested (counts : List ℕ) (j m : ℕ) (ps : List Piece) (table′ table members′ members marks′ marks : List ℕ) (r : ℕ) : Type 0 where
+  pub number : r ≡ j + length ps
+  pub records : (c : ℕ) → HoldsFrom table′ table (j * recordSize) (length ps * recordSize) (table-of counts m c ps)
+  pub listed : HoldsFrom members′ members m (length ps) (linesOf ps)
+  pub turned : HoldsFrom marks′ marks m (length ps) (marksOf ps)
+
+-- ---- a call
+
+-- the pieces that the rounds leave stand at the front of w, p pieces with l members in all; n, the coordinates and the rooms are those of an accepted call
+pub record Layable (w : List ℕ) (n p l : ℕ) (counts kinds table members marks : List ℕ) : Type 0 where
+  pub width : ℕ
+  pub coordinates : List ℕ
+  pub groups : List ℕ
+  pub settings : Settings
+  pub copies : List ℕ
+  pub held : Held width w 0 n coordinates copies counts (leftOf width settings (lent coordinates counts groups kinds))
+  pub turned : slice (n * markBlock) (n * markBlock + length (marksOf (leftOf width settings (lent coordinates counts groups kinds)))) w ≡ marksOf (leftOf width settings (lent coordinates counts groups kinds))
+  pub number : p ≡ length (leftOf width settings (lent coordinates counts groups kinds))
+  pub listed : l ≡ length (linesOf (leftOf width settings (lent coordinates counts groups kinds)))
+  pub few : n ≤ mostLines
+  pub counts-long : length counts ≡ n
+  pub kinds-long : length kinds ≡ n
+  pub adds : Adds width counts coordinates
+  pub small : total counts ≤ mostPoints
+  pub table-long : n * recordSize ≤ length table
+  pub members-long : n ≤ length members
+  pub marks-long : n ≤ length marks
+
+-- what is laid out stands at the front of each slice, and beyond it the slice is as before
+pub record Outputs (a : Laid) (table′ table members′ members marks′ marks : List ℕ) (r : ℕ) : Type 0 where
+  pub number : r ≡ a .number
+  pub records : table′ ≡ written (a .records) table
+  pub listed : members′ ≡ written (a .members) members
+  pub turned : marks′ ≡ written (a .marks) marks

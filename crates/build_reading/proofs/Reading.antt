@@ -1,0 +1,308 @@
+-- Reading: the rooms that the layout of some chains begins give back those chains, each with its members, marks and coordinates.
+-- A record counts what the chains before it wrote, and that is what stands before; a chain of one line has that line's own coordinates, which stand
+-- in the input.
+use Prim.Native.Nat.{ℕ, zero, suc, _+_, _*_, _≤_, _<_}
+use mathlib.Core.Path.{_≡_, refl, sym, ap, ap₂, _∙_}
+use mathlib.Core.Bool.{Bool, true, false, _||_}
+use mathlib.Core.List.{List, [], _∷_, _++_, map, flatMap, append-assoc}
+use native.Mathlib.Omega.{arith}
+use native.Mathlib.Nat.{add-mul, mul-le-mul-right, eq-of-mul-eq-mul-right}
+use lib.Dec.{eqb}
+use lib.ListN.{length, getD, take, drop, length-append, take-append-drop, List·getD-append}
+use lib.Seq.{split-at, length-take-le, getD-take, getD-drop, take-at, drop-at}
+use borrow.Author.Tests.{le-ltb, eqb-true}
+use Rattle.rules.specs.Lists.{one, from, upto, total}
+use Rattle.rules.specs.Plane.{Point, points, flat}
+use Rattle.rules.specs.Chaining.{Piece, nothing, Line}
+use Rattle.rules.specs.Layout.{lines, copied, copy, five, table}
+use Rattle.rules.specs.Refusals.{rooms, recordSize, entry, sourceOf, noChain, chainRefusalOf, firstOf}
+use Rattle.rules.specs.Calls.{viewed, unless}
+use Rattle.chain_laws.proofs.Counts.{Each, nil, cons, each-getD}
+use Rattle.chain_laws.proofs.Lines.{flatMap-append, map-from}
+use Rattle.chain_laws.proofs.Sound.{noLine, Sound}
+use Rattle.chain_laws.proofs.Records.{record-at, table-length, line-at}
+use Rattle.point_numbers.proofs.Points.{flat-append, flat-length, points-back}
+use Rattle.build_lines.specs.Taken.{Adds}
+use Rattle.build_lines.proofs.Passing.{total-part}
+use Rattle.build_reading.specs.Reading.{readAt, readAll, readOf}
+
+-- ---- lists
+
+by-index : {A B : Type 0} (f : ℕ → B) (g : A → B) (d : A) (l : List A) → ((k : ℕ) → k < length l → f k ≡ g (getD l k d)) → map f (upto (length l)) ≡ map g l
+unfolding upto from
+by-index f g d [] h = refl
+by-index {B = B} f g d (a ∷ l) h =
+    ap₂ {C = List B} (λ x r. x ∷ r) (h 0 (omega arith))
+    (map-from f 0 (length l) ∙ by-index (λ i. f (suc i)) g d l (λ k b. h (suc k) (omega arith)))
+
+-- what one element gives, among what all give, whatever lies behind
+part-of : {A B : Type 0} (f : A → List B) (pre : List A) (p : A) (post : List A) (behind : List B) (m n : ℕ)
+    → length (flatMap f pre) ≡ m → length (f p) ≡ n
+    → take n (drop m (flatMap f (pre ++ (p ∷ post)) ++ behind)) ≡ f p
+unfolding flatMap
+part-of {B = B} f pre p post behind m n h k =
+    ap (λ (l : List B). take n (drop m (l ++ behind))) (flatMap-append f pre (p ∷ post))
+    ∙ ap (λ (l : List B). take n (drop m l))
+    (append-assoc (flatMap f pre) (f p ++ flatMap f post) behind ∙ ap (λ (l : List B). flatMap f pre ++ l) (append-assoc (f p) (flatMap f post) behind))
+    ∙ ap (take n) (drop-at (flatMap f pre) (f p ++ (flatMap f post ++ behind)) m h)
+    ∙ take-at (f p) (flatMap f post ++ behind) n k
+
+length-of : {A B : Type 0} (f : A → List B) (pre : List A) (p : A) (post : List A)
+    → length (flatMap f pre) + length (f p) ≤ length (flatMap f (pre ++ (p ∷ post)))
+unfolding flatMap
+length-of f pre p post =
+    omega (
+      arith,
+      ap length (flatMap-append f pre (p ∷ post)),
+      length-append (flatMap f pre) (f p ++ flatMap f post),
+      length-append (f p) (flatMap f post),
+    )
+
+flat-copies : (w : ℕ) (ps : List Piece) → flat w (flatMap copy ps) ≡ flatMap (λ p. flat w (copy p)) ps
+unfolding flatMap flat
+flat-copies w [] = refl
+flat-copies w (p ∷ ps) = flat-append w (copy p) (flatMap copy ps) ∙ ap (λ (l : List ℕ). flat w (copy p) ++ l) (flat-copies w ps)
+
+-- ---- the view of a record whose numbers are known
+
+module _ (w : ℕ) (input merged table : List ℕ) (k : ℕ) where
+  there : k * recordSize + recordSize ≤ length table → entry table k 2 ≤ 1
+      → (entry table k 3 + entry table k 4) * w ≤ length (sourceOf (entry table k 2) input merged)
+      → noChain w input merged table k ≡ false
+  unfolding noChain
+  there a b c = ap₂ _||_ (le-ltb _ _ a) (ap₂ _||_ (le-ltb _ _ b) (le-ltb _ _ c))
+
+  accepted : noChain w input merged table k ≡ false → chainRefusalOf w input merged table k ≡ 0
+  unfolding chainRefusalOf firstOf
+  accepted e = rw (e, firstOf)
+
+  seen : noChain w input merged table k ≡ false
+      → viewed w input merged table k ≡ take (entry table k 4 * w) (drop (entry table k 3 * w) (sourceOf (entry table k 2) input merged))
+  unfolding viewed unless
+  seen e = rw (accepted e)
+
+  view-is : (s f c : ℕ) → entry table k 2 ≡ s → entry table k 3 ≡ f → entry table k 4 ≡ c → k * recordSize + recordSize ≤ length table → s ≤ 1
+      → (f + c) * w ≤ length (sourceOf s input merged) → viewed w input merged table k ≡ take (c * w) (drop (f * w) (sourceOf s input merged))
+  view-is s f c e₂ e₃ e₄ a b i =
+      seen (there a (rw e₂ b) (rw (e₂, e₃, e₄) i)) ∙ rw (e₂, e₃, e₄)
+
+-- ---- a line's own points, in the input
+
+-- points stand in the input from o on
+pub record Stands (w : ℕ) (input : List ℕ) (o : ℕ) (ps : List Point) : Type 0 where
+  pub within : (o + length ps) * w ≤ length input
+  pub same : take (length ps * w) (drop (o * w) input) ≡ flat w ps
+
+stands-in : (w : ℕ) (a b c : List Point) (input : List ℕ) (o : ℕ) → input ≡ flat w (a ++ (b ++ c)) → length a ≡ o → Stands w input o b
+stands-in w a b c input o h e =
+    record {
+      within =
+          omega (arith, ap length all, length-append (flat w a) (flat w b ++ flat w c), length-append (flat w b) (flat w c), flat-length w a, flat-length w b, add-mul o (length b) w, ap (λ (k : ℕ). k * w) e);
+      same =
+          ap (λ (l : List ℕ). take (length b * w) (drop (o * w) l)) all
+          ∙ ap (take (length b * w)) (drop-at (flat w a) (flat w b ++ flat w c) (o * w) (flat-length w a ∙ ap (λ (k : ℕ). k * w) e))
+          ∙ take-at (flat w b) (flat w c) (length b * w) (flat-length w b);
+    }
+  where
+    all : input ≡ flat w a ++ (flat w b ++ flat w c)
+    all = h ∙ flat-append w a (b ++ c) ∙ ap (λ (l : List ℕ). flat w a ++ l) (flat-append w b c)
+
+pub line-stands : (w : ℕ) (input counts groups kinds : List ℕ) (k : ℕ) → Adds w counts input
+    → Stands w input (total (take k counts)) (getD (lines (points w input) counts groups kinds) k noLine .points)
+line-stands w input counts groups kinds k h =
+    rw (line-at (points w input) counts groups kinds k)
+    (stands-in w (take o (points w input)) (take c (drop o (points w input))) (drop c (drop o (points w input))) input o
+    (sym back
+    ∙ ap (flat w)
+    (sym (take-append-drop o (points w input))
+    ∙ ap (λ (l : List Point). take o (points w input) ++ l) (sym (take-append-drop c (drop o (points w input))))))
+    (length-take-le o (points w input) (omega (arith, total-part counts k, long))))
+  where
+    o : ℕ
+    o = total (take k counts)
+
+    c : ℕ
+    c = getD counts k 0
+
+    back : flat w (points w input) ≡ input
+    back = points-back w input (h .two) (record { number = total counts; long = sym (h .sum) })
+
+    long : length (points w input) ≡ total counts
+    long =
+        eq-of-mul-eq-mul-right w (omega (arith, h .two)) (length (points w input)) (total counts) (sym (flat-length w (points w input)) ∙ ap length back ∙ sym (h .sum))
+
+-- ---- chains laid out, with anything behind them
+
+module _
+    (w : ℕ)
+    (input counts : List ℕ)
+    (ls : List Line)
+    (ps : List Piece)
+    (sound : Each (Sound ls) ps)
+    (own : (k : ℕ) → Stands w input (total (take k counts)) (getD ls k noLine .points))
+    (t m a c s z : List ℕ) where
+  abbrev table′ : List ℕ
+  table′ = table counts 0 0 ps ++ t
+
+  abbrev members′ : List ℕ
+  members′ = flatMap (λ p. p .lines) ps ++ m
+
+  abbrev marks′ : List ℕ
+  marks′ = flatMap (λ p. p .marks) ps ++ a
+
+  abbrev merged′ : List ℕ
+  merged′ = flat w (flatMap copy ps) ++ c
+
+  -- as many marks as members, up to any chain
+  marks-before : (q : ℕ) (rs : List Piece) → Each (Sound ls) rs → length (flatMap (λ p. p .marks) (take q rs)) ≡ length (flatMap (λ p. p .lines) (take q rs))
+  unfolding flatMap
+  marks-before zero rs e = refl
+  marks-before (suc q) rs nil = refl
+  marks-before (suc q) rs (cons {a = p} {l = rs′} s e) =
+      length-append (p .marks) (flatMap (λ p. p .marks) (take q rs′))
+      ∙ ap₂ _+_ (s .marked) (marks-before q rs′ e)
+      ∙ sym (length-append (p .lines) (flatMap (λ p. p .lines) (take q rs′)))
+
+  module _ (q : ℕ) (b : q < length ps) where
+    abbrev p : Piece
+    p = getD ps q nothing
+
+    abbrev pre : List Piece
+    pre = take q ps
+
+    abbrev post : List Piece
+    post = drop (suc q) ps
+
+    abbrev before : ℕ
+    before = length (flatMap (λ p. p .lines) pre)
+
+    abbrev copies : ℕ
+    copies = length (flatMap copy pre)
+
+    whole : ps ≡ pre ++ (p ∷ post)
+    whole = split-at ps q nothing b
+
+    here : Sound ls p
+    here = each-getD (Sound ls) ps q nothing sound b
+
+    pre-size : length pre ≡ q
+    pre-size = length-take-le q ps (omega arith)
+
+    -- the five numbers
+    words : take recordSize (drop (q * recordSize) (table counts 0 0 ps)) ≡ five counts before copies p
+    words =
+        ap₂ (λ (k : ℕ) (l : List Piece). take recordSize (drop (k * recordSize) (table counts 0 0 l))) (sym pre-size) whole ∙ record-at counts pre p post
+
+    word : (i : ℕ) → i < recordSize → entry table′ q i ≡ getD (five counts before copies p) i 0
+    word i h =
+        List·getD-append (table counts 0 0 ps) t 0 (q * recordSize + i) (omega (arith, table-length counts 0 0 ps))
+        ∙ sym (getD-drop (q * recordSize) (table counts 0 0 ps) i 0)
+        ∙ sym (getD-take recordSize (drop (q * recordSize) (table counts 0 0 ps)) i 0 h)
+        ∙ ap (λ (l : List ℕ). getD l i 0) words
+
+    common : let r = five counts before copies p in (getD r 0 0 ≡ before) × (getD r 1 0 ≡ length (p .lines)) × (getD r 4 0 ≡ length (p .points))
+    unfolding five
+    common = go (copied p) refl
+      where
+        go : (u : Bool) → copied p ≡ u → let r = five counts before copies p in
+            (getD r 0 0 ≡ before) × (getD r 1 0 ≡ length (p .lines)) × (getD r 4 0 ≡ length (p .points))
+        go true e = rw (e, five) (refl, refl, refl)
+        go false e = rw (e, five) (refl, refl, refl)
+
+    first-is : entry table′ q 0 ≡ before
+    first-is = word 0 (omega arith) ∙ common .0
+
+    count-is : entry table′ q 1 ≡ length (p .lines)
+    count-is = word 1 (omega arith) ∙ common .1
+
+    members-are : take (entry table′ q 1) (drop (entry table′ q 0) members′) ≡ p .lines
+    members-are =
+        ap₂ (λ (n o : ℕ). take n (drop o members′)) count-is first-is
+        ∙ ap (λ (l : List Piece). take (length (p .lines)) (drop before (flatMap (λ p. p .lines) l ++ m))) whole
+        ∙ part-of (λ (p : Piece). p .lines) pre p post m before (length (p .lines)) refl refl
+
+    marks-are : take (entry table′ q 1) (drop (entry table′ q 0) marks′) ≡ p .marks
+    marks-are =
+        ap₂ (λ (n o : ℕ). take n (drop o marks′)) count-is first-is
+        ∙ ap (λ (l : List Piece). take (length (p .lines)) (drop before (flatMap (λ p. p .marks) l ++ a))) whole
+        ∙ part-of (λ (p : Piece). p .marks) pre p post a before (length (p .lines)) (marks-before q ps sound) (here .marked)
+
+    source-is : entry table′ q 2 ≡ one (copied p)
+    unfolding five
+    source-is = word 2 (omega arith) ∙ go (copied p) refl
+      where
+        go : (u : Bool) → copied p ≡ u → getD (five counts before copies p) 2 0 ≡ one u
+        go true e = rw (e, five)
+        go false e = rw (e, five)
+
+    -- ---- the coordinates
+
+    row : q * recordSize + recordSize ≤ length table′
+    row = omega (arith, length-append (table counts 0 0 ps) t, table-length counts 0 0 ps)
+
+    view-copied : copied p ≡ true → viewed w input merged′ table′ q ≡ flat w (p .points)
+    unfolding five copy sourceOf
+    view-copied e =
+        view-is w input merged′ table′ q 1 copies (length (p .points))
+        (source-is ∙ ap one e) (word 3 (omega arith) ∙ rw (e, five)) (word 4 (omega arith) ∙ common .2) row (omega arith)
+        (omega (arith, length-append (flat w (flatMap copy ps)) c, flat-length w (flatMap copy ps), mul-le-mul-right w inside))
+        ∙ ap (λ (l : List Piece). take (length (p .points) * w) (drop (copies * w) (flat w (flatMap copy l) ++ c))) whole
+        ∙ ap (λ (l : List ℕ). take (length (p .points) * w) (drop (copies * w) (l ++ c))) (flat-copies w (pre ++ (p ∷ post)))
+        ∙ part-of (λ (p : Piece). flat w (copy p)) pre p post c (copies * w) (length (p .points) * w)
+        (ap length (sym (flat-copies w pre)) ∙ flat-length w (flatMap copy pre))
+        (flat-length w (copy p) ∙ ap (λ (l : List Point). length l * w) mine)
+        ∙ ap (flat w) mine
+      where
+        mine : copy p ≡ p .points
+        mine = rw (e, copy)
+
+        inside : copies + length (p .points) ≤ length (flatMap copy ps)
+        inside = omega (arith, length-of copy pre p post, ap (λ (l : List Piece). length (flatMap copy l)) whole, ap length mine)
+
+    lone : (l : List ℕ) → length l ≡ 1 → l ≡ getD l 0 0 ∷ []
+    lone [] h = absurd (omega arith)
+    lone (x ∷ []) h = refl
+    lone (x ∷ y ∷ l) h = absurd (omega arith)
+
+    one-line : copied p ≡ false → length (p .lines) ≡ 1
+    unfolding copied
+    one-line e = go (eqb (length (p .lines)) 1) refl
+      where
+        go : (u : Bool) → eqb (length (p .lines)) 1 ≡ u → length (p .lines) ≡ 1
+        go true h = eqb-true (length (p .lines)) 1 h
+        go false h = absurd (clash (sym e ∙ rw (h, copied)))
+          where
+            clash : false ≡ true → ⊥
+            clash k = let z : _≡_ {A = ℕ} 0 1 = cc in omega arith
+
+    view-own : copied p ≡ false → viewed w input merged′ table′ q ≡ flat w (p .points)
+    unfolding five sourceOf
+    view-own e =
+        view-is w input merged′ table′ q 0 (total (take k counts)) (length (p .points))
+        (source-is ∙ ap one e) (word 3 (omega arith) ∙ rw (e, five)) (word 4 (omega arith) ∙ common .2) row (omega arith)
+        (mine .within)
+        ∙ mine .same
+      where
+        k : ℕ
+        k = getD (p .lines) 0 0
+
+        mine : Stands w input (total (take k counts)) (p .points)
+        mine = rw (here .own k (lone (p .lines) (one-line e))) (own k)
+
+    coordinates-are : viewed w input merged′ table′ q ≡ flat w (p .points)
+    coordinates-are = go (copied p) refl
+      where
+        go : (u : Bool) → copied p ≡ u → viewed w input merged′ table′ q ≡ flat w (p .points)
+        go true e = view-copied e
+        go false e = view-own e
+
+    chain-read : readAt w input (rooms table′ members′ marks′ merged′ s z) q ≡ readOf w p
+    unfolding readAt readOf
+    chain-read = λ j. record { members = members-are j; marks = marks-are j; source = source-is j; coordinates = coordinates-are j }
+
+  -- WHAT IS READ IS THE CHAINS
+  pub chains-read : readAll w input
+      (rooms (table counts 0 0 ps ++ t) (flatMap (λ p. p .lines) ps ++ m) (flatMap (λ p. p .marks) ps ++ a) (flat w (flatMap copy ps) ++ c) s z) (length ps)
+      ≡ map (readOf w) ps
+  unfolding readAll
+  chains-read = by-index (readAt w input (rooms table′ members′ marks′ merged′ s z)) (readOf w) nothing ps chain-read

@@ -1,0 +1,34 @@
+-- What a host reads in the rooms that a building call leaves: chain by chain its members, their marks, its source, and its coordinates by the view.
+use Prim.Native.Nat.{ℕ}
+use mathlib.Core.List.{List, map}
+use lib.ListN.{take, drop}
+use Rattle.rules.specs.Lists.{one, upto}
+use Rattle.rules.specs.Plane.{flat}
+use Rattle.rules.specs.Chaining.{Piece}
+use Rattle.rules.specs.Layout.{copied}
+use Rattle.rules.specs.Refusals.{Rooms, entry}
+use Rattle.rules.specs.Calls.{viewed}
+
+pub record ChainRead : Type 0 where
+  pub members : List ℕ
+  pub marks : List ℕ
+  pub source : ℕ
+  pub coordinates : List ℕ
+
+-- chain k
+unfoldable pub readAt : (w : ℕ) (input : List ℕ) → Rooms → ℕ → ChainRead
+readAt w input o k =
+    record {
+      members = take (entry (o .table) k 1) (drop (entry (o .table) k 0) (o .members));
+      marks = take (entry (o .table) k 1) (drop (entry (o .table) k 0) (o .marks));
+      source = entry (o .table) k 2;
+      coordinates = viewed w input (o .merged) (o .table) k;
+    }
+
+-- all of n chains
+unfoldable pub readAll : (w : ℕ) (input : List ℕ) → Rooms → ℕ → List ChainRead
+readAll w input o n = map (readAt w input o) (upto n)
+
+-- a chain of the book, as it is read
+unfoldable pub readOf : ℕ → Piece → ChainRead
+readOf w p = record { members = p .lines; marks = p .marks; source = one (copied p); coordinates = flat w (p .points) }

@@ -1,0 +1,145 @@
+-- Laws of the refusals of building: one more number summed or passed, and what a call has that no refusal meets.
+use mathlib.Core.Path.{_≡_, refl, sym, _∙_}
+use mathlib.Core.Bool.{Bool, true, false, not, _||_, true≢false}
+use mathlib.Core.List.{List, [], _∷_}
+use Prim.Native.Nat.{ℕ, suc, _+_, _*_, _≤_, _<_}
+use native.Mathlib.Nat.{add-assoc}
+use native.Mathlib.Numerals.{add-one}
+use native.Mathlib.Omega.{arith}
+use lib.ListN.{length, drop, getD, drop-of-length-le}
+use lib.Seq.{drop-cons}
+use lib.Dec.{ltb, eqb}
+use borrow.Author.Tests.{lt-ltb, le-ltb, ltb-false, eqb-true, not-false}
+use Rattle.rules.specs.declared.Settings.{Settings}
+use Rattle.rules.specs.Lists.{total}
+use Rattle.rules.specs.Layout.{Lines}
+use Rattle.build_refusals.specs.Admitted.{Admitted}
+use Rattle.rules.specs.Refusals.{Rooms, anyAbove, firstOf, refusalOf, mostLines, mostPoints, lineRoom, recordSize}
+use Rattle.build_refusals.specs.Tests.{switchBad, roomShort}
+
+-- ---- sums and kinds
+
+-- one number more is summed
+pub total-step : (l : List ℕ) (i s : ℕ) → i < length l → s + total (drop i l) ≡ s + getD l i 0 + total (drop (i + 1) l)
+unfolding total
+total-step l i s h = rw (drop-cons l i 0 h, add-one, add-assoc)
+
+pub total-none : (l : List ℕ) (i s : ℕ) → length l ≤ i → s + total (drop i l) ≡ s
+unfolding total
+total-none l i s h = rw (drop-of-length-le l {i = i} h) (omega arith)
+
+above-no : (m x : ℕ) (l : List ℕ) → x ≤ m → anyAbove m (x ∷ l) ≡ anyAbove m l
+unfolding anyAbove
+above-no m x l k = rw (le-ltb m x k, anyAbove)
+
+above-yes : (m x : ℕ) (l : List ℕ) → m < x → anyAbove m (x ∷ l) ≡ true
+unfolding anyAbove
+above-yes m x l k = rw (lt-ltb m x k, anyAbove)
+
+-- one number more is passed
+pub above-step : (m : ℕ) (l : List ℕ) (i : ℕ) → i < length l → getD l i 0 ≤ m → anyAbove m (drop i l) ≡ anyAbove m (drop (i + 1) l)
+above-step m l i h k = rw (drop-cons l i 0 h, add-one, above-no m (getD l i 0) (drop (suc i) l) k)
+
+pub above-here : (m : ℕ) (l : List ℕ) (i : ℕ) → i < length l → m < getD l i 0 → anyAbove m (drop i l) ≡ true
+above-here m l i h k = rw (drop-cons l i 0 h, above-yes m (getD l i 0) (drop (suc i) l) k)
+
+pub above-none : (m : ℕ) (l : List ℕ) (i : ℕ) → length l ≤ i → anyAbove m (drop i l) ≡ false
+unfolding anyAbove
+above-none m l i h = rw (drop-of-length-le l {i = i} h)
+
+-- ---- the ladder
+
+-- the tests of a call, in order
+abbrev pub tests : Lines → Settings → Rooms → List (ℕ × Bool)
+tests l s o =
+    let n = length (l .counts) in
+    let numbers = length (l .coordinates) in
+    (1, ltb mostLines n)
+    ∷ (2, not (eqb (length (l .groups)) n) || not (eqb (length (l .kinds)) n))
+    ∷ (3, anyAbove 1 (l .kinds))
+    ∷ (4, not (eqb (total (l .counts) * 2) numbers))
+    ∷ (5, ltb (mostPoints * 2) numbers)
+    ∷ (6, switchBad (s .switch) (s .limit))
+    ∷ (7, roomShort n numbers (length (o .table)) (length (o .members)) (length (o .marks)) (length (o .merged)) (length (o .spare)) (length (o .workspace)))
+    ∷ []
+
+-- a test that doesn't hold is passed, and the first that holds gives its number
+pub passed : (k : ℕ) (b : Bool) (l : List (ℕ × Bool)) → b ≡ false → firstOf ((k, b) ∷ l) ≡ firstOf l
+unfolding firstOf
+passed k true l e = absurd (true≢false e)
+passed k false l e = refl
+
+pub stopped : (k : ℕ) (b : Bool) (l : List (ℕ × Bool)) → b ≡ true → firstOf ((k, b) ∷ l) ≡ k
+unfolding firstOf
+stopped k true l e = refl
+stopped k false l e = absurd (true≢false (sym e))
+
+-- the refusal r is that of the tests l, which are left
+pub record Left (r : ℕ) (l : List (ℕ × Bool)) : Type 0 where
+  pub is : r ≡ firstOf l
+
+pub opened : (l : Lines) (s : Settings) (o : Rooms) → Left (refusalOf l s o) (tests l s o)
+unfolding refusalOf switchBad roomShort
+opened l s o = record { is = refl }
+
+-- one rung: the test doesn't hold, or it does
+pub rung : {r k : ℕ} {b : Bool} {l : List (ℕ × Bool)} → Left r ((k, b) ∷ l) → b ≡ false → Left r l
+rung {r} {k} {b} {l} e f = record { is = e .is ∙ passed k b l f }
+
+pub halt : {r k : ℕ} {b : Bool} {l : List (ℕ × Bool)} → Left r ((k, b) ∷ l) → b ≡ true → k ≡ r
+halt {r} {k} {b} {l} e f = sym (e .is ∙ stopped k b l f)
+
+pub top : {r : ℕ} → Left r [] → 0 ≡ r
+unfolding firstOf
+top e = sym (e .is)
+
+-- the fourth test, from a sum that is at hand
+pub sums : (t s numbers : ℕ) {b : Bool} → s ≡ t → eqb (s * 2) numbers ≡ b → not (eqb (t * 2) numbers) ≡ not b
+sums t s numbers e f = rw (← e, f)
+
+-- ---- what an accepted call has
+
+off-first : (k : ℕ) (b : Bool) (l : List (ℕ × Bool)) → 0 ≡ firstOf ((suc k, b) ∷ l) → (b ≡ false) × Left 0 l
+unfolding firstOf
+off-first k true l e = absurd (omega arith)
+off-first k false l e = (refl, record { is = e })
+
+off : {k : ℕ} {b : Bool} {l : List (ℕ × Bool)} → Left 0 ((suc k, b) ∷ l) → (b ≡ false) × Left 0 l
+off {k} {b} {l} e = off-first k b l (e .is)
+
+or-off : (a b : Bool) → a || b ≡ false → (a ≡ false) × (b ≡ false)
+or-off true b e = absurd (true≢false e)
+or-off false b e = (refl, e)
+
+pub admitted : (l : Lines) (s : Settings) (o : Rooms) → refusalOf l s o ≡ 0 → Admitted l s o
+unfolding roomShort
+admitted l s o z =
+    let n = length (l .counts) in
+    let numbers = length (l .coordinates) in
+    let t₁ = off (record { is = sym z ∙ opened l s o .is }) in
+    let t₂ = off (t₁ .1) in
+    let t₃ = off (t₂ .1) in
+    let t₄ = off (t₃ .1) in
+    let t₅ = off (t₄ .1) in
+    let t₆ = off (t₅ .1) in
+    let t₇ = off (t₆ .1) in
+    let both = or-off (not (eqb (length (l .groups)) n)) (not (eqb (length (l .kinds)) n)) (t₂ .0) in
+    let r₁ = or-off (ltb (length (o .table)) (n * recordSize)) _ (t₇ .0) in
+    let r₂ = or-off (ltb (length (o .members)) n) _ (r₁ .1) in
+    let r₃ = or-off (ltb (length (o .marks)) n) _ (r₂ .1) in
+    let r₄ = or-off (ltb (length (o .merged)) numbers) _ (r₃ .1) in
+    let r₅ = or-off (ltb (length (o .spare)) numbers) (ltb (length (o .workspace)) (n * lineRoom)) (r₄ .1) in
+    record {
+      few = ltb-false 4096 n (t₁ .0);
+      groups-long = eqb-true (length (l .groups)) n (not-false _ (both .0));
+      kinds-long = eqb-true (length (l .kinds)) n (not-false _ (both .1));
+      adds = eqb-true (total (l .counts) * 2) numbers (not-false _ (t₄ .0));
+      small = ltb-false 131072 numbers (t₅ .0);
+      switched = t₆ .0;
+      table-long = ltb-false (length (o .table)) (n * recordSize) (r₁ .0);
+      members-long = ltb-false (length (o .members)) n (r₂ .0);
+      marks-long = ltb-false (length (o .marks)) n (r₃ .0);
+      merged-long = ltb-false (length (o .merged)) numbers (r₄ .0);
+      spare-long = ltb-false (length (o .spare)) numbers (r₅ .0);
+      workspace-long = ltb-false (length (o .workspace)) (n * lineRoom) (r₅ .1);
+    }

@@ -1,0 +1,41 @@
+-- `room_short` is the book's test, room by room.
+use borrow.Author.Tests.{lt-ltb, le-ltb}
+use Rattle.build_refusals.specs.Tests.{roomShort}
+use borrow.Author.Needs.{needs}
+use Rattle.build_refusals.proofs.room_short.Statement.{statement}
+use Rattle.build_refusals.proofs.room_short.Tie as tie
+
+mul-if1 : tie.Need-mul-if1
+mul-if1 c = search needs
+
+returns : tie.Need-returns
+unfolding roomShort
+returns c = simp (lt-ltb _ _ (c .if1 .taken))
+
+returns-2 : tie.Need-returns-2
+unfolding roomShort
+returns-2 c = simp (le-ltb _ _ (c .before .if1 .left), lt-ltb _ _ (c .if2 .taken))
+
+returns-3 : tie.Need-returns-3
+unfolding roomShort
+returns-3 c = simp (le-ltb _ _ (c .before .before .if1 .left), le-ltb _ _ (c .before .if2 .left), lt-ltb _ _ (c .if3 .taken))
+
+returns-4 : tie.Need-returns-4
+unfolding roomShort
+returns-4 c = simp (le-ltb _ _ (c .before .before .before .if1 .left), le-ltb _ _ (c .before .before .if2 .left), le-ltb _ _ (c .before .if3 .left), lt-ltb _ _ (c .if4 .taken))
+
+returns-5 : tie.Need-returns-5
+unfolding roomShort
+returns-5 c = simp (le-ltb _ _ (c .before .before .before .before .if1 .left), le-ltb _ _ (c .before .before .before .if2 .left), le-ltb _ _ (c .before .before .if3 .left), le-ltb _ _ (c .before .if4 .left), lt-ltb _ _ (c .if5 .taken))
+
+mul-result : tie.Need-mul-result
+mul-result c = search needs
+
+returns-6 : tie.Need-returns-6
+unfolding roomShort
+returns-6 c = simp (le-ltb _ _ (c .before .before .before .before .if1 .left), le-ltb _ _ (c .before .before .before .if2 .left), le-ltb _ _ (c .before .before .if3 .left), le-ltb _ _ (c .before .if4 .left), le-ltb _ _ (c .if5 .left))
+
+pub room-short-spec : {M : Type 1} → statement M
+room-short-spec =
+    tie.close
+    (tie.spec mul-if1 returns returns-2 returns-3 returns-4 returns-5 mul-result returns-6)

@@ -1,0 +1,24 @@
+-- What a building call has that no refusal meets: bounds that every later step asks for.
+use Prim.Native.Nat.{_*_, _≤_}
+use mathlib.Core.Path.{_≡_}
+use mathlib.Core.Bool.{false}
+use lib.ListN.{length}
+use Rattle.rules.specs.declared.Settings.{Settings}
+use Rattle.rules.specs.Lists.{total}
+use Rattle.rules.specs.Layout.{Lines}
+use Rattle.rules.specs.Refusals.{Rooms, mostLines, mostPoints, recordSize, lineRoom}
+use Rattle.build_refusals.specs.Tests.{switchBad}
+
+pub record Admitted (l : Lines) (s : Settings) (o : Rooms) : Type 0 where
+  pub few : length (l .counts) ≤ mostLines
+  pub groups-long : length (l .groups) ≡ length (l .counts)
+  pub kinds-long : length (l .kinds) ≡ length (l .counts)
+  pub adds : total (l .counts) * 2 ≡ length (l .coordinates)
+  pub small : length (l .coordinates) ≤ mostPoints * 2
+  pub switched : switchBad (s .switch) (s .limit) ≡ false
+  pub table-long : length (l .counts) * recordSize ≤ length (o .table)
+  pub members-long : length (l .counts) ≤ length (o .members)
+  pub marks-long : length (l .counts) ≤ length (o .marks)
+  pub merged-long : length (l .coordinates) ≤ length (o .merged)
+  pub spare-long : length (l .coordinates) ≤ length (o .spare)
+  pub workspace-long : length (l .counts) * lineRoom ≤ length (o .workspace)

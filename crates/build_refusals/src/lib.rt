@@ -1,0 +1,166 @@
+// The refusals of building, in the order of checking.
+use rules::LINE_ROOM;
+use rules::MOST_LINES;
+use rules::MOST_POINTS;
+use rules::RECORD;
+use rules::Settings;
+ghost use mathlib.Core.Path.{_≡_};
+ghost use mathlib.Core.Bool.{not, _||_};
+ghost use Prim.Native.Nat.{_≤_, _<_};
+ghost use lib.Dec.{eqb};
+ghost use lib.ListN.{length};
+ghost use Rattle.rules.specs.Lists.{total as total-of};
+ghost use Rattle.rules.specs.Layout.{lent};
+ghost use Rattle.rules.specs.Refusals.{anyAbove, limitBad, rooms, refusalOf, mostLines};
+ghost use Rattle.build_refusals.specs.Tests.{switchBad, roomShort};
+
+// The numbers of as many points as a call takes.
+const MOST_NUMBERS: usize = MOST_POINTS * 2;
+
+// The sum of the counts, of which there are at most 4,096.
+fn total(counts: &[u32]) -> u64
+    requires { ⌜ length (now counts) ≤ mostLines ⌝ }
+    ensures { λ r. ⌜ (r ≡ total-of (now (counts .entry))) × (r < 17592186044416) ⌝ }
+{
+    let mut sum: u64 = 0;
+    let mut i = 0;
+    while i < counts.len() {
+        sum += counts[i] as u64;
+        i += 1;
+    }
+    sum
+}
+
+// Whether a kind is above 1.
+pub fn any_above_one(kinds: &[u8]) -> bool
+    ensures { λ r. ⌜ r ≡ anyAbove 1 (now (kinds .entry)) ⌝ }
+{
+    let mut i = 0;
+    while i < kinds.len() {
+        if 1 < kinds[i] {
+            return true;
+        }
+        i += 1;
+    }
+    false
+}
+
+// Whether the groups or the kinds are not as many as the lines.
+fn tables_differ(n: usize, groups: usize, kinds: usize) -> bool
+    ensures { λ r. ⌜ r ≡ not (eqb groups n) || not (eqb kinds n) ⌝ }
+{
+    if groups != n {
+        return true;
+    }
+    kinds != n
+}
+
+// Whether a limit is NaN, below -1 or above 1.
+pub fn limit_bad(limit: f64) -> bool
+    ensures { λ r. ⌜ r ≡ limitBad limit ⌝ }
+{
+    if -1.0 <= limit {
+        if limit <= 1.0 {
+            return false;
+        }
+    }
+    true
+}
+
+// With the switch at 0 the limit isn't looked at.
+fn switch_bad(switch: u8, limit: f64) -> bool
+    ensures { λ r. ⌜ r ≡ switchBad switch limit ⌝ }
+{
+    if 1 < switch {
+        return true;
+    }
+    if switch == 1 {
+        return limit_bad(limit);
+    }
+    false
+}
+
+// Whether a room is shorter than n lines and the numbers of their coordinates ask for.
+fn room_short(
+    n: usize,
+    numbers: usize,
+    table: usize,
+    members: usize,
+    marks: usize,
+    merged: usize,
+    spare: usize,
+    workspace: usize,
+) -> bool
+    requires { ⌜ n ≤ mostLines ⌝ }
+    ensures { λ r. ⌜ r ≡ roomShort n numbers table members marks merged spare workspace ⌝ }
+{
+    if table < n * RECORD {
+        return true;
+    }
+    if members < n {
+        return true;
+    }
+    if marks < n {
+        return true;
+    }
+    if merged < numbers {
+        return true;
+    }
+    if spare < numbers {
+        return true;
+    }
+    workspace < n * LINE_ROOM
+}
+
+// The number of the first refusal that applies, or 0.
+pub fn refusal(
+    coordinates: &[u64],
+    counts: &[u32],
+    groups: &[u32],
+    kinds: &[u8],
+    settings: Settings,
+    table: &[u32],
+    members: &[u32],
+    marks: &[u8],
+    merged: &[u64],
+    spare: &[u64],
+    workspace: &[u64],
+) -> u64
+    ensures { λ r. ⌜ r ≡ refusalOf
+        (lent (now (coordinates .entry)) (now (counts .entry)) (now (groups .entry)) (now (kinds .entry))) settings
+        (rooms (now (table .entry)) (now (members .entry)) (now (marks .entry)) (now (merged .entry)) (now (spare .entry)) (now (workspace .entry))) ⌝ }
+{
+    let n = counts.len();
+    let numbers = coordinates.len();
+    if MOST_LINES < n {
+        return 1;
+    }
+    if tables_differ(n, groups.len(), kinds.len()) {
+        return 2;
+    }
+    if any_above_one(kinds) {
+        return 3;
+    }
+    if total(counts) * 2 != numbers as u64 {
+        return 4;
+    }
+    if MOST_NUMBERS < numbers {
+        return 5;
+    }
+    if switch_bad(settings.switch, settings.limit) {
+        return 6;
+    }
+    if room_short(
+        n,
+        numbers,
+        table.len(),
+        members.len(),
+        marks.len(),
+        merged.len(),
+        spare.len(),
+        workspace.len(),
+    ) {
+        return 7;
+    }
+    0
+}

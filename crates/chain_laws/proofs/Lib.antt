@@ -1,0 +1,17 @@
+pub mod Counts
+pub mod Totals
+pub mod Ends
+pub mod Forward
+pub mod Back
+pub mod Walks
+pub mod Kept
+pub mod Mates
+pub mod Selected
+pub mod Partners
+pub mod Lines
+pub mod Sound
+pub mod Records
+pub mod Room
+pub mod Wide
+pub mod Marks
+pub mod Tables

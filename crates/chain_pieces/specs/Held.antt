@@ -1,0 +1,61 @@
+-- Pieces as a round's workspace holds them, as the layout of 01 writes chains: a block of 7 n words for n lines has their records, from its start on,
+-- their members, from 5 n on, and their marks, from 6 n on. The coordinates of a piece of one line are the input's, and those of the other pieces stand
+-- one after another in a slice of copies.
+use Prim.Native.Nat.{ℕ, _+_, _*_, _≤_, _<_}
+use mathlib.Core.Path.{_≡_}
+use mathlib.Core.List.{List, flatMap}
+use lib.ListN.{length, getD, take, drop}
+use lib.Seq.{slice}
+use Rattle.rules.specs.Lists.{total}
+use Rattle.rules.specs.Plane.{flat}
+use Rattle.rules.specs.Chaining.{Piece, nothing}
+use Rattle.rules.specs.Layout.{copy, table}
+use Rattle.point_numbers.specs.Width.{AllWide}
+use Rattle.rules.specs.Refusals.{recordSize, sourceOf}
+use Rattle.chain_pieces.specs.Map.{markBlock, memberBlock}
+
+abbrev pub linesOf : List Piece → List ℕ
+linesOf ps = flatMap (λ p. p .lines) ps
+
+abbrev pub marksOf : List Piece → List ℕ
+marksOf ps = flatMap (λ p. p .marks) ps
+
+-- ---- the numbers of a record that stands at p in w
+
+-- the record of piece q, where the records start at `base`
+abbrev pub recordOf : ℕ → ℕ → ℕ
+recordOf base q = base + q * recordSize
+
+-- the coordinates that it names, of the input or of the copies
+unfoldable pub coordinatesAt : ℕ → List ℕ → ℕ → List ℕ → List ℕ → List ℕ
+unfolding sourceOf
+coordinatesAt width w p input copies =
+    take (getD w (p + 4) 0 * width) (drop (getD w (p + 3) 0 * width) (sourceOf (getD w (p + 2) 0) input copies))
+
+-- it is in w, and its coordinates are in their source
+pub record Recorded (width : ℕ) (w : List ℕ) (p : ℕ) (input copies : List ℕ) : Type 0 where
+  pub inside : p + recordSize ≤ length w
+  pub within : (getD w (p + 3) 0 + getD w (p + 4) 0) * width ≤ length (sourceOf (getD w (p + 2) 0) input copies)
+
+-- ---- all pieces
+
+-- the first coordinate of a piece of one line, in the input
+abbrev pub placeOf : List ℕ → Piece → ℕ
+placeOf counts p = total (take (getD (p .lines) 0 0) counts)
+
+-- its points are the line's own
+pub record Own (width : ℕ) (input counts : List ℕ) (p : Piece) : Type 0 where
+  pub within : (placeOf counts p + length (p .points)) * width ≤ length input
+  pub same : take (length (p .points) * width) (drop (placeOf counts p * width) input) ≡ flat width (p .points)
+
+-- the pieces ps, of points of a width, stand in w, in the block at `base` for n lines; `counts` are the lines' own
+pub record Held (width : ℕ) (w : List ℕ) (base n : ℕ) (input copies counts : List ℕ) (ps : List Piece) : Type 0 where
+  pub few : length ps ≤ n
+  pub listed : length (linesOf ps) ≤ n
+  pub room : base + n * markBlock ≤ length w
+  pub records : slice base (base + length ps * recordSize) w ≡ table counts 0 0 ps
+  pub members : slice (base + n * memberBlock) (base + n * memberBlock + length (linesOf ps)) w ≡ linesOf ps
+  pub full : (q : ℕ) → q < length ps → 0 < length (getD ps q nothing .lines)
+  pub own : (q : ℕ) → q < length ps → length (getD ps q nothing .lines) ≡ 1 → Own width input counts (getD ps q nothing)
+  pub wide : (q : ℕ) → q < length ps → AllWide width (getD ps q nothing .points)
+  pub copied : take (length (flatMap copy ps) * width) copies ≡ flat width (flatMap copy ps)

@@ -1,0 +1,4 @@
+pub mod Grouping
+pub mod WalkedParts
+pub mod Walking
+pub mod Joining

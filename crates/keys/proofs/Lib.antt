@@ -1,3 +1,0 @@
-pub mod Source
-pub mod Laws
-pub mod Same

@@ -1,0 +1,45 @@
+-- `row::measure` meets its contract, by the cases of the two directions.
+use Rattle.pair_first_of_end.proofs.Measures.{zero-by-zero, measure-toward, nan-measure, nan-measure-too}
+use Rattle.pair_first_of_end.specs.Near.{measureOf}
+use Rattle.rules.specs.declared.Direction.{Direction}
+use mathlib.Core.Path.{sym, ap, ap₂, _∙_}
+use borrow.Author.Needs.{needs}
+use Rattle.pair_first_of_end.proofs.measure.Statement.{statement}
+use Rattle.pair_first_of_end.proofs.measure.Tie as tie
+
+enum-known-a : tie.Need-enum-known-a
+enum-known-a c = search needs
+
+enum-told : tie.Need-enum-told
+enum-told c = search needs
+
+returns : tie.Need-returns
+returns c = zero-by-zero ∙ nan-measure _ ∙ sym (ap (λ (a : Direction). measureOf a (c .before .before .args .b)) (c .enum-told .given .1))
+
+enum-known-b : tie.Need-enum-known-b
+enum-known-b c = search needs
+
+enum-told-2 : tie.Need-enum-told-2
+enum-told-2 c = search needs
+
+returns-2 : tie.Need-returns-2
+returns-2 c = zero-by-zero ∙ nan-measure-too _ _ ∙ sym (ap₂ measureOf (c .before .before .before .a .given .1) (c .enum-told2 .given .1))
+
+measure-requires : tie.Need-measure-requires
+measure-requires c κs = search needs
+
+returns-3 : tie.Need-returns-3
+returns-3 c = c .measure .ensures ∙ measure-toward _ _ _ _ ∙ sym (ap₂ measureOf (c .before .before .before .before .before .a .given .1) (c .before .before .b .given .1))
+
+pub measure-spec : {M : Type 1} → statement M
+measure-spec =
+    tie.close
+    (tie.spec
+    enum-known-a
+    enum-told
+    returns
+    enum-known-b
+    enum-told-2
+    returns-2
+    measure-requires
+    returns-3)

@@ -1,5 +1,0 @@
-pub mod Cut
-pub mod Heads
-pub mod Go
-pub mod Tour
-pub mod Partners

@@ -1,0 +1,160 @@
+//! Batches: what each call of the library is given.
+
+use super::components::components;
+use super::{at, Line, Point};
+use crate::size::{MOST_LINES, MOST_POINTS};
+use std::error::Error;
+use std::fmt;
+
+/// The positions of the lines of one call. Those of one component ascend.
+pub type Batch = Vec<u32>;
+
+/// How much one call may be given.
+#[derive(Clone, Copy, Debug, PartialEq)]
+pub struct Capacity {
+    /// The most lines.
+    pub lines: usize,
+    /// The most coordinates, counted in pairs of x and y.
+    pub points: usize,
+}
+
+impl Default for Capacity {
+    /// What the library takes.
+    fn default() -> Self {
+        Capacity { lines: MOST_LINES, points: MOST_POINTS }
+    }
+}
+
+/// How many batches the lines of a full call are spread over where there are more than one call
+/// holds, so that every core has work till the end.
+const SPREAD: usize = 4;
+
+/// A component that no call can hold.
+#[derive(Clone, Debug, PartialEq)]
+pub struct TooLarge {
+    /// The number of its class.
+    pub group: u32,
+    /// The number of its lines.
+    pub lines: usize,
+    /// The number of their points.
+    pub points: usize,
+    /// The position of its first line.
+    pub first: u32,
+    /// The lowest and the highest x and y of its ends.
+    pub place: [Point; 2],
+    /// What a call may be given.
+    pub capacity: Capacity,
+}
+
+impl fmt::Display for TooLarge {
+    fn fmt(&self, f: &mut fmt::Formatter<'_>) -> fmt::Result {
+        let [[west, south], [east, north]] = self.place;
+        write!(
+            f,
+            "{} lines with {} points that meet, from {west} {south} to {east} {north}, are more \
+             than one call holds ({} lines, {} points)",
+            self.lines, self.points, self.capacity.lines, self.capacity.points
+        )
+    }
+}
+
+impl Error for TooLarge {}
+
+/// Cuts lines into batches of whole components. There is one batch where one call holds all.
+pub fn batches(lines: &[Line], tolerance: f64, capacity: Capacity) -> Result<Vec<Batch>, TooLarge> {
+    let all: Batch = (0..lines.len() as u32).collect();
+    if size(lines, &all).within(capacity) {
+        return Ok(vec![all]);
+    }
+    let full = Capacity { lines: capacity.lines / SPREAD, points: capacity.points / SPREAD };
+    let mut batches: Vec<(Batch, Capacity)> = Vec::new();
+    for component in components(lines, tolerance) {
+        let more = size(lines, &component);
+        if !more.within(capacity) {
+            return Err(too_large(lines, &component, capacity));
+        }
+        match batches.last_mut() {
+            Some((batch, size)) if size.with(more).within(full) => {
+                batch.extend(component);
+                *size = size.with(more);
+            }
+            _ => batches.push((component, more)),
+        }
+    }
+    Ok(batches.into_iter().map(|(batch, _)| batch).collect())
+}
+
+impl Capacity {
+    fn within(self, other: Capacity) -> bool {
+        self.lines <= other.lines && self.points <= other.points
+    }
+
+    fn with(self, more: Capacity) -> Capacity {
+        Capacity { lines: self.lines + more.lines, points: self.points + more.points }
+    }
+}
+
+/// How much a call of these lines would be given.
+fn size(lines: &[Line], positions: &[u32]) -> Capacity {
+    let points = |&line: &u32| at(lines, line).points.map_or(0, <[Point]>::len);
+    Capacity { lines: positions.len(), points: positions.iter().map(points).sum() }
+}
+
+fn too_large(lines: &[Line], component: &[u32], capacity: Capacity) -> TooLarge {
+    let size = size(lines, component);
+    let first = component.first().copied().unwrap_or_default();
+    let mut place = [[f64::INFINITY; 2], [f64::NEG_INFINITY; 2]];
+    let ends = component.iter().filter_map(|&line| at(lines, line).ends());
+    for [x, y] in ends.flatten() {
+        place[0] = [place[0][0].min(x), place[0][1].min(y)];
+        place[1] = [place[1][0].max(x), place[1][1].max(y)];
+    }
+    let group = at(lines, first).group;
+    TooLarge { group, lines: size.lines, points: size.points, first, place, capacity }
+}
+
+#[cfg(test)]
+mod tests {
+    use super::{batches, Capacity, Line};
+
+    /// Two lines that meet at each of so many places.
+    fn twos(places: usize) -> Vec<[[f64; 2]; 2]> {
+        let two = |place: usize| {
+            let y = place as f64;
+            [[[0.0, y], [1.0, y]], [[1.0, y], [2.0, y]]]
+        };
+        (0..places).flat_map(two).collect()
+    }
+
+    fn lines(points: &[[[f64; 2]; 2]]) -> Vec<Line<'_>> {
+        points.iter().map(|points| Line { points: Some(&points[..]), group: 7 }).collect()
+    }
+
+    #[test]
+    fn what_fits_is_one_batch() {
+        let points = twos(8);
+        let capacity = Capacity { lines: 16, points: 32 };
+        assert_eq!(batches(&lines(&points), 0.0, capacity), Ok(vec![(0..16).collect()]));
+    }
+
+    #[test]
+    fn every_line_is_in_one_batch_and_components_stay_whole() {
+        let points = twos(50);
+        let lines = lines(&points);
+        let cut = batches(&lines, 0.0, Capacity { lines: 24, points: 99 }).unwrap();
+        assert_eq!(cut.len(), 17);
+        let mut all: Vec<u32> = cut.concat();
+        assert!(cut.iter().all(|batch| batch.len() <= 6 && batch.len() % 2 == 0));
+        all.sort_unstable();
+        assert_eq!(all, (0..100).collect::<Vec<u32>>());
+    }
+
+    #[test]
+    fn a_component_that_no_call_holds() {
+        let points = twos(4);
+        let lines = lines(&points);
+        let fault = batches(&lines, 8.0, Capacity { lines: 7, points: 99 }).unwrap_err();
+        assert_eq!((fault.group, fault.lines, fault.points, fault.first), (7, 8, 16, 0));
+        assert_eq!(fault.place, [[0.0, 0.0], [2.0, 3.0]]);
+    }
+}

@@ -1,0 +1,146 @@
+//! Joining beyond one call: lines in, chains out, of any number.
+//!
+//! What fits one call is one call. A larger input is cut into batches of whole components, lines
+//! that share a key or a cell directly or over others. The library decides a component by the
+//! order of its own lines alone, so the chains of all batches, put in order, are those of one call.
+//!
+//! ```
+//! use lovasuku_chains::large::{join, Capacity, JointKind, Line};
+//! use lovasuku_chains::Settings;
+//!
+//! # fn main() -> Result<(), lovasuku_chains::large::Fault> {
+//! let roads = [[[0.0, 0.0], [1.25, 0.0]], [[3.5, 0.0], [1.75, 0.0]]];
+//! let lines = [0, 1].map(|k| Line { points: Some(&roads[k]), group: 0 });
+//! let settings = Settings::default().with_tolerance(1.0);
+//! let chains = join(&lines, settings, Capacity::default())?;
+//! assert_eq!(chains[0].members, [0, 1]);
+//! // The chain has a segment that is of no line, made by the tolerance.
+//! assert_eq!(chains[0].joints[0].kind, JointKind::Tolerance);
+//! assert_eq!(chains[0].joints[0].ends, [[1.25, 0.0], [1.75, 0.0]]);
+//! # Ok(())
+//! # }
+//! ```
+//!
+//! A host that works on several cores cuts the input by [`batches`], gives each core a [`Caller`],
+//! and puts what they built [`in_order`].
+
+mod batches;
+mod calls;
+mod components;
+mod gaps;
+mod joints;
+
+use crate::{Refusal, Settings};
+pub use batches::{batches, Batch, Capacity, TooLarge};
+pub use calls::Caller;
+pub use gaps::{gaps, Gap, Why};
+pub use joints::{blocking, distance, Joint, JointKind};
+use std::error::Error;
+use std::fmt;
+
+/// A point: x and y.
+pub type Point = [f64; 2];
+
+/// A line to be joined, or one that passes through.
+#[derive(Clone, Copy, Debug, Default)]
+pub struct Line<'a> {
+    /// The points of a line that may be joined. Other geometry has none here.
+    pub points: Option<&'a [Point]>,
+    /// The number of its class. Lines of different classes are never joined.
+    pub group: u32,
+}
+
+impl<'a> Line<'a> {
+    /// The first and the last point of a line that may be joined. A line of fewer than two points
+    /// passes through.
+    fn ends(&self) -> Option<[Point; 2]> {
+        match *self.points? {
+            [first, .., last] => Some([first, last]),
+            _ => None,
+        }
+    }
+
+    /// True for a line whose points are one point.
+    fn has_no_length(&self) -> bool {
+        let points = self.points.unwrap_or_default();
+        points.windows(2).all(|two| two[0] == two[1])
+    }
+}
+
+/// A chain: lines that were joined, or one that was not.
+#[derive(Clone, Debug, PartialEq)]
+pub struct Chain {
+    /// The positions of its lines, in the library's order.
+    pub members: Vec<u32>,
+    /// The library's turned mark of each member.
+    pub turned: Vec<bool>,
+    /// Its points, or nothing where it is one line, untouched.
+    pub points: Option<Vec<Point>>,
+    /// Where its lines were joined, in the order of its points.
+    pub joints: Vec<Joint>,
+}
+
+/// Why lines were not joined.
+#[derive(Clone, Debug, PartialEq)]
+pub enum Fault {
+    /// A component is more than a call may be given.
+    TooLarge(TooLarge),
+    /// The library refused a call.
+    Refused(Refusal),
+    /// The library has parted a piece of round one, which the rules rule out.
+    Parted,
+}
+
+impl fmt::Display for Fault {
+    fn fmt(&self, f: &mut fmt::Formatter<'_>) -> fmt::Result {
+        match self {
+            Fault::TooLarge(large) => large.fmt(f),
+            Fault::Refused(refusal) => refusal.fmt(f),
+            Fault::Parted => f.write_str("the library has parted a piece of round one"),
+        }
+    }
+}
+
+impl Error for Fault {}
+
+impl From<TooLarge> for Fault {
+    fn from(large: TooLarge) -> Self {
+        Fault::TooLarge(large)
+    }
+}
+
+impl From<Refusal> for Fault {
+    fn from(refusal: Refusal) -> Self {
+        Fault::Refused(refusal)
+    }
+}
+
+/// Joins lines, one batch after another. No call gets more than the capacity.
+pub fn join(lines: &[Line], settings: Settings, capacity: Capacity) -> Result<Vec<Chain>, Fault> {
+    let mut caller = Caller::new(settings);
+    let batches = batches(lines, settings.tolerance, capacity)?;
+    let built = batches.iter().map(|batch| caller.build(lines, batch));
+    Ok(in_order(lines, built.collect::<Result<_, Fault>>()?))
+}
+
+/// The line at a position. Beyond the last there is one that passes through.
+fn at<'l>(lines: &[Line<'l>], position: u32) -> Line<'l> {
+    lines.get(position as usize).copied().unwrap_or_default()
+}
+
+/// The chains of all batches in the order of one call: by their lowest line, and after them the
+/// lines that pass through.
+pub fn in_order(lines: &[Line], mut built: Vec<Vec<Chain>>) -> Vec<Chain> {
+    if built.len() == 1 {
+        return built.pop().unwrap_or_default();
+    }
+    let lowest = |chain: &Chain| chain.members.iter().min().copied().unwrap_or_default();
+    let place = |chain: &Chain| {
+        let lowest = lowest(chain);
+        let passes = lines.get(lowest as usize).map_or(true, |line| line.ends().is_none());
+        (passes, lowest)
+    };
+    let mut chains: Vec<Chain> = built.into_iter().flatten().collect();
+    chains.sort_by_cached_key(place);
+    chains
+}

@@ -1,0 +1,75 @@
+//! What the help and the manual say beyond a line for each option.
+
+pub const EXAMPLES: &str = "\
+Example:
+  lovasuku join roads.geojson -o chains.geojson --map map.svg
+      joins what meets exactly, and draws the chains
+
+`lovasuku join --help` tells everything.";
+
+pub const JOIN: &str = "\
+Join the lines of a delivery into chains.
+
+IN is GeoJSON: a FeatureCollection, or features one after another. LineStrings are joined where
+their ends meet: a way that passes over a junction must be split there, since only ends are looked
+at. OUT has one feature a chain, with the properties members (ids, or positions), turned, count,
+and those that all its members share; its id is its position. Every number is written so that it is
+read back the same, bit for bit. Features, parts and chains are counted from 0.";
+
+pub const JOIN_EXAMPLES: &str = "\
+Examples:
+  lovasuku join roads.geojson -o chains.geojson --map map.svg
+      joins what meets exactly, and draws the chains
+  lovasuku join roads.geojson -o chains.geojson --tolerance 2 --bridges bridges.geojson
+      closes gaps within cells of 2 units too, and lists every segment made that way
+  lovasuku join roads.geojson -o chains.geojsonl --bend 40 --class surface --keep longest
+      goes straight on at junctions, up to a bend of 40 degrees, within each class; a feature a line
+  ogr2ogr -f GeoJSON -lco RFC7946=NO -lco SIGNIFICANT_FIGURES=17 /vsistdout/ roads.gpkg |
+      lovasuku join - -o chains.geojson
+      reads any format of GDAL with its coordinates as they are. GeoJSONSeq and RFC7946=YES are not
+      for this: they change to longitude and latitude and cut to 7 decimals, so that ends that met
+      may part and ends that did not may meet
+
+Exit status:
+  0  done
+  1  the input or a file is at fault; nothing was written
+  2  the arguments are at fault; nothing was written";
+
+pub const FORMAT: &str = "\
+The format of OUT and --bridges. Without this their names decide: .geojsonl, .ndjson and .jsonl are
+geojsonl, .geojsons and .geojsonseq are geojsonseq, all else is geojson.
+  geojson     a FeatureCollection, with the crs and other members of the input's
+  geojsonl    a feature a line
+  geojsonseq  the same with a record separator before each feature (RFC 8142)";
+
+pub const TOLERANCE: &str = "\
+Join ends in one square cell of this side too, in units of the coordinates; 0 joins what meets exactly.
+The cells are those of a grid: an end lies in column floor(x / T) and row floor(y / T). So a cell is not
+a distance. With T = 10 ends at x = 0 and 9 share a column, ends at 9.999 and 10.001 do not, since a line
+of the grid runs between them; and two corners of one cell are up to 14.1 apart. The rules take cells
+because each end lies in exactly one, so that which ends meet never depends on the order of the lines.
+The summary counts bridges longer than T and gaps below T that stayed open, and --bridges lists them
+with their places.
+Degrees are units too: for 2 metres at the equator T is about 0.00002.";
+
+pub const EXPLODE: &str = "\
+Join the parts of MultiLineStrings like lines of their own. A member is then named by its feature, and
+the property parts tells which part of it, 0 for a LineString. Without this a MultiLineString passes
+through as it is.";
+
+pub const DROP_EMPTY: &str = "\
+Leave out lines without length: no position (else a fault), one, or several at one point. Both ends of
+such a line lie at one point, so that two lines that meet there are three or more ends and are not
+joined.";
+
+pub const KEEP: &str = "\
+Which properties of its members a chain has, as they are written:
+  shared   those that all members share
+  first    all of its first member
+  longest  all of its longest member
+  list     each as a list with the value of every member, null where it has none";
+
+pub const UNITS: &str = "\
+What the coordinates are in. For degrees, which GeoJSON has unless its crs or its numbers say otherwise,
+lengths and the map's scale are metres on a sphere of radius 6371008.8. Any other name, as m or ft, is
+written behind lengths, which are those of the plane. The tolerance is always in units of the coordinates.";

@@ -1,0 +1,120 @@
+//! The arguments of the command.
+
+mod help;
+mod options;
+
+use crate::delivery::{Heights, Reading};
+use crate::writing::{apart, Format, Keep};
+use clap::error::ErrorKind;
+use clap::{ArgMatches, Command};
+use lovasuku_chains::{limit_of_bend, Settings};
+use std::path::{Path, PathBuf};
+
+/// What a run of `lovasuku join` is asked for.
+#[derive(Clone, Debug, PartialEq)]
+pub struct Request {
+    pub input: PathBuf,
+    pub output: PathBuf,
+    pub map: Option<PathBuf>,
+    pub bridges: Option<PathBuf>,
+    /// The format of outputs where their names do not decide.
+    pub format: Option<Format>,
+    pub settings: Settings,
+    /// The bend in degrees where the limit was given by one.
+    pub bend: Option<f64>,
+    pub class: Option<String>,
+    pub reading: Reading,
+    pub keep: Keep,
+    /// What the names of the properties begin with that every chain has.
+    pub prefix: String,
+    /// The unit of the coordinates, where it was named.
+    pub units: Option<String>,
+    pub quiet: bool,
+}
+
+impl Request {
+    /// The paths of all outputs.
+    fn outputs(&self) -> Vec<&Path> {
+        let all = [Some(&self.output), self.bridges.as_ref(), self.map.as_ref()];
+        all.into_iter().flatten().map(PathBuf::as_path).collect()
+    }
+}
+
+/// What the arguments ask for.
+#[derive(Clone, Debug, PartialEq)]
+pub enum Asked {
+    Join(Box<Request>),
+    /// The manual page of the command, or of a subcommand.
+    Manual(Option<String>),
+}
+
+/// Reads the arguments, or ends with what is wrong with them.
+pub fn asked() -> Asked {
+    let mut command = command();
+    let matches = command.get_matches_mut();
+    match matches.subcommand() {
+        Some(("manual", page)) => Asked::Manual(page.get_one::<String>("page").cloned()),
+        Some((name, join)) => match of_join(join) {
+            Ok(request) => Asked::Join(Box::new(request)),
+            Err(fault) => failed(&mut command, name, fault),
+        },
+        None => failed(&mut command, "", "nothing is asked for".into()),
+    }
+}
+
+/// Ends with a fault, and with the usage of the subcommand that it is a fault of.
+fn failed(command: &mut Command, name: &str, fault: String) -> ! {
+    command.build();
+    match command.find_subcommand_mut(name) {
+        Some(subcommand) => subcommand.error(ErrorKind::ValueValidation, fault).exit(),
+        None => command.error(ErrorKind::ValueValidation, fault).exit(),
+    }
+}
+
+/// The command and its arguments.
+pub fn command() -> Command {
+    Command::new("lovasuku")
+        .about("Verified line joining for overview maps")
+        .version(env!("CARGO_PKG_VERSION"))
+        .subcommand_required(true)
+        .arg_required_else_help(true)
+        .after_help(help::EXAMPLES)
+        .subcommand(options::join())
+        .subcommand(options::manual())
+}
+
+fn of_join(matches: &ArgMatches) -> Result<Request, String> {
+    let path = |name: &str| matches.get_one::<PathBuf>(name).cloned();
+    let number = |name: &str| matches.get_one::<f64>(name).copied();
+    let text = |name: &str| matches.get_one::<String>(name).cloned();
+    let bend = number("bend");
+    let request = Request {
+        input: path("input").unwrap_or_default(),
+        output: path("output").unwrap_or_default(),
+        map: path("map"),
+        bridges: path("bridges"),
+        format: text("format").and_then(|name| Format::of(&name)),
+        settings: Settings {
+            tolerance: number("tolerance").unwrap_or_default(),
+            limit: number("limit").or_else(|| bend.and_then(limit_of_bend)),
+        },
+        bend,
+        class: text("class"),
+        reading: reading(matches),
+        keep: text("keep").and_then(|name| Keep::of(&name)).unwrap_or_default(),
+        prefix: text("prefix").unwrap_or_default(),
+        units: text("units"),
+        quiet: matches.get_flag("quiet"),
+    };
+    apart(&request.input, &request.outputs()).map(|()| request)
+}
+
+fn reading(matches: &ArgMatches) -> Reading {
+    Reading {
+        heights: if matches.get_flag("drop-heights") { Heights::Dropped } else { Heights::Refused },
+        explode: matches.get_flag("explode"),
+        drop_empty: matches.get_flag("drop-empty"),
+        skip_other: matches.get_flag("skip-other"),
+        id: matches.get_one::<String>("id").cloned(),
+    }
+}

@@ -1,0 +1,153 @@
+//! The subcommands and their options.
+
+use super::help;
+use crate::writing::{Format, Keep};
+use clap::{value_parser, Arg, ArgAction, Command};
+use std::path::PathBuf;
+
+pub fn join() -> Command {
+    Command::new("join")
+        .about("Join the lines of a delivery into chains")
+        .long_about(help::JOIN)
+        .after_help(help::JOIN_EXAMPLES)
+        .arg(
+            path("input")
+                .value_name("IN")
+                .required(true)
+                .help("GeoJSON, or - for the standard input"),
+        )
+        .next_help_heading("Outputs")
+        .args(outputs())
+        .next_help_heading("Joining")
+        .args(settings())
+        .next_help_heading("Reading")
+        .args(reading())
+        .next_help_heading("Properties and lengths")
+        .args(properties())
+}
+
+/// Writes a page of the manual, made of these definitions.
+pub fn manual() -> Command {
+    Command::new("manual")
+        .about("Write a page of the manual (roff), as `lovasuku manual join | man -l -`")
+        .arg(
+            Arg::new("page")
+                .value_name("PAGE")
+                .value_parser(["join"])
+                .help("The page of a subcommand; without it that of the command"),
+        )
+}
+
+fn outputs() -> [Arg; 5] {
+    [
+        path("output")
+            .short('o')
+            .long("output")
+            .value_name("OUT")
+            .required(true)
+            .help("The chains as GeoJSON, or - for the standard output"),
+        path("map")
+            .long("map")
+            .value_name("FILE.svg")
+            .help("Draw the input, the chains, the bridges and the gaps"),
+        path("bridges").long("bridges").value_name("FILE").help(
+            "Write each segment that the tolerance made, and each gap below it that stayed open",
+        ),
+        Arg::new("format")
+            .short('f')
+            .long("format")
+            .value_name("FORMAT")
+            .value_parser(Format::NAMES.map(|(name, _)| name))
+            .help("The format of OUT and --bridges, which else goes by their names")
+            .long_help(help::FORMAT),
+        flag("quiet").short('q').help("Show no progress, no summary and no warnings"),
+    ]
+}
+
+fn settings() -> [Arg; 4] {
+    [
+        Arg::new("tolerance")
+            .long("tolerance")
+            .value_name("T")
+            .default_value("0")
+            .allow_negative_numbers(true)
+            .value_parser(|text: &str| within(text, 0.0, f64::MAX))
+            .help("Join ends in one square cell of this side, in units of the coordinates")
+            .long_help(help::TOLERANCE),
+        Arg::new("limit")
+            .long("limit")
+            .value_name("M")
+            .allow_negative_numbers(true)
+            .value_parser(|text: &str| within(text, -1.0, 1.0))
+            .conflicts_with("bend")
+            .help("Pair ends at junctions up to this dot product of directions: -1 straight on, 1 any"),
+        Arg::new("bend")
+            .long("bend")
+            .value_name("DEG")
+            .allow_negative_numbers(true)
+            .value_parser(|text: &str| within(text, 0.0, 180.0))
+            .help("The same by a bend in degrees: 0 none, 90 up to a right angle, 180 any"),
+        named("class")
+            .value_name("PROPERTY")
+            .help("Join only lines that have the same value of this property"),
+    ]
+}
+
+fn reading() -> [Arg; 5] {
+    [
+        flag("explode")
+            .help("Join the parts of MultiLineStrings, which else pass through")
+            .long_help(help::EXPLODE),
+        flag("skip-other").help(
+            "Leave out points, polygons and features without geometry, which else are a fault",
+        ),
+        flag("drop-empty")
+            .help("Leave out lines without length, which keep others from being joined")
+            .long_help(help::DROP_EMPTY),
+        flag("drop-heights")
+            .help("Leave heights out; without this a position with a height is a fault"),
+        named("id")
+            .value_name("PROPERTY")
+            .help("Name lines by this property in place of their ids"),
+    ]
+}
+
+fn properties() -> [Arg; 3] {
+    [
+        named("keep")
+            .value_name("HOW")
+            .value_parser(Keep::NAMES.map(|(name, _)| name))
+            .default_value("shared")
+            .help("Which properties of its members a chain has")
+            .long_help(help::KEEP),
+        named("prefix")
+            .value_name("PREFIX")
+            .help("Begin the names members, turned, count and parts with this"),
+        named("units")
+            .value_name("UNIT")
+            .help("What the coordinates are in, as m, ft or degrees")
+            .long_help(help::UNITS),
+    ]
+}
+
+fn path(name: &'static str) -> Arg {
+    Arg::new(name).value_parser(value_parser!(PathBuf))
+}
+
+/// An option of one value under its own name.
+fn named(name: &'static str) -> Arg {
+    Arg::new(name).long(name)
+}
+
+fn flag(name: &'static str) -> Arg {
+    named(name).action(ArgAction::SetTrue)
+}
+
+/// A number from the lowest to the highest that is allowed.
+fn within(text: &str, lowest: f64, highest: f64) -> Result<f64, String> {
+    match text.parse::<f64>() {
+        Ok(x) if (lowest..=highest).contains(&x) => Ok(x),
+        _ if highest == f64::MAX => Err(format!("not a number from {lowest} up")),
+        _ => Err(format!("not a number from {lowest} to {highest}")),
+    }
+}

@@ -1,0 +1,24 @@
+//! Joining on all cores, by calls of the verified library.
+
+use crate::progress::Progress;
+pub use lovasuku_chains::large::*;
+use lovasuku_chains::Settings;
+use rayon::prelude::*;
+
+/// Joins lines. No call gets more than the capacity.
+pub fn join(
+    lines: &[Line],
+    settings: Settings,
+    capacity: Capacity,
+    progress: &Progress,
+) -> Result<Vec<Chain>, Fault> {
+    let batches = batches(lines, settings.tolerance, capacity)?;
+    progress.begin("joining", lines.len());
+    let build = |caller: &mut Caller, batch: &Batch| {
+        let chains = caller.build(lines, batch);
+        progress.add(batch.len());
+        chains
+    };
+    let built = batches.par_iter().map_init(|| Caller::new(settings), build);
+    Ok(in_order(lines, built.collect::<Result<_, Fault>>()?))
+}
