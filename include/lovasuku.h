@@ -62,7 +62,11 @@ enum lovasuku_refusal {
     LOVASUKU_ROOM_TOO_SHORT = 7,       /* A lent room is shorter than the call needs. */
     LOVASUKU_PIECE_TOO_OFTEN = 8,      /* A piece number occurs more than twice. */
     LOVASUKU_NOT_FINITE = 9,           /* The indexed route was given a present direction that is not finite. */
-    LOVASUKU_NO_SUCH_CHAIN = 10        /* The table has no such chain. */
+    LOVASUKU_NO_SUCH_CHAIN = 10,       /* The table has no such chain. */
+    LOVASUKU_BAD_BYTE_ORDER = 11,      /* A WKB record's byte order is neither 0 nor 1. */
+    LOVASUKU_BAD_TYPE = 12,            /* A WKB record's type is not 2. */
+    LOVASUKU_BAD_LENGTH = 13,          /* The lengths do not add up, or a WKB record's count and length disagree. */
+    LOVASUKU_RECORD_ROOM_TOO_SHORT = 14 /* A room is shorter than the WKB records need. */
 };
 
 /* Joins lines into chains. The result is the number of chains.
@@ -155,6 +159,31 @@ int64_t lovasuku_chain(const double *coordinates, size_t coordinates_length,
                        const double *merged, size_t merged_length,
                        const uint32_t *table, size_t table_length,
                        uint64_t k);
+
+/* WKB in: reads lines from records of OGC 06-103r4. The result is the number of records.
+ *
+ * Lent are run, bytes, record behind record; and lengths, the length in bytes of each record. A record is a byte order
+ * (0 the greatest byte first, 1 the least), a type and a count of coordinates, four bytes each, and two doubles
+ * for each coordinate, x and y. Each record may have either byte order. There is no limit on the number of records, and
+ * a line of no coordinates or of one is a line.
+ *
+ * Written are coordinates, x, y, x, y .., one line behind another, every bit of a double kept, those of a NaN too; and
+ * counts, how many coordinates each line has. Both go into lovasuku_build as they are.
+ *
+ * Rooms: coordinates, two numbers for each coordinate of all records; counts, a number for each record. For n
+ * records in a run of b bytes that is (b - 9n) / 8 numbers and n.
+ *
+ * Refusals, before any record: 13 the lengths do not add up to the run's. Then record by record, and the first bad
+ * one decides: 13 it is shorter than a header of 9 bytes. 11 its byte order is neither 0 nor 1. 12 its type is not 2.
+ * 13 it is not 9 bytes long and 16 for each coordinate of its count. After all records: 14 a room is too short.
+ *
+ * What others write that is refused by 12: heights and measures (1002, 2002, 3002 and, by Shapely and by GDAL's
+ * ExportToWkb, 0x80000002, which is not ISO); what PostGIS's ST_AsEWKB marks with an SRID (0x20000002; ST_AsBinary
+ * writes none); every other geometry; and Shapely 1.8's empty LineString(), which it writes as a collection. */
+int64_t lovasuku_read_wkb(const uint8_t *run, size_t run_length,
+                          const uint64_t *lengths, size_t lengths_length,
+                          double *coordinates, size_t coordinates_length,
+                          uint32_t *counts, size_t counts_length);
 
 #ifdef __cplusplus
 }

@@ -102,9 +102,13 @@ bool limit_is_bad(double limit) {
 
 int LLVMFuzzerTestOneInput(const uint8_t *data, size_t size) {
     struct bytes bytes = {data, size};
-    switch (next_byte(&bytes) % 8) {
+    switch (next_byte(&bytes) % 10) {
     case 0:
         fuzz_chain(&bytes);
+        break;
+    case 8:
+    case 9:
+        fuzz_wkb(&bytes);
         break;
     case 1:
     case 2:

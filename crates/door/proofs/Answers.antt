@@ -16,7 +16,7 @@ use Rattle.door.specs.Proper.{Proper}
 use lib.ListN.{length}
 
 -- the refusal's number is 0, and the call accepted, or it is above 0
-proper-answer : (k n : ℕ) → Proper (answerOf k n)
+pub proper-answer : (k n : ℕ) → Proper (answerOf k n)
 unfolding answerOf unless
 proper-answer zero n = tt
 proper-answer (suc k) n = omega arith
@@ -33,7 +33,7 @@ proper-built {l} {s} {o} b = subst Proper (sym (b .answer)) (proper-answer (refu
 
 -- ---- one number
 
-numbered-once : {P Q : Answer → Type 0} {r r′ : ℕ} → ((a b : Answer) → P a → Q b → a ≡ b) → Numbered P r → Numbered Q r′ → r ≡ r′
+pub numbered-once : {P Q : Answer → Type 0} {r r′ : ℕ} → ((a b : Answer) → P a → Q b → a ≡ b) → Numbered P r → Numbered Q r′ → r ≡ r′
 numbered-once same a b = a .number ∙ ap numberOf (same (a .answer) (b .answer) (a .determined) (b .determined)) ∙ sym (b .number)
 
 pub one-building : {l : Lines} {s : Settings} {o : Rooms} {r r′ : ℕ} {o₁ o₂ : Rooms}

@@ -8,6 +8,7 @@ ghost use mathlib.Core.Bool.{true, false};
 ghost use Rattle.rules.specs.Layout.{lent};
 ghost use Rattle.rules.specs.Refusals.{rooms, lentEnds};
 ghost use Rattle.rules.specs.Calls.{numberOf, Numbered, Built, Paired, asked};
+ghost use Rattle.rules.specs.Wkb.{ReadPlain};
 
 // An answer as a host sees it.
 fn number(answer: Answer) -> u64
@@ -118,4 +119,18 @@ pub extern "C" fn lovasuku_chain(coordinates: &[u64], merged: &[u64], table: &[u
     ensures { λ r. ⌜ r ≡ numberOf (asked 2 (now (coordinates .entry)) (now (merged .entry)) (now (table .entry)) k) ⌝ }
 {
     number(build_question::chain(coordinates, merged, table, k as usize))
+}
+
+// WKB in: the number of records.
+#[no_mangle]
+pub extern "C" fn lovasuku_read_wkb(
+    run: &[u8],
+    lengths: &[u64],
+    coordinates: &mut [u64],
+    counts: &mut [u32],
+) -> u64
+    ensures { λ r. ⌜ Numbered (λ a. ReadPlain (now (run .entry)) (now (lengths .entry)) (now (coordinates .entry)) (now (counts .entry))
+        a (now (coordinates .exit)) (now (counts .exit))) r ⌝ }
+{
+    number(wkb_reading::read(run, lengths, coordinates, counts))
 }

@@ -6,6 +6,7 @@
 //! - [`model`]: the rules, written down in plain Rust.
 //! - [`check`]: what holds of every recorded answer by its form alone.
 //! - [`replay`]: every recorded call, put to a [`Port`].
+//! - [`wkb`]: lines as WKB records, read as the standard says.
 //! - [`random`] and [`styles`]: inputs, the same for the same seed on every machine.
 //!
 //! Nothing here needs the Rust original.
@@ -17,5 +18,6 @@ pub mod model;
 pub mod random;
 pub mod replay;
 pub mod styles;
+pub mod wkb;
 
 pub use call::{BuildCall, Built, Pair, PairingCall, Port, Refusal, Route};

@@ -10,14 +10,17 @@ const READING: &str = "A figure is the port's time as a part of the Rust's, with
     not cleared first; the port's time includes the zeroing of spare and workspace. The Rust's \
     lines are ready made, its answer is dropped after its clock has stopped, and the memory that \
     it frees is kept for its next call. The Rust is the edited one, whose measure is the dot \
-    product. Zeroing is that of spare and workspace alone, as a part of the Rust's strict call.";
+    product. Zeroing is that of spare and workspace alone, as a part of the Rust's strict call. WKB is \
+    held to a reader in plain Rust; a copy of the coordinates alone is a part of that one's time.";
 
 /// The paragraphs above the tables.
 pub fn paragraphs(words: &[String], geos: Option<&Geos>) -> [String; 3] {
     let command = ["cargo run --release -p bench", &words.join(" ")].join(" -- ");
     let command = command.trim_end_matches(" -- ");
     let geos = match geos {
-        Some(geos) => format!("GEOS {}: LineMerger, strict, tolerance 0.", geos.version()),
+        Some(geos) => {
+            format!("GEOS {}: LineMerger, strict, tolerance 0; WKBReader.", geos.version())
+        }
         None => "GEOS is not installed: skipped.".to_string(),
     };
     [format!("{}, {}, `{command}`.", date(), processor()), READING.to_string(), geos]

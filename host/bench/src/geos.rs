@@ -1,4 +1,4 @@
-//! GEOS's LineMerger, found at run time where its C library is installed.
+//! GEOS, found at run time where its C library is installed: its LineMerger, and its WKBReader.
 //!
 //! Each unsafe line calls a function of that library by the signature that `geos_c.h` declares, on
 //! pointers that the library gave out and that are given back to it once.
@@ -28,6 +28,7 @@ const MULTI_LINE: c_int = 5;
 
 /// The library, open, with what is called of it.
 pub struct Geos {
+    library: Pointer,
     handle: Pointer,
     version: String,
     sequence: unsafe extern "C" fn(Pointer, c_uint, c_uint) -> Pointer,
@@ -49,6 +50,7 @@ impl Geos {
             let version: unsafe extern "C" fn() -> *const c_char =
                 function(library, "GEOSversion")?;
             Some(Geos {
+                library,
                 handle: init(),
                 version: CStr::from_ptr(version()).to_string_lossy().into_owned(),
                 sequence: function(library, "GEOSCoordSeq_create_r")?,
@@ -79,6 +81,42 @@ impl Geos {
         match lines.is_null() {
             true => Err("GEOS does not take the lines".to_string()),
             false => Ok(Merging(Geometry { geos: self, pointer: lines })),
+        }
+    }
+
+    /// The library's reader of WKB.
+    pub fn wkb_reader(&self) -> Option<WkbReader<'_>> {
+        unsafe {
+            let create: unsafe extern "C" fn(Pointer) -> Pointer =
+                function(self.library, "GEOSWKBReader_create_r")?;
+            Some(WkbReader {
+                geos: self,
+                read: function(self.library, "GEOSWKBReader_read_r")?,
+                destroy: function(self.library, "GEOSWKBReader_destroy_r")?,
+                reader: create(self.handle),
+            })
+        }
+    }
+
+    /// x and y of all coordinates of a line, by their bits.
+    pub fn coordinates(&self, line: &Geometry<'_>) -> Option<Vec<u64>> {
+        type Get = unsafe extern "C" fn(Pointer, Pointer, c_uint, *mut c_double) -> c_int;
+        unsafe {
+            let sequence: unsafe extern "C" fn(Pointer, Pointer) -> Pointer =
+                function(self.library, "GEOSGeom_getCoordSeq_r")?;
+            let size: unsafe extern "C" fn(Pointer, Pointer, *mut c_uint) -> c_int =
+                function(self.library, "GEOSCoordSeq_getSize_r")?;
+            let get_x: Get = function(self.library, "GEOSCoordSeq_getX_r")?;
+            let get_y: Get = function(self.library, "GEOSCoordSeq_getY_r")?;
+            let sequence = sequence(self.handle, line.pointer);
+            let mut count = 0;
+            size(self.handle, sequence, &mut count);
+            let number = |get: Get, k: c_uint| {
+                let mut number = 0.0;
+                get(self.handle, sequence, k, &mut number);
+                number.to_bits()
+            };
+            Some((0..count).flat_map(|k| [number(get_x, k), number(get_y, k)]).collect())
         }
     }
 
@@ -143,5 +181,29 @@ impl<'a> Merging<'a> {
             true => Ok(()),
             false => Err(format!("GEOS has {count} merged lines, not {lines}")),
         }
+    }
+}
+
+/// GEOS's reader of WKB.
+pub struct WkbReader<'a> {
+    geos: &'a Geos,
+    reader: Pointer,
+    read: unsafe extern "C" fn(Pointer, Pointer, *const u8, usize) -> Pointer,
+    destroy: unsafe extern "C" fn(Pointer, Pointer),
+}
+
+impl<'a> WkbReader<'a> {
+    /// The geometry of a record, if GEOS takes it.
+    pub fn read(&self, record: &[u8]) -> Option<Geometry<'a>> {
+        let geos = self.geos;
+        let pointer =
+            unsafe { (self.read)(geos.handle, self.reader, record.as_ptr(), record.len()) };
+        (!pointer.is_null()).then_some(Geometry { geos, pointer })
+    }
+}
+
+impl Drop for WkbReader<'_> {
+    fn drop(&mut self) {
+        unsafe { (self.destroy)(self.geos.handle, self.reader) }
     }
 }

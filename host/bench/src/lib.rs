@@ -2,7 +2,8 @@
 //!
 //! - [`workloads`] and [`ends`]: what is built, and what is paired.
 //! - [`building`] and [`pairing`]: both sides of a comparison, seen to answer alike and then timed.
-//! - [`geos`]: GEOS's LineMerger as a third side, where it is installed.
+//! - [`wkb`]: WKB records, with a reader in plain Rust, [`plain_wkb`].
+//! - [`geos`]: GEOS's LineMerger and WKBReader as a third side, where it is installed.
 //! - [`clock`] and [`times`]: the best of many calls, with the sides taken in turn.
 //! - [`heap`]: memory that the Rust's calls free is kept for the next.
 //! - [`table`], [`summary`], [`about`] and [`report`]: what is printed.
@@ -15,8 +16,10 @@ pub mod geos;
 pub mod heap;
 pub mod options;
 pub mod pairing;
+pub mod plain_wkb;
 pub mod report;
 pub mod summary;
 pub mod table;
 pub mod times;
+pub mod wkb;
 pub mod workloads;

@@ -6,6 +6,7 @@ use crate::options::Options;
 use crate::summary::Summary;
 use crate::table::{head, measured, row, short, whole, Column};
 use crate::times::Times;
+use crate::wkb::{self, Run};
 use crate::workloads::{Workload, MODES, WORKLOADS};
 use crate::{building, pairing};
 use answers::{BuildCall, Route};
@@ -36,6 +37,15 @@ const PAIRING: [Column; 7] = [
     Column::numbers("8,192 ends", 15),
 ];
 
+const WKB: [Column; 6] = [
+    Column::words("WKB", 13),
+    Column::numbers("records", 7),
+    Column::numbers("points", 6),
+    Column::numbers("of plain Rust", 15),
+    Column::numbers("copy alone", 15),
+    Column::numbers("of GEOS", 7),
+];
+
 /// A run in the making.
 pub struct Report<'a> {
     pub oracle: Oracle,
@@ -49,7 +59,8 @@ impl Report<'_> {
     /// the sides differ.
     pub fn run(&mut self) -> Result<(), String> {
         self.building()?;
-        self.pairing()
+        self.pairing()?;
+        self.wkb()
     }
 
     fn building(&mut self) -> Result<(), String> {
@@ -71,6 +82,17 @@ impl Report<'_> {
         self.head(&PAIRING, rows.is_empty());
         for (rivals, ways) in rows {
             self.pairing_row(rivals, ways)?;
+        }
+        Ok(())
+    }
+
+    fn wkb(&mut self) -> Result<(), String> {
+        let with_all = |order| wkb::RECORDS.iter().map(move |&records| (order, records));
+        let mut rows: Vec<(&(&str, u8), usize)> = wkb::ORDERS.iter().flat_map(with_all).collect();
+        rows.retain(|((order, _), _)| self.options.asks_for(&wkb_name(order)));
+        self.head(&WKB, rows.is_empty());
+        for ((name, order), records) in rows {
+            self.wkb_row(&wkb_name(name), *order, records)?;
         }
         Ok(())
     }
@@ -144,6 +166,34 @@ impl Report<'_> {
         println!("{}", row(self.options.form, &PAIRING, &cells));
         Ok(())
     }
+
+    fn wkb_row(&mut self, name: &str, order: u8, records: usize) -> Result<(), String> {
+        let (run, patience) = (Run::of(records, order), self.options.patience());
+        let full_name = format!("{name} of {}", whole(records));
+        let in_this = |fault| format!("{full_name}: {fault}");
+        let times = wkb::reading(&run, patience).map_err(in_this)?;
+        let copying = wkb::copying(&run, patience);
+        let mut cells = vec![name.to_string(), whole(records), whole(wkb::POINTS)];
+        cells.push(measured(self.options.form, times.ratio(), times.port));
+        cells.push(measured(self.options.form, copying / times.rust, copying));
+        cells.push(match self.geos {
+            Some(geos) => {
+                let ratio =
+                    times.port / wkb::geos_reading(geos, &run, patience).map_err(in_this)?;
+                self.summary.wkb_geos.push(full_name.clone(), ratio);
+                short(ratio)
+            }
+            None => NOTHING.to_string(),
+        });
+        self.summary.wkb.push(full_name, times.ratio());
+        println!("{}", row(self.options.form, &WKB, &cells));
+        Ok(())
+    }
+}
+
+/// The name of a run of records in a byte order.
+fn wkb_name(order: &str) -> String {
+    format!("WKB in, {order}")
 }
 
 /// The Rust's sorted route takes seconds for the most ends.

@@ -5,6 +5,9 @@ use crate::table::short;
 /// No ratio may be above this.
 pub const MOST_RATIO: f64 = 1.0;
 
+/// No ratio to GEOS's reading of WKB may be above this.
+pub const MOST_OF_GEOS: f64 = 0.2;
+
 /// The geometric mean of building may not be above this.
 pub const MOST_MEAN: f64 = 0.5;
 
@@ -29,8 +32,8 @@ impl Ratios {
     }
 
     /// The ratios above the most that is allowed, the greatest first.
-    pub fn above(&self) -> Vec<&(String, f64)> {
-        let mut above: Vec<_> = self.0.iter().filter(|(_, ratio)| *ratio > MOST_RATIO).collect();
+    pub fn above(&self, most: f64) -> Vec<&(String, f64)> {
+        let mut above: Vec<_> = self.0.iter().filter(|(_, ratio)| *ratio > most).collect();
         above.sort_by(|a, b| b.1.total_cmp(&a.1));
         above
     }
@@ -50,6 +53,8 @@ pub struct Summary {
     pub building: Ratios,
     pub pairing: Ratios,
     pub geos: Ratios,
+    pub wkb: Ratios,
+    pub wkb_geos: Ratios,
 }
 
 impl Summary {
@@ -59,19 +64,33 @@ impl Summary {
             ("building", &self.building),
             ("pairing", &self.pairing),
             ("building, of GEOS", &self.geos),
+            ("WKB, of plain Rust", &self.wkb),
+            ("WKB, of GEOS", &self.wkb_geos),
         ];
         let mut lines: Vec<_> =
             titles.iter().filter_map(|(title, ratios)| ratios.line(title)).collect();
-        for (name, ratio) in [&self.building, &self.pairing].into_iter().flat_map(Ratios::above) {
-            lines.push(format!("above {}: {} ({name})", short(MOST_RATIO), short(*ratio)));
+        for (ratios, most) in self.gated() {
+            for (name, ratio) in ratios.above(most) {
+                lines.push(format!("above {}: {} ({name})", short(most), short(*ratio)));
+            }
         }
         lines
     }
 
+    /// The ratios that the gate looks at one by one, with the most that each may be.
+    fn gated(&self) -> [(&Ratios, f64); 4] {
+        [
+            (&self.building, MOST_RATIO),
+            (&self.pairing, MOST_RATIO),
+            (&self.wkb, MOST_RATIO),
+            (&self.wkb_geos, MOST_OF_GEOS),
+        ]
+    }
+
     /// True where the gate is open.
     pub fn within(&self) -> bool {
-        let kinds = [&self.building, &self.pairing];
-        let no_ratio_above = kinds.iter().all(|ratios| ratios.above().is_empty());
+        let no_ratio_above =
+            self.gated().iter().all(|(ratios, most)| ratios.above(*most).is_empty());
         no_ratio_above && self.building.mean().map_or(true, |mean| mean <= MOST_MEAN)
     }
 }

@@ -37,6 +37,17 @@ extern "C" {
         table_length: usize,
         k: u64,
     ) -> i64;
+
+    pub fn lovasuku_read_wkb(
+        run: *const u8,
+        run_length: usize,
+        lengths: *const u64,
+        lengths_length: usize,
+        coordinates: *mut f64,
+        coordinates_length: usize,
+        counts: *mut u32,
+        counts_length: usize,
+    ) -> i64;
 }
 
 /// Declares functions of one form, and the type of these.

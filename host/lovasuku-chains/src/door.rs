@@ -49,6 +49,15 @@ pub struct PairRooms<'a> {
     pub workspace: &'a mut [u64],
 }
 
+/// The rooms of a reading call.
+#[derive(Debug)]
+pub struct ReadRooms<'a> {
+    /// Two numbers for each coordinate of the records.
+    pub coordinates: &'a mut [f64],
+    /// One number for each record.
+    pub counts: &'a mut [u32],
+}
+
 /// The result of an answer, or its refusal.
 pub fn result(answer: i64) -> Result<u64, Refusal> {
     u64::try_from(answer).map_err(|_| Refusal::of_number(answer.wrapping_neg()))
@@ -120,6 +129,22 @@ pub fn chain(coordinates: &[f64], merged: &[f64], table: &[u32], k: u64) -> i64 
             table.as_ptr(),
             table.len(),
             k,
+        )
+    }
+}
+
+/// Reads a run of WKB records, whose lengths stand in a table. The result is their number.
+pub fn read_wkb(run: &[u8], lengths: &[u64], rooms: ReadRooms<'_>) -> i64 {
+    unsafe {
+        declared::lovasuku_read_wkb(
+            run.as_ptr(),
+            run.len(),
+            lengths.as_ptr(),
+            lengths.len(),
+            rooms.coordinates.as_mut_ptr(),
+            rooms.coordinates.len(),
+            rooms.counts.as_mut_ptr(),
+            rooms.counts.len(),
         )
     }
 }

@@ -30,6 +30,7 @@
 //! | join lines | [`Rooms::build`], which gives [`Chains`] |
 //! | pair the ends at one node | [`Rooms::pairs`] |
 //! | look up a chain in a stored table | [`chain_question`], [`chain_coordinates`] |
+//! | read lines from the records of a store | [`read_wkb`], which gives [`WkbLines`] |
 //! | keep the chains, as tylertoo does | [`build_chains`] |
 //! | join more lines than a call holds, with what joined them and the gaps left | [`large`] |
 //! | look for ends near one another | [`Nearest`] |
@@ -55,6 +56,7 @@ mod rooms;
 mod settings;
 pub mod size;
 mod two;
+mod wkb;
 
 pub use chains::{Chain, Chains, Iter};
 pub use lines::{Lines, LinesBuf, PASSING, PLAIN};
@@ -65,3 +67,4 @@ pub use question::{chain_coordinates, chain_question};
 pub use refusal::Refusal;
 pub use rooms::Rooms;
 pub use settings::{limit_of_bend, Settings};
+pub use wkb::{read_wkb, WkbLines, WkbRooms};

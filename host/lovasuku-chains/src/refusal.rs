@@ -40,6 +40,16 @@ pub enum Refusal {
     NotFinite,
     /// 10: there is no such chain.
     NoSuchChain,
+    /// 11: a record's byte order is neither 0 nor 1.
+    BadByteOrder,
+    /// 12: a record's type is not 2, a line of x and y.
+    BadType,
+    /// 13: the lengths do not add up to the run, or a record is not as long as its header and its
+    /// count say.
+    BadLength,
+    /// 14: the room for coordinates or counts is shorter than the records need.
+    /// [`WkbRooms`](crate::WkbRooms) never lends one that is.
+    RecordRoomTooShort,
     /// A number that this crate does not know: the library is of another version.
     Unknown(i64),
 }
@@ -58,6 +68,10 @@ impl Refusal {
             8 => Refusal::PieceTooOften,
             9 => Refusal::NotFinite,
             10 => Refusal::NoSuchChain,
+            11 => Refusal::BadByteOrder,
+            12 => Refusal::BadType,
+            13 => Refusal::BadLength,
+            14 => Refusal::RecordRoomTooShort,
             unknown => Refusal::Unknown(unknown),
         }
     }
@@ -75,6 +89,10 @@ impl Refusal {
             Refusal::PieceTooOften => 8,
             Refusal::NotFinite => 9,
             Refusal::NoSuchChain => 10,
+            Refusal::BadByteOrder => 11,
+            Refusal::BadType => 12,
+            Refusal::BadLength => 13,
+            Refusal::RecordRoomTooShort => 14,
             Refusal::Unknown(unknown) => unknown,
         }
     }
@@ -96,6 +114,12 @@ impl Refusal {
                 "a direction is not finite, which the indexed route does not take"
             }
             Refusal::NoSuchChain => "there is no such chain",
+            Refusal::BadByteOrder => "a record's byte order is neither 0 nor 1",
+            Refusal::BadType => "a record's type is not 2, a line of x and y",
+            Refusal::BadLength => {
+                "the lengths do not add up to the run, or a record's count and length disagree"
+            }
+            Refusal::RecordRoomTooShort => "a room is too short for the records",
             Refusal::Unknown(_) => "the library refused the call for a reason unknown here",
         }
     }
@@ -118,7 +142,7 @@ mod tests {
         for number in 1..=30 {
             let refusal = Refusal::of_number(number);
             assert_eq!(refusal.number(), number);
-            assert_eq!(number > 10, matches!(refusal, Refusal::Unknown(_)));
+            assert_eq!(number > 14, matches!(refusal, Refusal::Unknown(_)));
         }
     }
 }

@@ -158,7 +158,7 @@ impl Rooms {
 }
 
 /// Makes a room at least so long.
-fn grow<T: Clone + Default>(room: &mut Vec<T>, length: usize) {
+pub(crate) fn grow<T: Clone + Default>(room: &mut Vec<T>, length: usize) {
     if room.len() < length {
         room.resize(length, T::default());
     }
@@ -174,6 +174,6 @@ fn merged_length(table: &[u32]) -> usize {
 }
 
 /// The first so many of a slice, all where it has fewer.
-fn first<T>(of: &[T], count: usize) -> &[T] {
+pub(crate) fn first<T>(of: &[T], count: usize) -> &[T] {
     of.get(..count).unwrap_or(of)
 }

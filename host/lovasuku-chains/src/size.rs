@@ -21,3 +21,9 @@ pub const LINE_WORKSPACE: usize = 192;
 
 /// The words of workspace for each end.
 pub const END_WORKSPACE: usize = 64;
+
+/// The bytes of a WKB record before its coordinates: byte order, type and count.
+pub const WKB_HEADER: usize = 9;
+
+/// The bytes of a number in a WKB record.
+pub const WKB_NUMBER: usize = 8;

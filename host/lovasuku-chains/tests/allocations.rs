@@ -1,6 +1,8 @@
-//! Once the rooms have grown, building, pairing and asking allocate nothing.
+//! Once the rooms have grown, building, pairing, asking and reading allocate nothing.
 
-use lovasuku_chains::{chain_coordinates, Ends, LinesBuf, Rooms, Route, Settings};
+use lovasuku_chains::{
+    chain_coordinates, read_wkb, Ends, LinesBuf, Rooms, Route, Settings, WkbRooms,
+};
 use std::alloc::{GlobalAlloc, Layout, System};
 use std::cell::Cell;
 
@@ -90,6 +92,20 @@ fn pairing_in_grown_rooms_allocates_nothing() {
         };
         assert_eq!(asked(pair), 0);
     }
+}
+
+#[test]
+fn reading_records_in_grown_rooms_allocates_nothing() {
+    let mut record = vec![1, 2, 0, 0, 0, 2, 0, 0, 0];
+    record.extend([0.0f64, 1.0, 2.0, 3.0].iter().flat_map(|x| x.to_le_bytes()));
+    let (run, lengths) = (record.repeat(50), vec![41; 50]);
+    let mut rooms = WkbRooms::new();
+    let mut read = |records: usize| {
+        let lines = read_wkb(&run[..41 * records], &lengths[..records], &mut rooms);
+        assert_eq!(lines.map(|lines| lines.plain().len()), Ok(records));
+    };
+    assert!(asked(|| read(50)) > 0);
+    assert_eq!(asked(|| (0..=50).for_each(&mut read)), 0);
 }
 
 #[test]

@@ -1,0 +1,27 @@
+-- The answers of the WKB calls are proper, and one call has one number at the door and leaves each lent slice in one way.
+use Prim.Native.Nat.{ℕ}
+use mathlib.Core.Path.{_≡_, sym, subst, _∙_}
+use mathlib.Core.Bool.{Bool}
+use mathlib.Core.List.{List}
+use lib.ListN.{length}
+use Rattle.rules.specs.declared.Answer.{Answer}
+use Rattle.rules.specs.Calls.{Numbered}
+use Rattle.rules.specs.Wkb.{LentRun, readRefusalOf, Read}
+use Rattle.door.specs.Proper.{Proper}
+use Rattle.door.proofs.Answers.{proper-answer, numbered-once}
+
+pub proper-read : {extras : Bool} {i : LentRun} {r : Answer} {coordinates counts type : List ℕ} → Read extras i r coordinates counts type → Proper r
+proper-read {extras} {i} b = subst Proper (sym (b .answer)) (proper-answer (readRefusalOf extras i) (length (i .lengths)))
+
+pub one-reading : (extras : Bool) (i : LentRun) (r r′ : ℕ) (coordinates coordinates′ counts counts′ type type′ : List ℕ)
+    → Numbered (λ a. Read extras i a coordinates counts type) r
+    → Numbered (λ a. Read extras i a coordinates′ counts′ type′) r′
+    → (r ≡ r′) × (coordinates ≡ coordinates′) × (counts ≡ counts′) × (type ≡ type′)
+one-reading extras i r r′ coordinates coordinates′ counts counts′ type type′ a b =
+    let p = a .determined in
+    let q = b .determined in (
+      numbered-once (λ x y u v. u .answer ∙ sym (v .answer)) a b,
+      p .coordinates ∙ sym (q .coordinates),
+      p .counts ∙ sym (q .counts),
+      p .type ∙ sym (q .type),
+    )

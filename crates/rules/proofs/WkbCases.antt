@@ -1,0 +1,81 @@
+-- Small records, computed on the book: both byte orders, each refusal from each state, and what is read.
+use mathlib.Core.Path.{refl}
+use Rattle.rules.specs.Library.{ℕ, _*_, _≡_, true, false, List, [], _∷_, _++_, replicate}
+use Rattle.rules.specs.Lists.{total}
+use Rattle.rules.specs.Refusals.{firstOf}
+use Rattle.rules.specs.Wkb.{little, numberBy, widthOf, byteOrder, typeOf, countOf, doublesBy, doublesOf, recordsOf, coordinatesOf, countsOf, runType, recordRefusal, recordsRefusal, runRefusal, LentRun, lentRecords, told, readRefusalOf}
+
+-- everything that is run through
+unfoldable reading : Unit {0}
+unfolding little numberBy widthOf byteOrder typeOf countOf doublesBy doublesOf recordsOf coordinatesOf countsOf runType recordRefusal recordsRefusal runRefusal lentRecords told readRefusalOf firstOf total
+reading = tt
+
+-- the bits of 1.0, and of a NaN that keeps its payload
+abbrev one : ℕ
+one = 4607182418800017408
+
+abbrev one-little : List ℕ
+one-little = 0 ∷ 0 ∷ 0 ∷ 0 ∷ 0 ∷ 0 ∷ 240 ∷ 63 ∷ []
+
+abbrev one-big : List ℕ
+one-big = 63 ∷ 240 ∷ 0 ∷ 0 ∷ 0 ∷ 0 ∷ 0 ∷ 0 ∷ []
+
+abbrev odd-big : List ℕ
+odd-big = 127 ∷ 240 ∷ 0 ∷ 0 ∷ 0 ∷ 0 ∷ 0 ∷ 7 ∷ []
+
+pub numbers-read : (numberBy 1 one-little ≡ one) × (numberBy 0 one-big ≡ one) × (numberBy 0 odd-big ≡ 9218868437227405319)
+unfolding reading
+numbers-read = (refl, refl, refl)
+
+-- a line of one coordinate 1,1 in little order, the same in big order, a line of none in big order, and a ZM line of none
+abbrev first : List ℕ
+first = 1 ∷ 2 ∷ 0 ∷ 0 ∷ 0 ∷ 1 ∷ 0 ∷ 0 ∷ 0 ∷ (one-little ++ one-little)
+
+abbrev turned : List ℕ
+turned = 0 ∷ 0 ∷ 0 ∷ 0 ∷ 2 ∷ 0 ∷ 0 ∷ 0 ∷ 1 ∷ (one-big ++ one-big)
+
+abbrev second : List ℕ
+second = 0 ∷ 0 ∷ 0 ∷ 0 ∷ 2 ∷ 0 ∷ 0 ∷ 0 ∷ 0 ∷ []
+
+abbrev third : List ℕ
+third = 0 ∷ 0 ∷ 0 ∷ 11 ∷ 186 ∷ 0 ∷ 0 ∷ 0 ∷ 0 ∷ []
+
+-- room for c coordinates and n counts
+abbrev lent : List ℕ → List ℕ → ℕ → ℕ → LentRun
+lent run lengths c n = record { run = run; lengths = lengths; coordinates = replicate (c * 2) 7; counts = replicate n 7; type = 7 ∷ [] }
+
+pub runs-read : (readRefusalOf false (lent (first ++ (second ++ turned)) (25 ∷ 9 ∷ 25 ∷ []) 2 3) ≡ 0)
+    × (coordinatesOf (lentRecords (lent (first ++ (second ++ turned)) (25 ∷ 9 ∷ 25 ∷ []) 2 3)) ≡ replicate 4 one)
+    × (countsOf (lentRecords (lent (first ++ (second ++ turned)) (25 ∷ 9 ∷ 25 ∷ []) 2 3)) ≡ 1 ∷ 0 ∷ 1 ∷ [])
+unfolding reading
+runs-read = (refl, refl, refl)
+
+-- no records: accepted, of type 2
+pub none-read : (readRefusalOf false (lent [] [] 0 0) ≡ 0) × (told true (runType (lentRecords (lent [] [] 0 0))) ≡ 2 ∷ [])
+unfolding reading
+none-read = (refl, refl)
+
+-- a header of nine bytes: order, type and count in big order
+abbrev header : ℕ → ℕ → ℕ → List ℕ
+header o t c = o ∷ 0 ∷ 0 ∷ 0 ∷ t ∷ 0 ∷ 0 ∷ 0 ∷ c ∷ []
+
+pub read-refusals :
+    -- the lengths don't add up to the run, or their sum is as long only where it wraps at 2 ^ 64; no record is looked at
+    (readRefusalOf false (lent second (8 ∷ []) 0 1) ≡ 13)
+    × (readRefusalOf false (lent (header 2 3 1) (18446744073709551615 ∷ 10 ∷ []) 0 0) ≡ 13)
+    -- the header doesn't fit; an order of 2; type 3; the count disagrees
+    × (readRefusalOf false (lent (9 ∷ []) (1 ∷ []) 0 1) ≡ 13)
+    × (readRefusalOf false (lent (header 2 3 1) (9 ∷ []) 0 0) ≡ 11)
+    × (readRefusalOf false (lent (header 0 3 1) (9 ∷ []) 0 0) ≡ 12)
+    × (readRefusalOf false (lent (header 0 2 1) (9 ∷ []) 0 0) ≡ 13)
+    -- the first bad record decides, and the rooms are judged after all
+    × (readRefusalOf false (lent (header 0 3 0 ++ header 2 2 0) (9 ∷ 9 ∷ []) 0 0) ≡ 12)
+    × (readRefusalOf false (lent (first ++ header 2 2 0) (25 ∷ 9 ∷ []) 0 0) ≡ 11)
+    × (readRefusalOf false (lent first (25 ∷ []) 0 1) ≡ 14)
+    × (readRefusalOf false (lent first (25 ∷ []) 1 0) ≡ 14)
+    -- a type that is known with extras only, and a run that mixes types
+    × (readRefusalOf false (lent third (9 ∷ []) 0 1) ≡ 12)
+    × (readRefusalOf true (lent third (9 ∷ []) 0 1) ≡ 0)
+    × (readRefusalOf true (lent (second ++ third) (9 ∷ 9 ∷ []) 0 2) ≡ 25)
+unfolding reading
+read-refusals = (refl, refl, refl, refl, refl, refl, refl, refl, refl, refl, refl, refl, refl)

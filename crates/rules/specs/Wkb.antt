@@ -1,0 +1,124 @@
+-- 02, WKB in: lines as records of OGC 06-103r4. A record is bytes: one for the byte order, four for the type, four for the count of coordinates, and
+-- eight for each double. All is said over the width of a type, how many doubles a coordinate has, so that types with extras are the same definitions.
+use Rattle.rules.specs.Library.{ℕ, zero, suc, _+_, _-_, _*_, _/_, _≡_, Bool, true, false, not, _||_, List, [], _∷_, _++_, reverse, length, take, drop, getD, eqb, ltb, Answer}
+use Rattle.rules.specs.Lists.{total}
+use Rattle.rules.specs.Refusals.{firstOf, short}
+use Rattle.rules.specs.Calls.{unless, answerOf, written}
+
+-- ---- numbers as bytes
+-- the number that bytes stand for, the least byte first
+unfoldable pub little : List ℕ → ℕ
+little [] = 0
+little (b ∷ l) = b + 256 * little l
+
+-- byte order 0 (XDR) has the greatest byte first, byte order 1 (NDR) the least
+unfoldable pub numberBy : ℕ → List ℕ → ℕ
+numberBy zero l = little (reverse l)
+numberBy (suc o) l = little l
+
+-- ---- types
+-- The width of a type, and 0 for a number that is no type. Without extras there is type 2 alone; with them there are 2, 1002 (Z), 2002 (M) and 3002 (ZM).
+unfoldable pub widthOf : Bool → ℕ → ℕ
+widthOf false t = elim (eqb t 2) [ true ↦ 2 | false ↦ 0 ]
+widthOf true t =
+    elim (eqb t 2) [ true ↦ 2 | false ↦ elim (eqb t 1002) [ true ↦ 3 | false ↦ elim (eqb t 2002) [ true ↦ 3 | false ↦ elim (eqb t 3002) [ true ↦ 4 | false ↦ 0 ] ] ] ]
+
+-- ---- a record
+abbrev pub headerSize : ℕ
+headerSize = 9
+
+-- its length, with so many coordinates of width w
+abbrev pub sizeOf : ℕ → ℕ → ℕ
+sizeOf w count = headerSize + count * w * 8
+
+unfoldable pub byteOrder : List ℕ → ℕ
+byteOrder r = getD r 0 0
+
+unfoldable pub typeOf : List ℕ → ℕ
+typeOf r = numberBy (byteOrder r) (take 4 (drop 1 r))
+
+unfoldable pub countOf : List ℕ → ℕ
+countOf r = numberBy (byteOrder r) (take 4 (drop 5 r))
+
+-- n doubles, each by its 64 bits
+unfoldable pub doublesBy : ℕ → ℕ → List ℕ → List ℕ
+doublesBy o zero l = []
+doublesBy o (suc n) l = numberBy o (take 8 l) ∷ doublesBy o n (drop 8 l)
+
+-- all that stands behind the header
+unfoldable pub doublesOf : List ℕ → List ℕ
+doublesOf r = doublesBy (byteOrder r) ((length r - headerSize) / 8) (drop headerSize r)
+
+-- ---- a run of records, with the table of their lengths
+unfoldable pub recordsOf : List ℕ → List ℕ → List (List ℕ)
+recordsOf [] run = []
+recordsOf (n ∷ l) run = take n run ∷ recordsOf l (drop n run)
+
+unfoldable pub coordinatesOf : List (List ℕ) → List ℕ
+coordinatesOf [] = []
+coordinatesOf (r ∷ l) = doublesOf r ++ coordinatesOf l
+
+unfoldable pub countsOf : List (List ℕ) → List ℕ
+countsOf [] = []
+countsOf (r ∷ l) = countOf r ∷ countsOf l
+
+-- the type of a run is its first record's; it is 2 where there is none, or where that one's header doesn't fit
+unfoldable pub runType : List (List ℕ) → ℕ
+runType [] = 2
+runType (r ∷ l) = elim (ltb (length r) headerSize) [ true ↦ 2 | false ↦ typeOf r ]
+
+-- ---- refusals of reading
+-- of one record in a run of type t
+unfoldable pub recordRefusal : Bool → ℕ → List ℕ → ℕ
+recordRefusal extras t r =
+    firstOf
+    ((13, ltb (length r) headerSize)
+    ∷ (11, ltb 1 (byteOrder r))
+    ∷ (12, eqb (widthOf extras (typeOf r)) 0)
+    ∷ (25, not (eqb (typeOf r) t))
+    ∷ (13, not (eqb (length r) (sizeOf (widthOf extras (typeOf r)) (countOf r))))
+    ∷ [])
+
+-- the first bad record decides
+unfoldable pub recordsRefusal : Bool → ℕ → List (List ℕ) → ℕ
+recordsRefusal extras t [] = 0
+recordsRefusal extras t (r ∷ l) = elim (eqb (recordRefusal extras t r) 0) [ true ↦ recordsRefusal extras t l | false ↦ recordRefusal extras t r ]
+
+-- before any record, the lengths add up to the run's; a sum is a whole number, and none is too great
+unfoldable pub runRefusal : Bool → List ℕ → List ℕ → ℕ
+runRefusal extras run lengths =
+    elim (eqb (total lengths) (length run)) [ true ↦ recordsRefusal extras (runType (recordsOf lengths run)) (recordsOf lengths run) | false ↦ 13 ]
+
+-- what a reading call lends, as it stands at entry; `type` is the room for the run's type, which is told where extras are read
+pub record LentRun : Type 0 where
+  pub run : List ℕ
+  pub lengths : List ℕ
+  pub coordinates : List ℕ
+  pub counts : List ℕ
+  pub type : List ℕ
+
+unfoldable pub lentRecords : LentRun → List (List ℕ)
+lentRecords i = recordsOf (i .lengths) (i .run)
+
+unfoldable pub told : Bool → ℕ → List ℕ
+told true t = t ∷ []
+told false t = []
+
+-- the run's, and after all its records the rooms'
+unfoldable pub readRefusalOf : Bool → LentRun → ℕ
+readRefusalOf extras i =
+    let refused = runRefusal extras (i .run) (i .lengths) in
+    let rows = short (i .counts) (length (i .lengths)) || short (i .type) (length (told extras (runType (lentRecords i)))) in
+    firstOf ((refused, not (eqb refused 0)) ∷ (14, short (i .coordinates) (length (coordinatesOf (lentRecords i))) || rows) ∷ [])
+
+-- ---- what reading determines: the number of records, their coordinates and counts, and their type where extras are read
+pub record Read (extras : Bool) (i : LentRun) (r : Answer) (coordinates′ counts′ type′ : List ℕ) : Type 0 where
+  pub answer : r ≡ answerOf (readRefusalOf extras i) (length (i .lengths))
+  pub coordinates : coordinates′ ≡ unless (readRefusalOf extras i) (i .coordinates) (written (coordinatesOf (lentRecords i)) (i .coordinates))
+  pub counts : counts′ ≡ unless (readRefusalOf extras i) (i .counts) (written (countsOf (lentRecords i)) (i .counts))
+  pub type : type′ ≡ unless (readRefusalOf extras i) (i .type) (written (told extras (runType (lentRecords i))) (i .type))
+
+-- without extras nothing is lent for the type
+abbrev pub ReadPlain : (run lengths coordinates counts : List ℕ) → Answer → List ℕ → List ℕ → Type 0
+ReadPlain run lengths coordinates counts r coordinates′ counts′ =
+    Read false (record { run = run; lengths = lengths; coordinates = coordinates; counts = counts; type = [] }) r coordinates′ counts′ []

@@ -1,0 +1,5 @@
+pub mod Widths
+pub mod Bytes
+pub mod Beginnings
+pub mod Records
+pub mod Plain

@@ -1,0 +1,78 @@
+//! A reader of WKB in plain Rust, with the answers of the library's: what it is held to.
+
+use std::convert::TryInto;
+
+/// Byte order, type and count.
+const HEADER: usize = 9;
+
+/// Reads lines of x and y from a run of records, whose lengths stand in a table, or gives the
+/// number of the refusal. Nothing is stored before all records have been looked at.
+pub fn read(
+    run: &[u8],
+    lengths: &[u64],
+    coordinates: &mut [f64],
+    counts: &mut [u32],
+) -> Result<usize, u8> {
+    let sum = lengths.iter().try_fold(0u64, |sum, &length| sum.checked_add(length));
+    if sum != Some(run.len() as u64) {
+        return Err(13);
+    }
+    let (mut rest, mut numbers) = (run, 0);
+    for &length in lengths {
+        let (record, behind) = rest.split_at(length as usize);
+        numbers += 2 * count(record)? as usize;
+        rest = behind;
+    }
+    if coordinates.len() < numbers || counts.len() < lengths.len() {
+        return Err(14);
+    }
+    let (mut rest, mut room) = (run, coordinates);
+    for (&length, row) in lengths.iter().zip(counts) {
+        let (record, behind) = rest.split_at(length as usize);
+        let (header, body) = record.split_at(HEADER);
+        let (line, free) = room.split_at_mut(body.len() / 8);
+        let doubles = line.iter_mut().zip(body.chunks_exact(8));
+        match header[0] {
+            0 => {
+                doubles.for_each(|(to, from)| *to = f64::from_bits(u64::from_be_bytes(eight(from))))
+            }
+            _ => {
+                doubles.for_each(|(to, from)| *to = f64::from_bits(u64::from_le_bytes(eight(from))))
+            }
+        }
+        *row = word(header, 5);
+        (rest, room) = (behind, free);
+    }
+    Ok(lengths.len())
+}
+
+/// The count of a record, if it is a line.
+fn count(record: &[u8]) -> Result<u32, u8> {
+    if record.len() < HEADER {
+        return Err(13);
+    }
+    if record[0] > 1 {
+        return Err(11);
+    }
+    if word(record, 1) != 2 {
+        return Err(12);
+    }
+    let count = word(record, 5);
+    match record.len() as u64 == HEADER as u64 + 16 * u64::from(count) {
+        true => Ok(count),
+        false => Err(13),
+    }
+}
+
+/// Four bytes of a record, in its own order.
+fn word(record: &[u8], at: usize) -> u32 {
+    let four = record[at..at + 4].try_into().unwrap_or_default();
+    match record[0] {
+        0 => u32::from_be_bytes(four),
+        _ => u32::from_le_bytes(four),
+    }
+}
+
+fn eight(bytes: &[u8]) -> [u8; 8] {
+    bytes.try_into().unwrap_or_default()
+}

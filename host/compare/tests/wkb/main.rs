@@ -1,0 +1,70 @@
+//! WKB in: the library's reader against a reader of the standard's, on records that others wrote,
+//! on damaged runs, and on made-up ones.
+
+mod damaged;
+mod made_up;
+mod recorded;
+
+use answers::wkb::{self, Records};
+use lovasuku_chains::door::{self, ReadRooms};
+
+/// What stands in a room before a call: no number that a record of these tests has.
+const DIRT: u64 = 0xa5a5_5a5a_dead_beef;
+
+/// A reading call: the run, the lengths, and the rooms for numbers and for counts.
+#[derive(Clone, Debug, Default)]
+pub struct Reading {
+    pub run: Vec<u8>,
+    pub lengths: Vec<u64>,
+    pub rooms: [usize; 2],
+}
+
+impl Reading {
+    /// Records one behind another, with rooms that are just long enough.
+    pub fn of(records: &[Vec<u8>]) -> Self {
+        let run = records.concat();
+        let lengths: Vec<u64> = records.iter().map(|record| record.len() as u64).collect();
+        let numbers = run.len().saturating_sub(9 * lengths.len()) / 8;
+        Reading { rooms: [numbers, lengths.len()], run, lengths }
+    }
+
+    /// What the judge says.
+    pub fn judged(&self) -> Result<Records, i64> {
+        wkb::read(&self.run, &self.lengths, self.rooms)
+    }
+
+    /// What the library says. Panics where it stores anything that it must not.
+    pub fn read(&self) -> Result<Records, i64> {
+        let [numbers, rows] = self.rooms;
+        let mut coordinates = vec![f64::from_bits(DIRT); numbers];
+        let mut counts = vec![DIRT as u32; rows];
+        let rooms = ReadRooms { coordinates: &mut coordinates, counts: &mut counts };
+        let answer = door::read_wkb(&self.run, &self.lengths, rooms);
+        let coordinates: Vec<u64> = coordinates.iter().map(|number| number.to_bits()).collect();
+        let records = match answer {
+            0.. => self.lengths.len(),
+            _ => 0,
+        };
+        let written = match answer {
+            0.. => (self.run.len() - 9 * records) / 8,
+            _ => 0,
+        };
+        assert!(coordinates[written..].iter().all(|&number| number == DIRT), "{self:?}");
+        assert!(counts[records..].iter().all(|&count| count == DIRT as u32), "{self:?}");
+        if answer < 0 {
+            return Err(-answer);
+        }
+        assert_eq!(answer, records as i64, "{self:?}");
+        Ok(Records {
+            coordinates: coordinates[..written].to_vec(),
+            counts: counts[..records].to_vec(),
+        })
+    }
+
+    /// What both say, where they say the same.
+    pub fn agreed(&self) -> Result<Records, i64> {
+        let read = self.read();
+        assert_eq!(read, self.judged(), "{self:?}");
+        read
+    }
+}

@@ -1,0 +1,143 @@
+//! Lines from the records of a store, as WKB.
+
+use crate::chains::part;
+use crate::door::{self, ReadRooms};
+use crate::rooms::{first, grow};
+use crate::size::{POINT, WKB_HEADER, WKB_NUMBER};
+use crate::two::by_two;
+use crate::{Lines, Refusal};
+
+/// The rooms that runs of records are read into, again and again.
+///
+/// They grow where a run needs more than any before it, and never shrink: 13 bytes for each record
+/// and 16 for each coordinate of the largest run.
+#[derive(Clone, Debug, Default)]
+pub struct WkbRooms {
+    coordinates: Vec<f64>,
+    counts: Vec<u32>,
+    groups: Vec<u32>,
+    kinds: Vec<u8>,
+}
+
+/// Reads lines from a run of WKB records (OGC 06-103r4), one behind another, whose lengths stand in
+/// a table.
+///
+/// Each record is a line of x and y (type 2) in either byte order. Every bit of a double is kept,
+/// those of a NaN too. The lines borrow from the rooms and go straight into a building call.
+///
+/// ```
+/// use lovasuku_chains::{read_wkb, Rooms, Settings, WkbRooms};
+///
+/// # fn main() -> Result<(), lovasuku_chains::Refusal> {
+/// // From 0,0 to 1,0 with the least byte first, and from 1,0 to 2,0 with the greatest first.
+/// let mut run = vec![1, 2, 0, 0, 0, 2, 0, 0, 0];
+/// [0.0f64, 0.0, 1.0, 0.0].iter().for_each(|x| run.extend(x.to_le_bytes()));
+/// run.extend([0, 0, 0, 0, 2, 0, 0, 0, 2]);
+/// [1.0f64, 0.0, 2.0, 0.0].iter().for_each(|x| run.extend(x.to_be_bytes()));
+///
+/// let mut store = WkbRooms::default();
+/// let roads = read_wkb(&run, &[41, 41], &mut store)?;
+/// let mut rooms = Rooms::default();
+/// let chains = rooms.build(roads.plain(), Settings::default())?;
+/// assert_eq!(chains.merged(), [0.0, 0.0, 1.0, 0.0, 2.0, 0.0]);
+/// # Ok(())
+/// # }
+/// ```
+///
+/// # Errors
+///
+/// The first of these that applies. Before any record [`Refusal::BadLength`], where the lengths do
+/// not add up to the run. Then, of the first bad record: [`Refusal::BadLength`] where its header
+/// does not fit, [`Refusal::BadByteOrder`], [`Refusal::BadType`], and [`Refusal::BadLength`] where
+/// its count and its length disagree. What GEOS, GDAL and PostGIS write for heights and measures is
+/// of another type; so is Shapely 1.8's empty line, a collection.
+pub fn read_wkb<'a>(
+    run: &[u8],
+    lengths: &[u64],
+    rooms: &'a mut WkbRooms,
+) -> Result<WkbLines<'a>, Refusal> {
+    rooms.grow(run.len(), lengths.len());
+    let WkbRooms { coordinates, counts, .. } = rooms;
+    let records = door::result(door::read_wkb(run, lengths, ReadRooms { coordinates, counts }))?;
+    let records = records as usize;
+    Ok(WkbLines {
+        coordinates: first(&rooms.coordinates, numbers(run.len(), records)),
+        counts: first(&rooms.counts, records),
+        groups: first(&rooms.groups, records),
+        kinds: first(&rooms.kinds, records),
+    })
+}
+
+impl WkbRooms {
+    /// Rooms without length, which the first run makes grow.
+    pub fn new() -> Self {
+        WkbRooms::default()
+    }
+
+    /// Makes room for a run of so many bytes in so many records. A run that has fewer bytes than
+    /// its records have headers is refused, so that no more room is made than the run is long.
+    fn grow(&mut self, bytes: usize, records: usize) {
+        let records = records.min(bytes / WKB_HEADER);
+        grow(&mut self.coordinates, numbers(bytes, records));
+        grow(&mut self.counts, records);
+        grow(&mut self.groups, records);
+        grow(&mut self.kinds, records);
+    }
+}
+
+/// How many numbers so many records in a run of so many bytes have.
+fn numbers(bytes: usize, records: usize) -> usize {
+    bytes.saturating_sub(WKB_HEADER.saturating_mul(records)) / WKB_NUMBER
+}
+
+/// The lines of a run of records, borrowed from the rooms that they were read into.
+#[derive(Clone, Copy, Debug, PartialEq)]
+pub struct WkbLines<'a> {
+    coordinates: &'a [f64],
+    counts: &'a [u32],
+    groups: &'a [u32],
+    kinds: &'a [u8],
+}
+
+impl<'a> WkbLines<'a> {
+    /// The number of lines, which is that of the records.
+    pub fn len(&self) -> usize {
+        self.counts.len()
+    }
+
+    /// True where there is no line.
+    pub fn is_empty(&self) -> bool {
+        self.counts.is_empty()
+    }
+
+    /// x, y, x, y .. of all lines.
+    pub fn coordinates(&self) -> &'a [f64] {
+        self.coordinates
+    }
+
+    /// The number of coordinates of each line, counted in pairs of x and y.
+    pub fn counts(&self) -> &'a [u32] {
+        self.counts
+    }
+
+    /// The points of each line, in the order of the records.
+    pub fn points(&self) -> impl Iterator<Item = &'a [[f64; POINT]]> {
+        let coordinates = self.coordinates;
+        let line = move |rest: &mut &'a [f64], &count: &u32| {
+            let line = part(rest, 0, count, POINT);
+            *rest = rest.get(line.len()..).unwrap_or_default();
+            Some(by_two(line))
+        };
+        self.counts.iter().scan(coordinates, line)
+    }
+
+    /// The lines for a building call, all plain and of one group.
+    pub fn plain(&self) -> Lines<'a> {
+        self.with(self.groups, self.kinds)
+    }
+
+    /// The lines for a building call, with a group and a kind for each.
+    pub fn with(&self, groups: &'a [u32], kinds: &'a [u8]) -> Lines<'a> {
+        Lines { coordinates: self.coordinates, counts: self.counts, groups, kinds }
+    }
+}
