@@ -66,7 +66,8 @@ enum lovasuku_refusal {
     LOVASUKU_BAD_BYTE_ORDER = 11,      /* A WKB record's byte order is neither 0 nor 1. */
     LOVASUKU_BAD_TYPE = 12,            /* A WKB record's type is not 2. */
     LOVASUKU_BAD_LENGTH = 13,          /* The lengths do not add up, or a WKB record's count and length disagree. */
-    LOVASUKU_RECORD_ROOM_TOO_SHORT = 14 /* A room is shorter than the WKB records need. */
+    LOVASUKU_RECORD_ROOM_TOO_SHORT = 14, /* A room is shorter than the WKB records need. */
+    LOVASUKU_UNKNOWN_ORDER = 16        /* The byte order to be written is neither 0 nor 1. */
 };
 
 /* Joins lines into chains. The result is the number of chains.
@@ -184,6 +185,29 @@ int64_t lovasuku_read_wkb(const uint8_t *run, size_t run_length,
                           const uint64_t *lengths, size_t lengths_length,
                           double *coordinates, size_t coordinates_length,
                           uint32_t *counts, size_t counts_length);
+
+/* WKB out: writes the first k chains of a table, each as one record. The result is the number of bytes.
+ *
+ * Lent are the coordinates and the merged coordinates that the table speaks of, the table, and the byte order of all
+ * records, 0 the greatest byte first, 1 the least. Any of them may come from anywhere, and k may be any number.
+ *
+ * Written are run, record behind record, each of type 2 with the chain's coordinates, every bit of a double kept; and
+ * lengths, the length in bytes of each record. lovasuku_read_wkb reads from these the chains' coordinates and
+ * counts again; and where all lines of a run were in one byte order, writing them in it gives the run.
+ *
+ * Rooms: run, 9 bytes for each chain and 16 for each of its coordinates; lengths, k numbers.
+ *
+ * Refusals: 16 order is neither 0 nor 1. 10 one of the records 0 to k - 1 is none that lovasuku_chain answers with 0
+ * for. 14 a room is too short. With k = 0 nothing is written and no room is needed.
+ *
+ * A line of one coordinate is written where the input had one, or where two lines merged into one: GEOS and PostGIS
+ * do not take it, GDAL does. */
+int64_t lovasuku_write_wkb(const double *coordinates, size_t coordinates_length,
+                           const double *merged, size_t merged_length,
+                           const uint32_t *table, size_t table_length,
+                           uint64_t k, uint8_t order,
+                           uint8_t *run, size_t run_length,
+                           uint64_t *lengths, size_t lengths_length);
 
 #ifdef __cplusplus
 }

@@ -85,7 +85,8 @@ void require_cleared(const struct slice *room, size_t bytes, const char *sentenc
 void fuzz_build(struct bytes *bytes);
 void fuzz_pairs(struct bytes *bytes);
 void fuzz_chain(struct bytes *bytes);
-void fuzz_wkb(struct bytes *bytes);
+void fuzz_read_wkb(struct bytes *bytes);
+void fuzz_write_wkb(struct bytes *bytes);
 
 /* What the rules say of the chain question, and of a limit. */
 bool chain_is_there(size_t coordinates, size_t merged, const uint32_t *table, size_t numbers, uint64_t k);

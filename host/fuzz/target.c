@@ -107,8 +107,10 @@ int LLVMFuzzerTestOneInput(const uint8_t *data, size_t size) {
         fuzz_chain(&bytes);
         break;
     case 8:
+        fuzz_read_wkb(&bytes);
+        break;
     case 9:
-        fuzz_wkb(&bytes);
+        fuzz_write_wkb(&bytes);
         break;
     case 1:
     case 2:

@@ -1,4 +1,4 @@
-/* WKB in: runs of records, mostly good, with lengths and rooms of any sort. */
+/* WKB: runs of records, mostly good, with lengths and rooms of any sort, and tables of any sort as records. */
 #include <string.h>
 
 #include "check.h"
@@ -104,7 +104,7 @@ static uint64_t next_size(struct bytes *bytes, size_t own) {
     return choice < RARELY ? own : rare_number(bytes, choice, edges, COUNT(edges), 8);
 }
 
-void fuzz_wkb(struct bytes *bytes) {
+void fuzz_read_wkb(struct bytes *bytes) {
     if (run.capacity == 0) {
         make_input(&run, MOST_BYTES);
         make_input(&lengths, MOST_RECORDS * sizeof(uint64_t));
@@ -138,4 +138,114 @@ void fuzz_wkb(struct bytes *bytes) {
         require_read(sizes, n);
     }
     seen(512 + (unsigned)refusal);
+}
+
+/* ---- writing */
+
+enum { MOST_ROWS = 8, MOST_NUMBERS = 64, MOST_WRITTEN = 4096 };
+
+static struct slice input, merged, table, written, sizes_written;
+
+/* The bytes of the first k chains, as a whole number; the rows are there. */
+static uint64_t bytes_of(const uint32_t *rows, uint64_t k) {
+    uint64_t bytes = 0;
+    for (uint64_t i = 0; i < k; i++) {
+        bytes += HEADER + 16 * (uint64_t)rows[LOVASUKU_RECORD * i + 4];
+    }
+    return bytes;
+}
+
+/* The refusal of a writing call, or 0. */
+static int64_t write_refusal(size_t numbers, uint64_t k, uint8_t order, size_t room, size_t lengths_room) {
+    const uint32_t *rows = (const uint32_t *)table.fill;
+    if (order > 1) {
+        return LOVASUKU_UNKNOWN_ORDER;
+    }
+    for (uint64_t i = 0; i < k; i++) {
+        if (!chain_is_there(input.bytes / 8, merged.bytes / 8, rows, numbers, i)) {
+            return LOVASUKU_NO_SUCH_CHAIN;
+        }
+    }
+    return bytes_of(rows, k) > room || k > lengths_room ? LOVASUKU_RECORD_ROOM_TOO_SHORT : 0;
+}
+
+/* Requires the rooms to have the chains' records, byte by byte, and to be as before beyond them. */
+static void require_written(uint64_t k, bool big) {
+    const uint32_t *rows = (const uint32_t *)table.fill;
+    const uint8_t *at = written.fill;
+    for (uint64_t i = 0; i < k; i++) {
+        const uint32_t *row = rows + LOVASUKU_RECORD * i;
+        const unsigned char *from = (row[2] == 0 ? input.fill : merged.fill) + 16 * (size_t)row[3];
+        uint64_t length;
+        memcpy(&length, sizes_written.fill + 8 * i, sizeof length);
+        require(length == HEADER + 16 * (uint64_t)row[4], "a length is the record's");
+        require(at[0] == (big ? 0 : 1) && number_of(at + 1, 4, big) == 2 && number_of(at + 5, 4, big) == row[4],
+                "a header has the order, type 2 and the count");
+        for (size_t n = 0; n < 2 * (size_t)row[4]; n++) {
+            uint64_t number;
+            memcpy(&number, from + 8 * n, sizeof number);
+            require(number_of(at + HEADER + 8 * n, 8, big) == number, "a number is the chain's, bit for bit");
+        }
+        at += length;
+    }
+    require_untouched_from(&written, (size_t)(at - written.fill), "beyond the records nothing is written");
+    require_untouched_from(&sizes_written, 8 * (size_t)k, "beyond the lengths nothing is written");
+}
+
+/* Mostly a small number, at times one whose double goes beyond 32 bits, at times any. */
+static uint32_t next_entry(struct bytes *bytes, uint32_t bound) {
+    static const uint64_t edges[] = {0x7fffffff, 0x80000000, 0xffffffff, 0xfffffffe, 0x40000000, 2};
+    uint8_t choice = next_byte(bytes);
+    return choice < 0xf0 ? choice % bound : (uint32_t)rare_number(bytes, choice, edges, COUNT(edges), 4);
+}
+
+static void fill_numbers(struct slice *slice, struct bytes *bytes) {
+    size_t numbers = next_below(bytes, MOST_NUMBERS);
+    lend_input(slice, 8 * numbers);
+    for (size_t i = 0; i < numbers; i++) {
+        uint64_t number = next_word(bytes);
+        memcpy(slice->fill + 8 * i, &number, sizeof number);
+    }
+}
+
+void fuzz_write_wkb(struct bytes *bytes) {
+    if (table.capacity == 0) {
+        make_input(&input, MOST_NUMBERS * 8);
+        make_input(&merged, MOST_NUMBERS * 8);
+        make_input(&table, MOST_ROWS * LOVASUKU_RECORD * sizeof(uint32_t));
+        make_room(&written, MOST_WRITTEN + 1);
+        make_room(&sizes_written, (MOST_ROWS + 1) * sizeof(uint64_t));
+    }
+    fill_numbers(&input, bytes);
+    fill_numbers(&merged, bytes);
+    size_t numbers = next_below(bytes, MOST_ROWS * LOVASUKU_RECORD + 1);
+    lend_input(&table, numbers * sizeof(uint32_t));
+    for (size_t i = 0; i < numbers; i++) {
+        uint32_t entry = next_entry(bytes, i % LOVASUKU_RECORD == 2 ? 2 : 8);
+        memcpy(table.fill + i * sizeof entry, &entry, sizeof entry);
+    }
+    static const uint64_t edges[] = {UINT64_MAX, 0x3333333333333334, 0x8000000000000000, 9};
+    uint8_t choice = next_byte(bytes), order = choice % 16 == 15 ? choice : choice % 2;
+    choice = next_byte(bytes);
+    uint64_t k = choice < 0xf0 ? numbers / LOVASUKU_RECORD - (choice % 3 == 0 && numbers >= LOVASUKU_RECORD)
+                               : rare_number(bytes, choice, edges, COUNT(edges), 8);
+    /* Rooms for the chains that are there, and a little more or less. */
+    int64_t refusal = write_refusal(numbers, k, order, SIZE_MAX, SIZE_MAX);
+    uint64_t needed = refusal == 0 ? bytes_of((const uint32_t *)table.fill, k) : 0;
+    size_t room = next_length(bytes, needed < MOST_WRITTEN ? (size_t)needed : MOST_WRITTEN);
+    size_t rows = next_length(bytes, k < MOST_ROWS ? (size_t)k : MOST_ROWS);
+    uint8_t dirt = next_byte(bytes);
+    lend_room(&written, room, dirt);
+    lend_room(&sizes_written, 8 * rows, dirt);
+    refusal = write_refusal(numbers, k, order, room, rows);
+    int64_t answer = lovasuku_write_wkb(input.lent, input.bytes / 8, merged.lent, merged.bytes / 8, table.lent, numbers, k,
+                                        order, written.lent, room, sizes_written.lent, rows);
+    require(answer == (refusal != 0 ? -refusal : (int64_t)needed), "the bytes are counted or refused as the rules say");
+    if (refusal != 0) {
+        require_untouched_from(&written, 0, "a refused call stores no byte");
+        require_untouched_from(&sizes_written, 0, "a refused call stores no length");
+    } else {
+        require_written(k, order == 0);
+    }
+    seen(576 + (unsigned)refusal);
 }

@@ -8,7 +8,7 @@ ghost use mathlib.Core.Bool.{true, false};
 ghost use Rattle.rules.specs.Layout.{lent};
 ghost use Rattle.rules.specs.Refusals.{rooms, lentEnds};
 ghost use Rattle.rules.specs.Calls.{numberOf, Numbered, Built, Paired, asked};
-ghost use Rattle.rules.specs.Wkb.{ReadPlain};
+ghost use Rattle.rules.specs.Wkb.{ReadPlain, Wrote, chainsAs};
 
 // An answer as a host sees it.
 fn number(answer: Answer) -> u64
@@ -133,4 +133,21 @@ pub extern "C" fn lovasuku_read_wkb(
         a (now (coordinates .exit)) (now (counts .exit))) r ⌝ }
 {
     number(wkb_reading::read(run, lengths, coordinates, counts))
+}
+
+// WKB out: the number of bytes.
+#[no_mangle]
+pub extern "C" fn lovasuku_write_wkb<'a>(
+    coordinates: &'a [u64],
+    merged: &'a [u64],
+    table: &[u32],
+    k: u64,
+    order: u8,
+    run: &mut [u8],
+    lengths: &mut [u64],
+) -> u64
+    ensures { λ r. ⌜ Numbered (λ a. Wrote (chainsAs 2 (now (coordinates .entry)) (now (merged .entry)) (now (table .entry)) k order
+        (now (run .entry)) (now (lengths .entry))) a (now (run .exit)) (now (lengths .exit))) r ⌝ }
+{
+    number(wkb_writing::write(2, coordinates, merged, table, k, order, run, lengths))
 }

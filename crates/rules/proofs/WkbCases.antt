@@ -1,9 +1,11 @@
--- Small records, computed on the book: both byte orders, each refusal from each state, and what is read.
+-- Small records, computed on the book: both byte orders, each refusal, what is read and what is written.
 use mathlib.Core.Path.{refl}
+use mathlib.Core.List.{flatMap}
 use Rattle.rules.specs.Library.{ℕ, _*_, _≡_, true, false, List, [], _∷_, _++_, replicate}
-use Rattle.rules.specs.Lists.{total}
-use Rattle.rules.specs.Refusals.{firstOf}
-use Rattle.rules.specs.Wkb.{little, numberBy, widthOf, byteOrder, typeOf, countOf, doublesBy, doublesOf, recordsOf, coordinatesOf, countsOf, runType, recordRefusal, recordsRefusal, runRefusal, LentRun, lentRecords, told, readRefusalOf}
+use Rattle.rules.specs.Lists.{total, from}
+use Rattle.rules.specs.Refusals.{firstOf, sourceOf, noChain, chainRefusalOf}
+use Rattle.rules.specs.Calls.{unless, viewed}
+use Rattle.rules.specs.Wkb.{little, numberBy, littleBytes, bytesBy, recordBy, widthOf, byteOrder, typeOf, countOf, doublesBy, doublesOf, recordsOf, coordinatesOf, countsOf, runType, recordRefusal, recordsRefusal, runRefusal, LentRun, lentRecords, told, readRefusalOf, LentChains, chainRecord, runOf, lengthsOf, anyMissing, writeRefusalOf}
 
 -- everything that is run through
 unfoldable reading : Unit {0}
@@ -79,3 +81,47 @@ pub read-refusals :
     × (readRefusalOf true (lent (second ++ third) (9 ∷ 9 ∷ []) 0 2) ≡ 25)
 unfolding reading
 read-refusals = (refl, refl, refl, refl, refl, refl, refl, refl, refl, refl, refl, refl, refl)
+
+-- ---- writing
+
+unfoldable writing : Unit {0}
+unfolding littleBytes bytesBy recordBy chainRecord runOf lengthsOf anyMissing writeRefusalOf viewed unless noChain chainRefusalOf sourceOf widthOf firstOf from flatMap
+writing = tt
+
+pub numbers-written : (bytesBy 1 8 one ≡ one-little) × (bytesBy 0 8 one ≡ one-big) × (bytesBy 0 8 9218868437227405319 ≡ odd-big)
+unfolding writing
+numbers-written = (refl, refl, refl)
+
+-- chain 0 is the second coordinate of the input, chain 1 has none and is of the merged, and record 2 isn't wholly there
+abbrev chains : ℕ → ℕ → ℕ → ℕ → ℕ → LentChains
+chains t k order bytes rows = record {
+  type = t;
+  input = 5 ∷ 5 ∷ one ∷ one ∷ [];
+  merged = [];
+  table = 0 ∷ 1 ∷ 0 ∷ 1 ∷ 1 ∷ 1 ∷ 2 ∷ 1 ∷ 0 ∷ 0 ∷ 3 ∷ [];
+  number = k;
+  order = order;
+  run = replicate bytes 7;
+  lengths = replicate rows 7;
+}
+
+pub chains-written : (runOf (chains 2 1 1 0 0) ≡ first) × (runOf (chains 2 2 0 0 0) ≡ turned ++ second) × (lengthsOf (chains 2 2 0 0 0) ≡ 25 ∷ 9 ∷ [])
+unfolding writing
+chains-written = (refl, refl, refl)
+
+pub write-refusals :
+    -- room to the last byte and length; one short of either
+    (writeRefusalOf (chains 2 2 1 34 2) ≡ 0)
+    × (writeRefusalOf (chains 2 2 1 33 2) ≡ 14)
+    × (writeRefusalOf (chains 2 2 1 34 1) ≡ 14)
+    -- no chains need no room, but an order
+    × (writeRefusalOf (chains 2 0 1 0 0) ≡ 0)
+    × (writeRefusalOf (chains 2 0 2 0 0) ≡ 16)
+    -- a record that isn't there is refused before a room, and an order before it
+    × (writeRefusalOf (chains 2 3 1 0 0) ≡ 10)
+    × (writeRefusalOf (chains 2 3 2 0 0) ≡ 16)
+    -- coordinates of three numbers aren't there, and 3 is no type
+    × (writeRefusalOf (chains 1002 1 1 99 9) ≡ 10)
+    × (writeRefusalOf (chains 3 3 2 0 0) ≡ 12)
+unfolding writing
+write-refusals = (refl, refl, refl, refl, refl, refl, refl, refl, refl)

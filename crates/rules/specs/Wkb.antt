@@ -1,9 +1,9 @@
--- 02, WKB in: lines as records of OGC 06-103r4. A record is bytes: one for the byte order, four for the type, four for the count of coordinates, and
+-- 02, WKB in and out: lines as records of OGC 06-103r4. A record is bytes: one for the byte order, four for the type, four for the count of coordinates, and
 -- eight for each double. All is said over the width of a type, how many doubles a coordinate has, so that types with extras are the same definitions.
-use Rattle.rules.specs.Library.{ℕ, zero, suc, _+_, _-_, _*_, _/_, _≡_, Bool, true, false, not, _||_, List, [], _∷_, _++_, reverse, length, take, drop, getD, eqb, ltb, Answer}
-use Rattle.rules.specs.Lists.{total}
-use Rattle.rules.specs.Refusals.{firstOf, short}
-use Rattle.rules.specs.Calls.{unless, answerOf, written}
+use Rattle.rules.specs.Library.{ℕ, zero, suc, _+_, _-_, _*_, _/_, _%_, _≡_, Bool, true, false, not, _||_, List, [], _∷_, _++_, map, flatMap, reverse, length, take, drop, getD, eqb, ltb, Answer}
+use Rattle.rules.specs.Lists.{total, from}
+use Rattle.rules.specs.Refusals.{firstOf, short, entry, noChain}
+use Rattle.rules.specs.Calls.{unless, answerOf, written, viewed}
 
 -- ---- numbers as bytes
 -- the number that bytes stand for, the least byte first
@@ -15,6 +15,15 @@ little (b ∷ l) = b + 256 * little l
 unfoldable pub numberBy : ℕ → List ℕ → ℕ
 numberBy zero l = little (reverse l)
 numberBy (suc o) l = little l
+
+-- n as k bytes, the least first, and in a byte order
+unfoldable pub littleBytes : ℕ → ℕ → List ℕ
+littleBytes zero n = []
+littleBytes (suc k) n = n % 256 ∷ littleBytes k (n / 256)
+
+unfoldable pub bytesBy : ℕ → ℕ → ℕ → List ℕ
+bytesBy zero k n = reverse (littleBytes k n)
+bytesBy (suc o) k n = littleBytes k n
 
 -- ---- types
 -- The width of a type, and 0 for a number that is no type. Without extras there is type 2 alone; with them there are 2, 1002 (Z), 2002 (M) and 3002 (ZM).
@@ -48,6 +57,10 @@ doublesBy o (suc n) l = numberBy o (take 8 l) ∷ doublesBy o n (drop 8 l)
 -- all that stands behind the header
 unfoldable pub doublesOf : List ℕ → List ℕ
 doublesOf r = doublesBy (byteOrder r) ((length r - headerSize) / 8) (drop headerSize r)
+
+-- a record of a type, written in a byte order
+unfoldable pub recordBy : ℕ → ℕ → ℕ → List ℕ → List ℕ
+recordBy order t count doubles = order ∷ (bytesBy order 4 t ++ (bytesBy order 4 count ++ flatMap (bytesBy order 8) doubles))
 
 -- ---- a run of records, with the table of their lengths
 unfoldable pub recordsOf : List ℕ → List ℕ → List (List ℕ)
@@ -122,3 +135,51 @@ pub record Read (extras : Bool) (i : LentRun) (r : Answer) (coordinates′ count
 abbrev pub ReadPlain : (run lengths coordinates counts : List ℕ) → Answer → List ℕ → List ℕ → Type 0
 ReadPlain run lengths coordinates counts r coordinates′ counts′ =
     Read false (record { run = run; lengths = lengths; coordinates = coordinates; counts = counts; type = [] }) r coordinates′ counts′ []
+
+-- ---- writing
+-- what a writing call lends, as it stands at entry: the first `number` chains of a table, for records of a type in a byte order
+pub record LentChains : Type 0 where
+  pub type : ℕ
+  pub input : List ℕ
+  pub merged : List ℕ
+  pub table : List ℕ
+  pub number : ℕ
+  pub order : ℕ
+  pub run : List ℕ
+  pub lengths : List ℕ
+
+-- chain k as a record; its doubles are the view's
+unfoldable pub chainRecord : LentChains → ℕ → List ℕ
+chainRecord i k = recordBy (i .order) (i .type) (entry (i .table) k 4) (viewed (widthOf true (i .type)) (i .input) (i .merged) (i .table) k)
+
+unfoldable pub runOf : LentChains → List ℕ
+runOf i = flatMap (chainRecord i) (from 0 (i .number))
+
+unfoldable pub lengthsOf : LentChains → List ℕ
+lengthsOf i = map (λ k. length (chainRecord i k)) (from 0 (i .number))
+
+-- one of n records of the table from k on is no chain
+unfoldable pub anyMissing : ℕ → List ℕ → List ℕ → List ℕ → ℕ → ℕ → Bool
+anyMissing w input merged table k zero = false
+anyMissing w input merged table k (suc n) = elim (noChain w input merged table k) [ true ↦ true | false ↦ anyMissing w input merged table (suc k) n ]
+
+-- the type, the byte order, every record of the table, and then the rooms
+unfoldable pub writeRefusalOf : LentChains → ℕ
+writeRefusalOf i =
+    firstOf
+    ((12, eqb (widthOf true (i .type)) 0)
+    ∷ (16, ltb 1 (i .order))
+    ∷ (10, anyMissing (widthOf true (i .type)) (i .input) (i .merged) (i .table) 0 (i .number))
+    ∷ (14, short (i .run) (length (runOf i)) || short (i .lengths) (i .number))
+    ∷ [])
+
+-- ---- what writing determines: the number of bytes, the records one behind another, and their lengths
+pub record Wrote (i : LentChains) (r : Answer) (run′ lengths′ : List ℕ) : Type 0 where
+  pub answer : r ≡ answerOf (writeRefusalOf i) (length (runOf i))
+  pub run : run′ ≡ unless (writeRefusalOf i) (i .run) (written (runOf i) (i .run))
+  pub lengths : lengths′ ≡ unless (writeRefusalOf i) (i .lengths) (written (lengthsOf i) (i .lengths))
+
+-- what a call lends, by its parts
+abbrev pub chainsAs : ℕ → (input merged table : List ℕ) → (number order : ℕ) → (run lengths : List ℕ) → LentChains
+chainsAs t input merged table number order run lengths =
+    record { type = t; input = input; merged = merged; table = table; number = number; order = order; run = run; lengths = lengths }

@@ -26,7 +26,7 @@ mixed : (extras : Bool) (t : ℕ) (r : List ℕ) → recordRefusal extras t r �
 unfolding recordRefusal
 mixed extras t r z = ladder _ _ _ _ _ z
 
-plain-two : (t : ℕ) → (widthOf false t ≡ 0 → ⊥) → t ≡ 2
+pub plain-two : (t : ℕ) → (widthOf false t ≡ 0 → ⊥) → t ≡ 2
 unfolding widthOf
 plain-two t n = go (eqb t 2) refl
   where

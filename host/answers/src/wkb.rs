@@ -1,4 +1,5 @@
-//! Lines as WKB records, read as OGC 06-103r4 and the rules say: the judge of the library's reader.
+//! Lines as WKB records, read and written as OGC 06-103r4 and the rules say: the judge of the
+//! library's reader and writer.
 
 /// The coordinates and counts of a run of records; coordinates by their bits.
 #[derive(Clone, Debug, Default, PartialEq, Eq)]
@@ -84,4 +85,52 @@ pub fn record(order: u8, coordinates: &[u64]) -> Vec<u8> {
     record.extend(bytes(coordinates.len() as u64 / 2, 4));
     record.extend(coordinates.iter().flat_map(|&number| bytes(number, 8)));
     record
+}
+
+/// What a writing call lends beside its rooms; coordinates by their bits.
+#[derive(Clone, Debug, Default, PartialEq, Eq)]
+pub struct Chains {
+    /// The caller's coordinates, source 0.
+    pub coordinates: Vec<u64>,
+    /// The merged coordinates, source 1.
+    pub merged: Vec<u64>,
+    /// Five numbers for each chain.
+    pub table: Vec<u32>,
+    /// How many chains are written.
+    pub k: u64,
+    /// The byte order of all records.
+    pub order: u8,
+}
+
+/// The first k chains as records one behind another with their lengths, in rooms for so many bytes
+/// and so many lengths, or the number of the refusal.
+pub fn write(chains: &Chains, rooms: [usize; 2]) -> Result<(Vec<u8>, Vec<u64>), i64> {
+    if chains.order > 1 {
+        return Err(16);
+    }
+    let rows: Vec<&[u32]> = chains.table.chunks_exact(5).collect();
+    let rows = usize::try_from(chains.k).ok().and_then(|k| rows.get(..k)).ok_or(10)?;
+    let lines: Option<Vec<&[u64]>> = rows.iter().map(|row| chains.line(row)).collect();
+    let lines = lines.ok_or(10)?;
+    let bytes: u128 = lines.iter().map(|line| 9 + 8 * line.len() as u128).sum();
+    let [most, lengths] = rooms;
+    if bytes > most as u128 || rows.len() > lengths {
+        return Err(14);
+    }
+    let records: Vec<Vec<u8>> = lines.iter().map(|line| record(chains.order, line)).collect();
+    let lengths = records.iter().map(|record| record.len() as u64).collect();
+    Ok((records.concat(), lengths))
+}
+
+impl Chains {
+    /// The coordinates that a row of the table names, if they are there.
+    fn line(&self, row: &[u32]) -> Option<&[u64]> {
+        let from = match row[2] {
+            0 => &self.coordinates,
+            1 => &self.merged,
+            _ => return None,
+        };
+        let (first, count) = (2 * row[3] as usize, 2 * row[4] as usize);
+        from.get(first..first + count)
+    }
 }

@@ -11,7 +11,7 @@ const READING: &str = "A figure is the port's time as a part of the Rust's, with
     lines are ready made, its answer is dropped after its clock has stopped, and the memory that \
     it frees is kept for its next call. The Rust is the edited one, whose measure is the dot \
     product. Zeroing is that of spare and workspace alone, as a part of the Rust's strict call. WKB is \
-    held to a reader in plain Rust; a copy of the coordinates alone is a part of that one's time.";
+    held to plain Rust; a copy of the coordinates alone is a part of that one's time.";
 
 /// The paragraphs above the tables.
 pub fn paragraphs(words: &[String], geos: Option<&Geos>) -> [String; 3] {
@@ -19,7 +19,10 @@ pub fn paragraphs(words: &[String], geos: Option<&Geos>) -> [String; 3] {
     let command = command.trim_end_matches(" -- ");
     let geos = match geos {
         Some(geos) => {
-            format!("GEOS {}: LineMerger, strict, tolerance 0; WKBReader.", geos.version())
+            format!(
+                "GEOS {}: LineMerger, strict, tolerance 0; WKBReader and WKBWriter.",
+                geos.version()
+            )
         }
         None => "GEOS is not installed: skipped.".to_string(),
     };

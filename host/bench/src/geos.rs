@@ -1,4 +1,5 @@
-//! GEOS, found at run time where its C library is installed: its LineMerger, and its WKBReader.
+//! GEOS, found at run time where its C library is installed: its LineMerger, and its
+//! WKBReader and WKBWriter.
 //!
 //! Each unsafe line calls a function of that library by the signature that `geos_c.h` declares, on
 //! pointers that the library gave out and that are given back to it once.
@@ -96,6 +97,32 @@ impl Geos {
                 reader: create(self.handle),
             })
         }
+    }
+
+    /// The library's writer of WKB in a byte order.
+    pub fn wkb_writer(&self, order: u8) -> Option<WkbWriter<'_>> {
+        unsafe {
+            let create: unsafe extern "C" fn(Pointer) -> Pointer =
+                function(self.library, "GEOSWKBWriter_create_r")?;
+            let set_order: unsafe extern "C" fn(Pointer, Pointer, c_int) =
+                function(self.library, "GEOSWKBWriter_setByteOrder_r")?;
+            let writer = WkbWriter {
+                geos: self,
+                write: function(self.library, "GEOSWKBWriter_write_r")?,
+                free: function(self.library, "GEOSFree_r")?,
+                destroy: function(self.library, "GEOSWKBWriter_destroy_r")?,
+                writer: create(self.handle),
+            };
+            set_order(self.handle, writer.writer, c_int::from(order));
+            Some(writer)
+        }
+    }
+
+    /// A line by the bits of its coordinates, if GEOS takes it.
+    pub fn geometry(&self, coordinates: &[u64]) -> Option<Geometry<'_>> {
+        let points: Vec<[u64; 2]> = coordinates.chunks_exact(2).map(|p| [p[0], p[1]]).collect();
+        let pointer = self.line(&points);
+        (!pointer.is_null()).then_some(Geometry { geos: self, pointer })
     }
 
     /// x and y of all coordinates of a line, by their bits.
@@ -205,5 +232,50 @@ impl<'a> WkbReader<'a> {
 impl Drop for WkbReader<'_> {
     fn drop(&mut self) {
         unsafe { (self.destroy)(self.geos.handle, self.reader) }
+    }
+}
+
+/// GEOS's writer of WKB.
+pub struct WkbWriter<'a> {
+    geos: &'a Geos,
+    writer: Pointer,
+    write: unsafe extern "C" fn(Pointer, Pointer, Pointer, *mut usize) -> *mut u8,
+    free: unsafe extern "C" fn(Pointer, Pointer),
+    destroy: unsafe extern "C" fn(Pointer, Pointer),
+}
+
+impl<'a> WkbWriter<'a> {
+    /// The record of a geometry, if GEOS writes it.
+    pub fn write(&self, geometry: &Geometry<'_>) -> Option<WkbRecord<'_>> {
+        let mut length = 0;
+        let bytes =
+            unsafe { (self.write)(self.geos.handle, self.writer, geometry.pointer, &mut length) };
+        (!bytes.is_null()).then_some(WkbRecord { writer: self, bytes, length })
+    }
+}
+
+impl Drop for WkbWriter<'_> {
+    fn drop(&mut self) {
+        unsafe { (self.destroy)(self.geos.handle, self.writer) }
+    }
+}
+
+/// A record in memory of GEOS's.
+pub struct WkbRecord<'a> {
+    writer: &'a WkbWriter<'a>,
+    bytes: *mut u8,
+    length: usize,
+}
+
+impl WkbRecord<'_> {
+    /// Its bytes.
+    pub fn bytes(&self) -> &[u8] {
+        unsafe { std::slice::from_raw_parts(self.bytes, self.length) }
+    }
+}
+
+impl Drop for WkbRecord<'_> {
+    fn drop(&mut self) {
+        unsafe { (self.writer.free)(self.writer.geos.handle, self.bytes.cast()) }
     }
 }

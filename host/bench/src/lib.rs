@@ -2,8 +2,8 @@
 //!
 //! - [`workloads`] and [`ends`]: what is built, and what is paired.
 //! - [`building`] and [`pairing`]: both sides of a comparison, seen to answer alike and then timed.
-//! - [`wkb`]: WKB records, with a reader in plain Rust, [`plain_wkb`].
-//! - [`geos`]: GEOS's LineMerger and WKBReader as a third side, where it is installed.
+//! - [`wkb`]: WKB records read and written, and the same in plain Rust, [`plain_wkb`].
+//! - [`geos`]: GEOS's LineMerger, WKBReader and WKBWriter as a third side, where it is installed.
 //! - [`clock`] and [`times`]: the best of many calls, with the sides taken in turn.
 //! - [`heap`]: memory that the Rust's calls free is kept for the next.
 //! - [`table`], [`summary`], [`about`] and [`report`]: what is printed.

@@ -1,4 +1,5 @@
-//! A reader of WKB in plain Rust, with the answers of the library's: what it is held to.
+//! A reader and a writer of WKB in plain Rust, with the answers of the library's: what these are
+//! held to.
 
 use std::convert::TryInto;
 
@@ -75,4 +76,63 @@ fn word(record: &[u8], at: usize) -> u32 {
 
 fn eight(bytes: &[u8]) -> [u8; 8] {
     bytes.try_into().unwrap_or_default()
+}
+
+/// Writes the first k chains of a table as records in a byte order, with their lengths, or gives
+/// the number of the refusal. Nothing is stored before all rows have been looked at.
+pub fn write(
+    coordinates: &[f64],
+    merged: &[f64],
+    table: &[u32],
+    k: u64,
+    order: u8,
+    run: &mut [u8],
+    lengths: &mut [u64],
+) -> Result<usize, u8> {
+    if order > 1 {
+        return Err(16);
+    }
+    let rows = usize::try_from(k).ok().and_then(|k| table.get(..k.checked_mul(5)?)).ok_or(10)?;
+    let mut bytes = 0u64;
+    for row in rows.chunks_exact(5) {
+        let numbers = line(coordinates, merged, row).ok_or(10)?.len();
+        bytes = bytes.checked_add(HEADER as u64 + 8 * numbers as u64).ok_or(14)?;
+    }
+    if bytes > run.len() as u64 || lengths.len() < rows.len() / 5 {
+        return Err(14);
+    }
+    let mut rest = run;
+    for (row, length) in rows.chunks_exact(5).zip(lengths) {
+        let numbers = line(coordinates, merged, row).ok_or(10)?;
+        let (record, behind) = rest.split_at_mut(HEADER + 8 * numbers.len());
+        let (header, body) = record.split_at_mut(HEADER);
+        let doubles = body.chunks_exact_mut(8).zip(numbers);
+        header[0] = order;
+        match order {
+            0 => {
+                header[1..5].copy_from_slice(&2u32.to_be_bytes());
+                header[5..].copy_from_slice(&row[4].to_be_bytes());
+                doubles.for_each(|(to, from)| to.copy_from_slice(&from.to_bits().to_be_bytes()));
+            }
+            _ => {
+                header[1..5].copy_from_slice(&2u32.to_le_bytes());
+                header[5..].copy_from_slice(&row[4].to_le_bytes());
+                doubles.for_each(|(to, from)| to.copy_from_slice(&from.to_bits().to_le_bytes()));
+            }
+        }
+        *length = record.len() as u64;
+        rest = behind;
+    }
+    Ok(bytes as usize)
+}
+
+/// The coordinates that a row of a table names, if they are there.
+fn line<'a>(coordinates: &'a [f64], merged: &'a [f64], row: &[u32]) -> Option<&'a [f64]> {
+    let from = match row[2] {
+        0 => coordinates,
+        1 => merged,
+        _ => return None,
+    };
+    let first = 2 * row[3] as usize;
+    from.get(first..first + 2 * row[4] as usize)
 }

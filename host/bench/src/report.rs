@@ -1,5 +1,6 @@
 //! A whole run: the tables, row by row as they are measured, and what they add up to.
 
+use crate::clock::Patience;
 use crate::ends::{Directions, Rivals, DIRECTIONS, ROUTES, SIZES};
 use crate::geos::Geos;
 use crate::options::Options;
@@ -38,7 +39,7 @@ const PAIRING: [Column; 7] = [
 ];
 
 const WKB: [Column; 6] = [
-    Column::words("WKB", 13),
+    Column::words("WKB", 15),
     Column::numbers("records", 7),
     Column::numbers("points", 6),
     Column::numbers("of plain Rust", 15),
@@ -87,12 +88,17 @@ impl Report<'_> {
     }
 
     fn wkb(&mut self) -> Result<(), String> {
-        let with_all = |order| wkb::RECORDS.iter().map(move |&records| (order, records));
-        let mut rows: Vec<(&(&str, u8), usize)> = wkb::ORDERS.iter().flat_map(with_all).collect();
-        rows.retain(|((order, _), _)| self.options.asks_for(&wkb_name(order)));
+        let rows = |&way: &WkbWay| {
+            let of = move |&(name, order): &(&'static str, u8)| {
+                wkb::RECORDS.iter().map(move |&records| (way, name, order, records))
+            };
+            wkb::ORDERS.iter().flat_map(of)
+        };
+        let mut rows: Vec<(WkbWay, &str, u8, usize)> = WKB_WAYS.iter().flat_map(rows).collect();
+        rows.retain(|(way, order, ..)| self.options.asks_for(&wkb_name(way, order)));
         self.head(&WKB, rows.is_empty());
-        for ((name, order), records) in rows {
-            self.wkb_row(&wkb_name(name), *order, records)?;
+        for (way, name, order, records) in rows {
+            self.wkb_row(way, &wkb_name(&way, name), &Run::of(records, order))?;
         }
         Ok(())
     }
@@ -167,19 +173,18 @@ impl Report<'_> {
         Ok(())
     }
 
-    fn wkb_row(&mut self, name: &str, order: u8, records: usize) -> Result<(), String> {
-        let (run, patience) = (Run::of(records, order), self.options.patience());
-        let full_name = format!("{name} of {}", whole(records));
+    fn wkb_row(&mut self, way: WkbWay, name: &str, run: &Run) -> Result<(), String> {
+        let (records, patience) = (whole(run.lengths.len()), self.options.patience());
+        let full_name = format!("{name} of {records}");
         let in_this = |fault| format!("{full_name}: {fault}");
-        let times = wkb::reading(&run, patience).map_err(in_this)?;
-        let copying = wkb::copying(&run, patience);
-        let mut cells = vec![name.to_string(), whole(records), whole(wkb::POINTS)];
+        let times = (way.times)(run, patience).map_err(in_this)?;
+        let copying = wkb::copying(run, patience);
+        let mut cells = vec![name.to_string(), records.clone(), whole(wkb::POINTS)];
         cells.push(measured(self.options.form, times.ratio(), times.port));
         cells.push(measured(self.options.form, copying / times.rust, copying));
         cells.push(match self.geos {
             Some(geos) => {
-                let ratio =
-                    times.port / wkb::geos_reading(geos, &run, patience).map_err(in_this)?;
+                let ratio = times.port / (way.geos)(geos, run, patience).map_err(in_this)?;
                 self.summary.wkb_geos.push(full_name.clone(), ratio);
                 short(ratio)
             }
@@ -191,9 +196,22 @@ impl Report<'_> {
     }
 }
 
-/// The name of a run of records in a byte order.
-fn wkb_name(order: &str) -> String {
-    format!("WKB in, {order}")
+/// Reading or writing records, with how it is timed, and how GEOS is.
+#[derive(Clone, Copy)]
+struct WkbWay {
+    name: &'static str,
+    times: fn(&Run, Patience) -> Result<Times, String>,
+    geos: fn(&Geos, &Run, Patience) -> Result<f64, String>,
+}
+
+const WKB_WAYS: [WkbWay; 2] = [
+    WkbWay { name: "in", times: wkb::reading, geos: wkb::geos_reading },
+    WkbWay { name: "out", times: wkb::writing, geos: wkb::geos_writing },
+];
+
+/// The name of a run of records that is read or written in a byte order.
+fn wkb_name(way: &WkbWay, order: &str) -> String {
+    format!("WKB {}, {order}", way.name)
 }
 
 /// The Rust's sorted route takes seconds for the most ends.

@@ -1,5 +1,4 @@
-//! WKB in: the library's reader through the door, a plain one in Rust, GEOS's, and a copy, on the
-//! same records.
+//! WKB in and out: the library through the door, plain Rust, GEOS, and a copy, on the same records.
 
 use crate::clock::{best, hidden, timed, Patience};
 use crate::geos::Geos;
@@ -7,7 +6,7 @@ use crate::plain_wkb;
 use crate::times::{measured, Times};
 use answers::random::Random;
 use answers::wkb::{record, Records};
-use lovasuku_chains::door::{self, ReadRooms};
+use lovasuku_chains::door::{self, ReadRooms, WriteRooms};
 
 /// The coordinates of every run.
 pub const POINTS: usize = 65_536;
@@ -18,8 +17,9 @@ pub const RECORDS: [usize; 2] = [4_096, 16];
 /// The byte orders by their names.
 pub const ORDERS: [(&str, u8); 2] = [("little", 1), ("big", 0)];
 
-/// A run of records, and what it reads as.
+/// A run of records in a byte order, and what it reads as.
 pub struct Run {
+    pub order: u8,
     pub bytes: Vec<u8>,
     pub lengths: Vec<u64>,
     pub read: Records,
@@ -34,6 +34,7 @@ impl Run {
         let lines: Vec<Vec<u8>> =
             coordinates.chunks(2 * POINTS / records).map(|line| record(order, line)).collect();
         Run {
+            order,
             bytes: lines.concat(),
             lengths: lines.iter().map(|line| line.len() as u64).collect(),
             read: Records { counts: vec![(POINTS / records) as u32; records], coordinates },
@@ -129,4 +130,98 @@ pub fn geos_reading(geos: &Geos, run: &Run, patience: Patience) -> Result<f64, S
     }
     let mut read = || timed(all);
     Ok(best(&mut [&mut read], patience)[0])
+}
+
+/// The chains that the records of a run are, each a line of the caller's.
+struct Chains {
+    coordinates: Vec<f64>,
+    table: Vec<u32>,
+    order: u8,
+}
+
+impl Chains {
+    fn of(run: &Run) -> Self {
+        let firsts = run.read.counts.iter().scan(0, |sum, &count| {
+            *sum += count;
+            Some(*sum - count)
+        });
+        let row = |(k, (first, &count)): (usize, (u32, &u32))| [k as u32, 1, 0, first, count];
+        let rows: Vec<[u32; 5]> = firsts.zip(&run.read.counts).enumerate().map(row).collect();
+        let coordinates = run.read.coordinates.iter().map(|&bits| f64::from_bits(bits)).collect();
+        Chains { coordinates, table: rows.concat(), order: run.order }
+    }
+
+    fn k(&self) -> u64 {
+        self.table.len() as u64 / 5
+    }
+}
+
+/// The rooms of a writing call, each as long as the rules ask for.
+struct Bytes {
+    run: Vec<u8>,
+    lengths: Vec<u64>,
+}
+
+impl Bytes {
+    /// Rooms in which nothing is the run's.
+    fn dirty(run: &Run) -> Self {
+        Bytes { run: vec![0xaa; run.bytes.len()], lengths: vec![u64::MAX; run.lengths.len()] }
+    }
+
+    fn write(&mut self, chains: &Chains) -> i64 {
+        let Bytes { run, lengths } = self;
+        let Chains { coordinates, table, order } = hidden(chains);
+        let rooms = WriteRooms { run, lengths };
+        door::write_wkb(coordinates, &[], table, chains.k(), *order, rooms)
+    }
+
+    fn write_plainly(&mut self, chains: &Chains) -> i64 {
+        let Bytes { run, lengths } = self;
+        let Chains { coordinates, table, order } = hidden(chains);
+        match plain_wkb::write(coordinates, &[], table, chains.k(), *order, run, lengths) {
+            Ok(bytes) => bytes as i64,
+            Err(refusal) => -i64::from(refusal),
+        }
+    }
+
+    /// Tests that an answer and the rooms are the run.
+    fn check(&self, answer: i64, run: &Run, writer: &str) -> Result<(), String> {
+        let alike = answer == run.bytes.len() as i64
+            && self.run == run.bytes
+            && self.lengths == run.lengths;
+        match alike {
+            true => Ok(()),
+            false => Err(format!("{writer} writes other records")),
+        }
+    }
+}
+
+/// The times of the library's writer and of the plain one, taken after both have been seen to write
+/// the run. The error is a sentence about the one that does not.
+pub fn writing(run: &Run, patience: Patience) -> Result<Times, String> {
+    let chains = Chains::of(run);
+    let (mut ours, mut theirs) = (Bytes::dirty(run), Bytes::dirty(run));
+    let answer = ours.write(&chains);
+    ours.check(answer, run, "the library")?;
+    let answer = theirs.write_plainly(&chains);
+    theirs.check(answer, run, "the plain writer")?;
+    let mut port = || timed(|| ours.write(&chains));
+    let mut rust = || timed(|| theirs.write_plainly(&chains));
+    Ok(measured(&mut [&mut port, &mut rust], patience))
+}
+
+/// The nanoseconds of GEOS's WKBWriter on the lines, one by one, which has to write the same
+/// records.
+pub fn geos_writing(geos: &Geos, run: &Run, patience: Patience) -> Result<f64, String> {
+    let writer = geos.wkb_writer(run.order).ok_or("GEOS has no writer of WKB")?;
+    let points = 2 * POINTS / run.lengths.len();
+    let lines = run.read.coordinates.chunks(points).map(|line| geos.geometry(line));
+    let lines = lines.collect::<Option<Vec<_>>>().ok_or("GEOS does not take the lines")?;
+    let all = || lines.iter().map(|line| writer.write(line)).collect::<Option<Vec<_>>>();
+    let records = all().ok_or("GEOS does not write the lines")?;
+    if !run.records().eq(records.iter().map(|record| record.bytes())) {
+        return Err("GEOS writes other records".to_string());
+    }
+    let mut write = || timed(all);
+    Ok(best(&mut [&mut write], patience)[0])
 }

@@ -1,5 +1,6 @@
 //! The chains of an accepted building call.
 
+use crate::rooms::first;
 use crate::size::{POINT, RECORD};
 use crate::two::by_two;
 use crate::Lines;
@@ -33,6 +34,11 @@ impl<'a> Chains<'a> {
         let first = k.checked_mul(RECORD)?;
         let record = self.table.get(first..first.checked_add(RECORD)?)?;
         Some(self.chain(record))
+    }
+
+    /// The first k chains, all where there are fewer.
+    pub fn first(&self, k: usize) -> Chains<'a> {
+        Chains { table: first(self.table, RECORD.saturating_mul(k)), ..*self }
     }
 
     /// The chains in their order.

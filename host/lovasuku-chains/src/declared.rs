@@ -48,6 +48,21 @@ extern "C" {
         counts: *mut u32,
         counts_length: usize,
     ) -> i64;
+
+    pub fn lovasuku_write_wkb(
+        coordinates: *const f64,
+        coordinates_length: usize,
+        merged: *const f64,
+        merged_length: usize,
+        table: *const u32,
+        table_length: usize,
+        k: u64,
+        order: u8,
+        run: *mut u8,
+        run_length: usize,
+        lengths: *mut u64,
+        lengths_length: usize,
+    ) -> i64;
 }
 
 /// Declares functions of one form, and the type of these.

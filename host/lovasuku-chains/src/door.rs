@@ -58,6 +58,15 @@ pub struct ReadRooms<'a> {
     pub counts: &'a mut [u32],
 }
 
+/// The rooms of a writing call, for k chains.
+#[derive(Debug)]
+pub struct WriteRooms<'a> {
+    /// 9 bytes for each chain and 16 for each of its coordinates.
+    pub run: &'a mut [u8],
+    /// k numbers: the records' lengths.
+    pub lengths: &'a mut [u64],
+}
+
 /// The result of an answer, or its refusal.
 pub fn result(answer: i64) -> Result<u64, Refusal> {
     u64::try_from(answer).map_err(|_| Refusal::of_number(answer.wrapping_neg()))
@@ -145,6 +154,34 @@ pub fn read_wkb(run: &[u8], lengths: &[u64], rooms: ReadRooms<'_>) -> i64 {
             rooms.coordinates.len(),
             rooms.counts.as_mut_ptr(),
             rooms.counts.len(),
+        )
+    }
+}
+
+/// Writes the first k chains of a table as WKB records in a byte order. The result is the number of
+/// bytes.
+pub fn write_wkb(
+    coordinates: &[f64],
+    merged: &[f64],
+    table: &[u32],
+    k: u64,
+    order: u8,
+    rooms: WriteRooms<'_>,
+) -> i64 {
+    unsafe {
+        declared::lovasuku_write_wkb(
+            coordinates.as_ptr(),
+            coordinates.len(),
+            merged.as_ptr(),
+            merged.len(),
+            table.as_ptr(),
+            table.len(),
+            k,
+            order,
+            rooms.run.as_mut_ptr(),
+            rooms.run.len(),
+            rooms.lengths.as_mut_ptr(),
+            rooms.lengths.len(),
         )
     }
 }

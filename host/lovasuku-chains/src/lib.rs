@@ -31,6 +31,7 @@
 //! | pair the ends at one node | [`Rooms::pairs`] |
 //! | look up a chain in a stored table | [`chain_question`], [`chain_coordinates`] |
 //! | read lines from the records of a store | [`read_wkb`], which gives [`WkbLines`] |
+//! | write chains as records for a map | [`Chains::write_wkb`], which gives [`WkbRecords`] |
 //! | keep the chains, as tylertoo does | [`build_chains`] |
 //! | join more lines than a call holds, with what joined them and the gaps left | [`large`] |
 //! | look for ends near one another | [`Nearest`] |
@@ -51,6 +52,7 @@ mod nearest;
 mod owned;
 mod pairing;
 mod question;
+mod records;
 mod refusal;
 mod rooms;
 mod settings;
@@ -64,6 +66,7 @@ pub use nearest::Nearest;
 pub use owned::{build_chains, LineInput, OwnedChain};
 pub use pairing::{Ends, Route};
 pub use question::{chain_coordinates, chain_question};
+pub use records::{ByteOrder, WkbBuf, WkbRecords, WkbRecordsIter};
 pub use refusal::Refusal;
 pub use rooms::Rooms;
 pub use settings::{limit_of_bend, Settings};

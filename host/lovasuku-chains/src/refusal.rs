@@ -47,9 +47,13 @@ pub enum Refusal {
     /// 13: the lengths do not add up to the run, or a record is not as long as its header and its
     /// count say.
     BadLength,
-    /// 14: the room for coordinates or counts is shorter than the records need.
-    /// [`WkbRooms`](crate::WkbRooms) never lends one that is.
+    /// 14: a room is shorter than the records need: for coordinates or counts where they are read,
+    /// for bytes or lengths where they are written. [`WkbRooms`](crate::WkbRooms) and
+    /// [`WkbBuf`](crate::WkbBuf) never lend one that is.
     RecordRoomTooShort,
+    /// 16: the byte order to be written is neither 0 nor 1. [`ByteOrder`](crate::ByteOrder) has no
+    /// other.
+    UnknownOrder,
     /// A number that this crate does not know: the library is of another version.
     Unknown(i64),
 }
@@ -72,6 +76,7 @@ impl Refusal {
             12 => Refusal::BadType,
             13 => Refusal::BadLength,
             14 => Refusal::RecordRoomTooShort,
+            16 => Refusal::UnknownOrder,
             unknown => Refusal::Unknown(unknown),
         }
     }
@@ -93,6 +98,7 @@ impl Refusal {
             Refusal::BadType => 12,
             Refusal::BadLength => 13,
             Refusal::RecordRoomTooShort => 14,
+            Refusal::UnknownOrder => 16,
             Refusal::Unknown(unknown) => unknown,
         }
     }
@@ -120,6 +126,7 @@ impl Refusal {
                 "the lengths do not add up to the run, or a record's count and length disagree"
             }
             Refusal::RecordRoomTooShort => "a room is too short for the records",
+            Refusal::UnknownOrder => "the byte order to be written is neither 0 nor 1",
             Refusal::Unknown(_) => "the library refused the call for a reason unknown here",
         }
     }
@@ -142,7 +149,8 @@ mod tests {
         for number in 1..=30 {
             let refusal = Refusal::of_number(number);
             assert_eq!(refusal.number(), number);
-            assert_eq!(number > 14, matches!(refusal, Refusal::Unknown(_)));
+            let known = number <= 14 || number == 16;
+            assert_eq!(!known, matches!(refusal, Refusal::Unknown(_)));
         }
     }
 }

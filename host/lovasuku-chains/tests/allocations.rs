@@ -1,7 +1,8 @@
-//! Once the rooms have grown, building, pairing, asking and reading allocate nothing.
+//! Once the rooms have grown, building, pairing, asking, reading and writing allocate nothing.
 
 use lovasuku_chains::{
-    chain_coordinates, read_wkb, Ends, LinesBuf, Rooms, Route, Settings, WkbRooms,
+    chain_coordinates, read_wkb, ByteOrder, Ends, LinesBuf, Rooms, Route, Settings, WkbBuf,
+    WkbRooms,
 };
 use std::alloc::{GlobalAlloc, Layout, System};
 use std::cell::Cell;
@@ -106,6 +107,21 @@ fn reading_records_in_grown_rooms_allocates_nothing() {
     };
     assert!(asked(|| read(50)) > 0);
     assert_eq!(asked(|| (0..=50).for_each(&mut read)), 0);
+}
+
+#[test]
+fn writing_records_into_a_grown_buffer_allocates_nothing() {
+    let (large, small) = (road(300), road(7));
+    let (mut rooms, mut buffer) = (Rooms::new(), WkbBuf::new());
+    let mut write = |lines: &LinesBuf| {
+        let chains = rooms.build(lines.lines(), Settings::default()).expect("the call is accepted");
+        let records =
+            chains.write_wkb(ByteOrder::Little, &mut buffer).expect("the chains are there");
+        assert_eq!(records.iter().count(), chains.len());
+    };
+    assert!(asked(|| write(&large)) > 0);
+    assert_eq!(asked(|| write(&small)), 0);
+    assert_eq!(asked(|| write(&large)), 0);
 }
 
 #[test]

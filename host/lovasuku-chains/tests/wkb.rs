@@ -1,6 +1,9 @@
-//! WKB by the safe calls: lines from records, every bit kept, rooms lent again, refusals by name.
+//! WKB by the safe calls: lines from records and chains as records, every bit kept, rooms lent again,
+//! refusals by name.
 
-use lovasuku_chains::{read_wkb, Refusal, Rooms, Settings, WkbRooms, PASSING, PLAIN};
+use lovasuku_chains::{
+    read_wkb, ByteOrder, LinesBuf, Refusal, Rooms, Settings, WkbBuf, WkbRooms, PASSING, PLAIN,
+};
 
 /// A record of a line, the least byte first or the greatest.
 fn record(little: bool, numbers: &[f64]) -> Vec<u8> {
@@ -85,4 +88,62 @@ fn refusals_by_their_names() {
     assert_eq!(refused(&with(0, 2), &[25]), Some(Refusal::BadByteOrder));
     assert_eq!(refused(&with(1, 3), &[25]), Some(Refusal::BadType));
     assert_eq!(refused(&with(5, 2), &[25]), Some(Refusal::BadLength));
+}
+
+/// Chains of a road of two lines, a lone line and one of a single coordinate.
+fn lines() -> LinesBuf {
+    let mut lines = LinesBuf::default();
+    lines.push([[0.0, 0.0], [1.0, -0.0]], 0);
+    lines.push([[2.0, 0.0], [1.0, -0.0]], 0);
+    lines.push([[f64::from_bits(0x7ff8_0000_0000_0123), 3.0], [f64::INFINITY, 4.0]], 1);
+    lines.push([[7.5, -7.5]], 2);
+    lines
+}
+
+#[test]
+fn chains_are_written_and_read_back_in_both_orders() {
+    let (lines, mut rooms, mut buffer) = (lines(), Rooms::default(), WkbBuf::new());
+    let chains = rooms.build(lines.lines(), Settings::default()).unwrap();
+    let bits = |numbers: &[f64]| -> Vec<u64> { numbers.iter().map(|x| x.to_bits()).collect() };
+    for order in [ByteOrder::Little, ByteOrder::Big] {
+        let records = chains.write_wkb(order, &mut buffer).unwrap();
+        assert_eq!((records.len(), records.lengths()), (3, &[57, 41, 25][..]));
+        assert_eq!((records.run().len(), chains.wkb_length()), (123, 123));
+        for (chain, bytes) in chains.iter().zip(&records) {
+            assert_eq!(bytes, record(order == ByteOrder::Little, chain.coordinates()));
+        }
+        let mut store = WkbRooms::default();
+        let back = read_wkb(records.run(), records.lengths(), &mut store).unwrap();
+        for (chain, points) in chains.iter().zip(back.points()) {
+            assert_eq!(bits(&points.concat()), bits(chain.coordinates()));
+        }
+    }
+}
+
+#[test]
+fn the_first_chains_alone_and_none() {
+    let (lines, mut rooms, mut buffer) = (lines(), Rooms::default(), WkbBuf::default());
+    let chains = rooms.build(lines.lines(), Settings::default()).unwrap();
+    for (k, lengths) in [(0, &[][..]), (1, &[57]), (2, &[57, 41]), (9, &[57, 41, 25])] {
+        let records = chains.first(k).write_wkb(ByteOrder::Big, &mut buffer).unwrap();
+        assert_eq!((records.lengths(), records.is_empty()), (lengths, k == 0));
+        assert_eq!(records.iter().map(<[u8]>::len).sum::<usize>(), records.run().len());
+    }
+}
+
+#[test]
+fn lent_slices_that_are_too_short_are_left_alone() {
+    let (lines, mut rooms) = (lines(), Rooms::default());
+    let chains = rooms.build(lines.lines(), Settings::default()).unwrap();
+    for (bytes, rows, fits) in [(123, 3, true), (130, 5, true), (122, 3, false), (123, 2, false)] {
+        let (mut run, mut lengths) = (vec![9; bytes], vec![9; rows]);
+        let written = chains.write_wkb_into(ByteOrder::Little, &mut run, &mut lengths);
+        match fits {
+            true => assert_eq!(written.map(|records| records.len()), Ok(3)),
+            false => {
+                assert_eq!(written, Err(Refusal::RecordRoomTooShort));
+                assert_eq!((run, lengths), (vec![9; bytes], vec![9; rows]));
+            }
+        }
+    }
 }

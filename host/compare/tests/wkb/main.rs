@@ -1,12 +1,14 @@
-//! WKB in: the library's reader against a reader of the standard's, on records that others wrote,
-//! on damaged runs, and on made-up ones.
+//! WKB: the library's reader and writer against those of the standard's, on records that others
+//! wrote, on damaged calls, on made-up ones, and one after the other.
 
 mod damaged;
 mod made_up;
 mod recorded;
+mod trips;
+mod writing;
 
 use answers::wkb::{self, Records};
-use lovasuku_chains::door::{self, ReadRooms};
+use lovasuku_chains::door::{self, ReadRooms, WriteRooms};
 
 /// What stands in a room before a call: no number that a record of these tests has.
 const DIRT: u64 = 0xa5a5_5a5a_dead_beef;
@@ -66,5 +68,55 @@ impl Reading {
         let read = self.read();
         assert_eq!(read, self.judged(), "{self:?}");
         read
+    }
+}
+
+/// A writing call: the chains, and the rooms for bytes and for lengths.
+#[derive(Clone, Debug, Default)]
+pub struct Writing {
+    pub chains: wkb::Chains,
+    pub rooms: [usize; 2],
+}
+
+/// Bytes, and the length of each record.
+pub type Written = (Vec<u8>, Vec<u64>);
+
+impl Writing {
+    /// The chains with rooms that are just long enough, or none where they are refused.
+    pub fn of(chains: wkb::Chains) -> Self {
+        let needed = wkb::write(&chains, [usize::MAX; 2]);
+        let rooms = needed.map_or([0; 2], |(run, lengths)| [run.len(), lengths.len()]);
+        Writing { chains, rooms }
+    }
+
+    /// What the library says. Panics where it stores anything that it must not.
+    pub fn write(&self) -> Result<Written, i64> {
+        let [bytes, rows] = self.rooms;
+        let wkb::Chains { coordinates, merged, table, k, order } = &self.chains;
+        let floats =
+            |bits: &[u64]| -> Vec<f64> { bits.iter().map(|&x| f64::from_bits(x)).collect() };
+        let (mut run, mut lengths) = (vec![DIRT as u8; bytes], vec![DIRT; rows]);
+        let rooms = WriteRooms { run: &mut run, lengths: &mut lengths };
+        let answer =
+            door::write_wkb(&floats(coordinates), &floats(merged), table, *k, *order, rooms);
+        let (written, records) = match answer {
+            0.. => (answer as usize, *k as usize),
+            _ => (0, 0),
+        };
+        assert!(run[written..].iter().all(|&byte| byte == DIRT as u8), "{self:?}");
+        assert!(lengths[records..].iter().all(|&length| length == DIRT), "{self:?}");
+        run.truncate(written);
+        lengths.truncate(records);
+        match answer {
+            0.. => Ok((run, lengths)),
+            _ => Err(-answer),
+        }
+    }
+
+    /// What the library and the judge say, where they say the same.
+    pub fn agreed(&self) -> Result<Written, i64> {
+        let written = self.write();
+        assert_eq!(written, wkb::write(&self.chains, self.rooms), "{self:?}");
+        written
     }
 }

@@ -1,0 +1,6 @@
+pub mod Numbers
+pub mod Records
+pub mod Runs
+pub mod Lines
+pub mod Calls
+pub mod Plain

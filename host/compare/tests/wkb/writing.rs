@@ -1,0 +1,150 @@
+//! Writing: every refusal from every state and beside every other, any k, and made-up tables.
+
+use crate::Writing;
+use answers::random::Random;
+use answers::wkb::{record, Chains};
+
+/// Chains of both sources: of two coordinates, of none, of one, and of all that is merged.
+fn chains(k: u64, order: u8) -> Chains {
+    Chains {
+        coordinates: (0..8).map(|k| k << 60 | 0x0123_4567_89ab_cdef).collect(),
+        merged: (0..6).map(|k: u64| (0.5 - k as f64).to_bits()).collect(),
+        table: [[0, 1, 0, 1, 2], [1, 2, 1, 3, 0], [3, 1, 0, 3, 1], [4, 9, 1, 0, 3]].concat(),
+        k,
+        order,
+    }
+}
+
+/// A damage: its refusal, what it is, and how it is done. Those of a lower place are judged first.
+struct Damage {
+    place: usize,
+    refusal: i64,
+    name: &'static str,
+    apply: fn(&mut Writing),
+}
+
+/// Where a number of row 0 stands in the table.
+const SOURCE: usize = 2;
+const FIRST: usize = 3;
+const COUNT: usize = 4;
+
+#[rustfmt::skip]
+const DAMAGES: [Damage; 14] = [
+    Damage { place: 0, refusal: 16, name: "order 2", apply: |w| w.chains.order = 2 },
+    Damage { place: 0, refusal: 16, name: "order 255", apply: |w| w.chains.order = 255 },
+    Damage { place: 1, refusal: 10, name: "k beyond the table", apply: |w| w.chains.k = 5 },
+    Damage { place: 1, refusal: 10, name: "k of 2^64 - 1", apply: |w| w.chains.k = u64::MAX },
+    Damage { place: 1, refusal: 10, name: "k whose fivefold wraps", apply: |w| w.chains.k = u64::MAX / 5 + 2 },
+    Damage { place: 1, refusal: 10, name: "a source of 2", apply: |w| w.chains.table[SOURCE] = 2 },
+    Damage { place: 1, refusal: 10, name: "a first coordinate beyond", apply: |w| w.chains.table[FIRST] = 3 },
+    Damage { place: 1, refusal: 10, name: "a count beyond", apply: |w| w.chains.table[COUNT] = 4 },
+    Damage { place: 1, refusal: 10, name: "a count of 2^32 - 1", apply: |w| w.chains.table[COUNT] = u32::MAX },
+    Damage { place: 1, refusal: 10, name: "the last row cut", apply: |w| w.chains.table.truncate(19) },
+    Damage { place: 2, refusal: 14, name: "the run short by one", apply: |w| w.rooms[0] = w.rooms[0].saturating_sub(1) },
+    Damage { place: 2, refusal: 14, name: "no run", apply: |w| w.rooms[0] = 0 },
+    Damage { place: 2, refusal: 14, name: "the lengths short by one", apply: |w| w.rooms[1] = w.rooms[1].saturating_sub(1) },
+    Damage { place: 2, refusal: 14, name: "no lengths", apply: |w| w.rooms[1] = 0 },
+];
+
+#[test]
+fn chains_are_written_in_both_orders_in_rooms_of_any_length_from_theirs_up() {
+    for order in [0, 1] {
+        for k in 0..=4 {
+            let mut writing = Writing::of(chains(k, order));
+            for _ in 0..3 {
+                let (run, lengths) = writing.agreed().expect("chains");
+                assert_eq!(lengths, &[41, 9, 25, 57][..k as usize]);
+                assert!(
+                    k == 0 || run.starts_with(&record(order, &chains(k, order).coordinates[2..6]))
+                );
+                writing.rooms = writing.rooms.map(|length| length + 7);
+            }
+        }
+    }
+}
+
+#[test]
+fn every_damage_and_every_pair_of_them() {
+    for order in [0, 1] {
+        let good = Writing::of(chains(4, order));
+        for (k, one) in DAMAGES.iter().enumerate() {
+            for other in &DAMAGES[..=k] {
+                let mut writing = good.clone();
+                (one.apply)(&mut writing);
+                (other.apply)(&mut writing);
+                let first = if one.place < other.place { one } else { other };
+                let names = format!("{} and {}", one.name, other.name);
+                assert_eq!(writing.agreed(), Err(first.refusal), "{names}");
+            }
+        }
+    }
+}
+
+#[test]
+fn no_chains_need_no_room_but_an_order() {
+    for order in [0, 1] {
+        let writing = Writing { chains: Chains { order, ..Chains::default() }, rooms: [0; 2] };
+        assert_eq!(writing.agreed(), Ok((vec![], vec![])));
+    }
+    let writing = Writing { chains: Chains { order: 2, ..Chains::default() }, rooms: [0; 2] };
+    assert_eq!(writing.agreed(), Err(16));
+}
+
+#[test]
+fn a_late_record_that_is_missing_comes_before_an_early_one_without_room() {
+    let mut late = chains(4, 1);
+    late.table[15 + SOURCE] = 9;
+    assert_eq!(Writing { chains: late, rooms: [0; 2] }.agreed(), Err(10));
+    assert_eq!(Writing { chains: chains(4, 1), rooms: [0; 2] }.agreed(), Err(14));
+}
+
+#[test]
+fn records_that_overlap_may_have_more_bytes_than_the_slices() {
+    let rows = vec![[0, 1, 0, 0, 4]; 500];
+    let chains = Chains { table: rows.concat(), k: 500, ..chains(0, 0) };
+    let mut writing = Writing::of(chains);
+    assert_eq!(writing.agreed().map(|(run, _)| run.len()), Ok(500 * (9 + 64)));
+    writing.rooms[0] -= 1;
+    assert_eq!(writing.agreed(), Err(14));
+}
+
+#[test]
+fn made_up_tables_are_written_alike() {
+    let mut random = Random::new(3);
+    let mut seen = [0; 17];
+    for _ in 0..50_000 {
+        let number = |random: &mut Random| match random.below(30) {
+            0 => random.bits() as u32,
+            _ => random.below(3) as u32,
+        };
+        let row = |random: &mut Random| {
+            let source = if random.one_in(12) { 2 } else { random.below(2) as u32 };
+            [number(random), number(random), source, number(random), number(random)]
+        };
+        let mut table: Vec<u32> = (0..random.below(5)).flat_map(|_| row(&mut random)).collect();
+        if random.one_in(9) {
+            table.pop();
+        }
+        let doubles =
+            |random: &mut Random| (0..8 + random.below(3)).map(|_| random.bits()).collect();
+        let chains = Chains {
+            coordinates: doubles(&mut random),
+            merged: doubles(&mut random),
+            k: (table.len() / 5).saturating_sub(random.below(2)) as u64
+                + u64::from(random.one_in(9)),
+            table,
+            order: random.below(9).min(2) as u8 % 3,
+        };
+        let mut writing = Writing::of(chains);
+        let room = random.below(2);
+        writing.rooms[room] = match random.below(4) {
+            0 => writing.rooms[room].saturating_sub(1),
+            1 => writing.rooms[room] + 5,
+            _ => writing.rooms[room],
+        };
+        seen[writing.agreed().err().unwrap_or(0) as usize] += 1;
+    }
+    for refusal in [0, 10, 14, 16] {
+        assert!(seen[refusal] > 500, "{refusal}: {seen:?}");
+    }
+}
