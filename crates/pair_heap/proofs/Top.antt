@@ -249,6 +249,33 @@ module _ (w : List ℕ) (h base : ℕ) (owner : ℕ → ℕ) (P : ℕ → Ranked
       (λ (y : (s : ℕ) × AtSlot owner P base r s). y)
       which
 
+-- ---- whose entry a slot has
+
+-- one place is of one owner, and of a pair
+pub coded-owner : (o m : ℕ) (p q : RankedPair) → coded o p ≡ coded m q → 0 < q .j → q .i < 8192 → q .j < 8192 → EndOf m q
+    → (0 < p .j → (p .i < 8192) × (p .j < 8192) × EndOf o p) → (0 < p .j) × (o ≡ m)
+coded-owner o m p q e s a b w f =
+    ⊎-elim
+    (λ (x : p .j ≡ 0).
+    absurd (omega (
+      arith,
+      none-code (q .key) (code-of m q) (less (code-small m q a b)) (sym (coded-some m q s) ∙ sym e ∙ coded-none o p x),
+      code-small m q a b,
+    )))
+    (λ (x : p .j ≡ 0 → ⊥). let k = not-zero (p .j) x in (k, same (f k) (code k (f k)) (code-at o p) (code-at m q)))
+    (same-or (p .j) 0)
+  where
+    code : 0 < p .j → (p .i < 8192) × (p .j < 8192) × EndOf o p → code-of o p ≡ code-of m q
+    code k (u, v, y) =
+        place-same (p .key) (code-of o p) (q .key) (code-of m q) (omega (arith, code-small o p u v)) (omega (arith, code-small m q a b)) (sym (coded-some o p k) ∙ e ∙ coded-some m q s) .1
+
+    same : (p .i < 8192) × (p .j < 8192) × EndOf o p → code-of o p ≡ code-of m q → (t : ℕ) × (t ≤ 1) × (code-of o p ≡ (p .i * 8192 + p .j) * 2 + t)
+        → (t : ℕ) × (t ≤ 1) × (code-of m q ≡ (q .i * 8192 + q .j) * 2 + t) → o ≡ m
+    same (u, v, y) c (t, t1, g) (r, r1, h) =
+        let i : p .i ≡ q .i = omega arith in
+        let j : p .j ≡ q .j = omega arith in
+        sym (owner-back o p y) ∙ (λ z. cond (eqb (c z % 2) 1) (j z) (i z)) ∙ owner-back m q w
+
 -- ---- what the code works out
 
 pub owner-j : (m x y : ℕ) → m ≡ 1 → x ≡ cond (eqb m 1) x y

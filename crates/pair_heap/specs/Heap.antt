@@ -7,7 +7,9 @@ use mathlib.Core.List.{List}
 use lib.ListN.{getD, length}
 use lib.Dec.{eqb}
 use Rattle.pair_bounds.specs.Search.{place}
+use Rattle.rules.specs.Refusals.{mostEnds}
 use Rattle.pair_laws.specs.Ranked.{RankedPair}
+use Rattle.pair_laws.specs.Sets.{EndOf}
 use Rattle.pair_tree.specs.Places.{gone, none}
 use Rattle.pair_tree.specs.Flat.{Stored, changed, NodesKept, own}
 use Rattle.pair_tree.specs.Words.{Changes}
@@ -62,6 +64,15 @@ code-of o p = (p .i * 8192 + p .j) * 2 + cond (eqb o (p .j)) 1 0
 -- the pair p of the owner o; its j is 0 where it is none
 unfoldable pub coded : ℕ → RankedPair → ℕ
 coded o p = cond (eqb (p .j) 0) none (place (p .key) (code-of o p))
+
+-- the slot s has an entry of the owner o: a pair that o is an end of
+pub record Enters (w : List ℕ) (h base s o : ℕ) : Type 0 where
+  pub pair : RankedPair
+  pub some : 0 < pair .j
+  pub i-below : pair .i < mostEnds
+  pub j-below : pair .j < mostEnds
+  pub owned : EndOf o pair
+  pub here : node-at w h (base + s) ≡ coded o pair
 
 -- what a code stands for
 pub record Decoded (code : ℕ) (r : Entry) : Type 0 where

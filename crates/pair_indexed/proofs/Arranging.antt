@@ -10,15 +10,18 @@ use Rattle.rules.specs.Lists.{upto}
 use Rattle.rules.specs.Selecting.{End}
 use Rattle.point_slices.specs.Holds.{HoldsFrom}
 use Rattle.point_slices.proofs.Laws.{mid-rest, put-rest, from-length}
-use Rattle.pair_sorting.specs.Order.{keyLe, sortBy, positionsIn}
+use Rattle.pair_sorting.specs.Order.{threeWords, keyLe, sortBy, positionsIn}
 use Rattle.pair_sorting.specs.Runs.{Permuted}
+use Rattle.pair_sorting.proofs.Words.{words-rest}
 use Rattle.pair_sorting.proofs.Tables.{Ordered, sorted-permuted, ordered-tables}
-use Rattle.pair_ends.specs.Blocks.{marksFrom, orderFrom, positionsFrom, sortKeysFrom, groupsFrom, cursorsFrom, slotsFrom, heapFrom}
+use Rattle.pair_ends.specs.Blocks.{piecesFrom, marksFrom, orderFrom, positionsFrom, sortKeysFrom, groupsFrom, cursorsFrom, slotsFrom, heapFrom}
 use Rattle.pair_ends.specs.Ends.{EndsRoom, endsIn}
 use Rattle.pair_tree.specs.Words.{Changes}
 use Rattle.pair_tree.proofs.Words.{changes-then, changes-wider}
-use Rattle.pair_owners.specs.Tables.{order-at, position-at, group-at, cursor-at, slot-at, TablesSorted, GroupRuns, Started, Groups}
-use Rattle.pair_owners.proofs.Turns.{room-kept, ends-kept, sorted-kept}
+use Rattle.pair_owners.specs.Tables.{order-at, position-at, group-at, cursor-at, slot-at, OneDirection, Together, TablesSorted, GroupRuns, GroupOfDirection, Started, Groups}
+use Rattle.pair_owners.specs.Angles.{Keys}
+use Rattle.pair_owners.proofs.Turns.{room-kept, ends-kept, sorted-kept, same-words}
+use Rattle.pair_owners.proofs.Together.{wordsOf, keyed-together}
 use Rattle.pair_indexed.specs.Start.{Arranged}
 
 -- ---- the rest of a list, written anew
@@ -126,6 +129,33 @@ module _ (w p₁ : List ℕ) (d : ℕ) (room : EndsRoom w d)
               };
         }
 
+    -- ends of one direction stand together, since they are sorted by the words that `keys` wrote
+    module _ {w₀ : List ℕ} (k : Keys w₀ w d) where
+      three : (p : ℕ) → threeWords p₀ (d * 2) (getD p₂ p 0) ≡ wordsOf w d (order-at w₃ d p)
+      unfolding threeWords
+      three p =
+          let e = order-at w₃ d p in
+          let a : at + d * 2 ≡ d * sortKeysFrom = omega arith in
+          ap (threeWords p₀ (d * 2)) (sym (order-is p))
+          ∙ ap (λ (l : List ℕ). threeWords l (d * 2) e) (mid-rest w at)
+          ∙ ap (λ (f : ℕ → List ℕ). f e) (words-rest w at (d * 2))
+          ∙ ap (λ (x : ℕ). threeWords w x e) a
+
+      kept : (i : ℕ) → i < d * piecesFrom → getD w₃ i 0 ≡ getD w₀ i 0
+      kept i h = part-changes .below i (omega arith) ∙ k .kept .below i (omega arith)
+
+      together₀ : Together w₀ d (order-at w₃ d)
+      together₀ =
+          keyed-together k (part-sorted .order .order-in)
+          (λ p r q a b h e. sym (three p) ∙ tables .between p r q a b h (three p ∙ e ∙ sym (three q)) ∙ three r)
+          (λ p q a h e. omega (arith, order-is p, order-is q, tables .ascending p q a h (three p ∙ e ∙ sym (three q))))
+
+      pub part-together : Together w₃ d (order-at w₃ d)
+      part-together p q h l s =
+          let o = part-sorted .order .order-in in
+          let t = together₀ p q h l (same-words (λ i j. sym (kept i j)) (order-at w₃ d p) (order-at w₃ d q) (o p (omega arith)) (o q l) s) in
+          (same-words kept (order-at w₃ d (q - 1)) (order-at w₃ d q) (o (q - 1) (omega arith)) (o q l) (t .0), t .1)
+
 -- ---- with the groups
 
 -- tables that agree on the d ends and positions
@@ -143,6 +173,14 @@ module _ {order order′ group group′ : ℕ → ℕ} {d : ℕ} (same : (p : �
         rises = λ p q k h. rw (group-same p (omega arith), group-same q h) (r .rises p q k h);
         alike = λ p q k h e. rw (same p (omega arith), same q h) (r .alike p q k h (sym (group-same p (omega arith)) ∙ e ∙ group-same q h));
       }
+
+  whole-agree : {w w′ : List ℕ} → ((i : ℕ) → i < d * piecesFrom → getD w′ i 0 ≡ getD w i 0) → GroupOfDirection w d order group d → GroupOfDirection w′ d order′ group′ d
+  whole-agree {w} {w′} f g p q h k t =
+      group-same p (omega arith)
+      ∙ g p q h k
+      (same-words (λ i j. sym (f i j)) (order p) (order q) (inside p (omega arith)) (inside q k)
+      (subst (λ (x : ℕ). OneDirection w′ d x (order q)) (same p (omega arith)) (subst (λ (x : ℕ). OneDirection w′ d (order′ p) x) (same q k) t)))
+      ∙ sym (group-same q k)
 
   started-agree : {l : List End} {cursor cursor′ slot slot′ own : ℕ → ℕ} {m : ℕ} → ((p : ℕ) → p < d → cursor′ p ≡ cursor p) → ((e : ℕ) → e < d → slot′ e ≡ slot e)
       → Started l order group cursor slot own d d m → Started l order′ group′ cursor′ slot′ own d d m
@@ -167,6 +205,7 @@ arranged {w} {w′} {d} {m} z g =
     record {
       sorted = sorted-kept (g .kept) (omega arith) z;
       runs = subst (λ (l : List End). GroupRuns l (order-at w′ d) (group-at w′ d) d) ends (runs-agree same (λ e h. refl) (z .order .order-in) (g .runs));
+      whole = whole-agree {group = group-at w′ d} same (λ e h. refl) (z .order .order-in) (λ i h. g .kept .below i (omega arith)) (g .whole);
       own = g .own;
       started =
           subst (λ (l : List End). Started l (order-at w′ d) (group-at w′ d) (cursor-at w′ d) (slot-at w′ d) (g .own) d d m) ends
@@ -185,6 +224,7 @@ arranged-kept {w} {w′} {d} {m} c k x =
     record {
       sorted = sorted-kept c (omega arith) (x .sorted);
       runs = subst (λ (l : List End). GroupRuns l (order-at w′ d) (group-at w′ d) d) ends (runs-agree order group (x .sorted .order .order-in) (x .runs));
+      whole = whole-agree order group (x .sorted .order .order-in) (λ i h. c .below i (omega arith)) (x .whole);
       own = x .own;
       started =
           subst (λ (l : List End). Started l (order-at w′ d) (group-at w′ d) (cursor-at w′ d) (slot-at w′ d) (x .own) d d m) ends

@@ -41,7 +41,7 @@ use Rattle.pair_owners.specs.Tables.{order-at, position-at, group-at, cursor-at
 use Rattle.pair_owners.specs.Owners.{Owners}
 use Rattle.pair_owners.proofs.Next.{more-used, same-at, same-past}
 use Rattle.pair_owners.proofs.Seats.{seated, seated-in, seated-out, placed}
-use Rattle.pair_owners.proofs.Turns.{room-kept}
+use Rattle.pair_owners.proofs.Turns.{room-kept, same-words}
 use Rattle.pair_indexed.specs.Route.{Sized, marks-in, taken-in, Fixed, Moving, Bound, Ground, Filled, Owning, Refreshed, marked}
 use Rattle.pair_indexed.proofs.Parts.{Same, same-below, same-beyond, slice-set, marks-kept, marks-length, indexes-kept, heaped-kept, indexes-own, ends-same}
 
@@ -85,7 +85,7 @@ note-kept w w′ d l n t h = t (sym (ap (λ (x : ℕ). eqb x 1) n) ∙ h)
 pub ground-kept : {l : List End} {w : List ℕ} {d height slots limit : ℕ} {order pos group : ℕ → ℕ} → Ground l w d height slots limit order pos group
     → (w′ : List ℕ) → length w′ ≡ length w → Same w w′ 0 (d * pairsFrom) → Same w w′ (d * orderFrom) (d * sortKeysFrom) → Same w w′ (d * groupsFrom) (d * cursorsFrom)
     → getD w′ (d * noteFrom) 0 ≡ getD w (d * noteFrom) 0 → Ground l w′ d height slots limit order pos group
-ground-kept {l} {w} {d} g w′ long a b c n =
+ground-kept {l} {w} {d} {height} {slots} {limit} {order} g w′ long a b c n =
     record {
       room = record { few = g .room .few; long = omega (arith, g .room .long) };
       ends = ends-same w w′ d (g .room) long a ∙ g .ends;
@@ -103,6 +103,9 @@ ground-kept {l} {w} {d} g w′ long a b c n =
           };
       ordered = g .ordered;
       runs = g .runs;
+      whole =
+          λ p q h k t. g .whole p q h k
+          (same-words (λ i j. sym (a i (omega arith) (omega arith))) (order p) (order q) (g .ordered .order-in p (omega arith)) (g .ordered .order-in q k) t);
     }
 
 pub moving-kept : {w w′ : List ℕ} {d : ℕ} {cursor slot : ℕ → ℕ} → Moving w d cursor slot → Same w w′ (d * cursorsFrom) (d * heapFrom) → Moving w′ d cursor slot

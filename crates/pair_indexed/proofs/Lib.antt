@@ -10,4 +10,5 @@ pub mod Filling
 pub mod Handing
 pub mod Taking
 pub mod Choosing
+pub mod Third
 pub mod Turns

@@ -23,7 +23,7 @@ use Rattle.pair_tree.proofs.Words.{changes-none, changes-then, changes-wider}
 use Rattle.pair_index.specs.Index.{pairOf, leaf-of, Indexed, Query}
 use Rattle.pair_heap.specs.Heap.{node-at, Any, coded, HeapPut, HeapRoom, HeapJoined}
 use Rattle.pair_heap.proofs.Top.{coded-none}
-use Rattle.pair_owners.specs.Tables.{order-at, position-at, group-at, cursor-at, slot-at, Started}
+use Rattle.pair_owners.specs.Tables.{order-at, position-at, group-at, cursor-at, slot-at, owners, Started}
 use Rattle.pair_owners.specs.Owners.{Owners}
 use Rattle.pair_owners.proofs.Next.{same-at, same-past}
 use Rattle.pair_owners.proofs.Grouping.{owners-start}
@@ -32,6 +32,7 @@ use Rattle.pair_owners.proofs.Turns.{ends-kept}
 use Rattle.pair_indexed.specs.Route.{marks-in, taken-in, Moving, Bound, Ground, Filled, Heaped, Owning, Offers, RouteReady}
 use Rattle.pair_indexed.specs.Start.{Startable, Fills}
 use Rattle.pair_indexed.proofs.Parts.{same-below, same-beyond, marks-kept, indexes-kept}
+use Rattle.pair_indexed.proofs.Third.{no-third}
 use Rattle.pair_indexed.proofs.Keeping.{bound-of, ground-kept, moving-kept, there-in, query, answered}
 
 module _ {w : List ℕ} {d height slots limit : ℕ} (f : Fills w d height slots limit) where
@@ -49,6 +50,7 @@ module _ {w : List ℕ} {d height slots limit : ℕ} (f : Fills w d height slots
         fixed = record { order-is = λ p h. refl; pos-is = λ e h. refl; group-is = λ e h. refl };
         ordered = f .begins .arranged .sorted .order;
         runs = f .begins .arranged .runs;
+        whole = f .begins .arranged .whole;
       }
 
 -- the owners at the first p positions have their pairs
@@ -149,7 +151,7 @@ module _ {w₀ w : List ℕ} {d height slots limit p : ℕ} (s : Pairing w₀ w 
       held =
           ⊎-elim
           (λ (c : x ≡ d). absurd (omega (arith, c, k, slot-same)))
-          (λ (c : (x < s .fills .begins .m) × (s .fills .begins .arranged .own x ≡ o) × (p < group-at w₀ d o + 3)). (c .0, c .1))
+          (λ (c : (x < s .fills .begins .m) × (s .fills .begins .arranged .own x ≡ o) × (p < group-at w₀ d o + owners)). (c .0, c .1))
           (s .fills .begins .arranged .started .held p h)
 
       slot-in : x < slots
@@ -214,7 +216,7 @@ module _ {w₀ w : List ℕ} {d height slots limit p : ℕ} (s : Pairing w₀ w 
           apart q i j e =
               ⊎-elim
               (λ (c : slot-at w₀ d (order-at w₀ d q) ≡ d). omega (arith, c, j))
-              (λ (c : (slot-at w₀ d (order-at w₀ d q) < s .fills .begins .m) × (s .fills .begins .arranged .own (slot-at w₀ d (order-at w₀ d q)) ≡ order-at w₀ d q) × (q < group-at w₀ d (order-at w₀ d q) + 3)).
+              (λ (c : (slot-at w₀ d (order-at w₀ d q) < s .fills .begins .m) × (s .fills .begins .arranged .own (slot-at w₀ d (order-at w₀ d q)) ≡ order-at w₀ d q) × (q < group-at w₀ d (order-at w₀ d q) + owners)).
               let z = s .fills .begins .arranged .sorted .order in
               let same : order-at w₀ d q ≡ o = sym (c .1) ∙ ap (s .fills .begins .arranged .own) e ∙ held .1 in
               omega (arith, i, z .back q (omega arith), z .back p h, ap (position-at w₀ d) same))
@@ -259,7 +261,7 @@ module _ {w₀ w : List ℕ} {d height slots limit p : ℕ} (s : Pairing w₀ w 
                       (λ (y : slot (order-at w₀ d (position-at w₀ d e)) ≡ d). absurd (omega (arith, y, b, ap slot (z .seat e a))))
                       (λ (y : (slot (order-at w₀ d (position-at w₀ d e)) < s .fills .begins .m)
                       × (owner (slot (order-at w₀ d (position-at w₀ d e))) ≡ order-at w₀ d (position-at w₀ d e))
-                      × (position-at w₀ d e < group-at w₀ d (order-at w₀ d (position-at w₀ d e)) + 3)).
+                      × (position-at w₀ d e < group-at w₀ d (order-at w₀ d (position-at w₀ d e)) + owners)).
                       omega (arith, y .0, s .fills .begins .fits, ap slot (z .seat e a)))
                       (begun .held (position-at w₀ d e) q),
                   λ _. subst (λ (y : ℕ). Bound (nodeOf l) limit nobody y (s .P (slot y))) (z .seat e a)
@@ -315,4 +317,5 @@ module _ {w₀ w : List ℕ} {d height slots limit p : ℕ} (s : Pairing w₀ w 
                 subst (λ (y : List End). Owning y w′ d height slots limit (taken-in w′ d) slots)
                 (sym (ends-kept pairing-changes (omega arith) (s .fills .begins .asks .room))) owning;
             unmarked = marks′;
+            few = no-third owning;
           }

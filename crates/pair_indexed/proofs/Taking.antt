@@ -20,6 +20,7 @@ use Rattle.pair_owners.specs.Owners.{without}
 use Rattle.pair_owners.proofs.Next.{is-without}
 use Rattle.pair_ends.specs.Blocks.{pairsFrom, marksFrom, orderFrom, indexFrom, noteFrom}
 use Rattle.pair_indexed.specs.Route.{pairs-in, marks-in, taken-in, Owning, Retires, marked, Replaces, Replaced, Takes, Takings}
+use Rattle.pair_indexed.proofs.Third.{no-third}
 use Rattle.pair_indexed.proofs.Parts.{Same, same-below, same-beyond, slice-kept, slice-set, marks-kept, marks-length}
 use Rattle.pair_indexed.proofs.Keeping.{index-whole, owning-written, owning-retired, marks-retired, retired-changes}
 
@@ -178,4 +179,5 @@ module _ {w : List ℕ} {d base height slots limit n i j : ℕ} (e : base ≡ 2 
               pairs = pairs-taken t (t .owning) (there r₂) (there r₃) r₄ r₅;
               marks = marks-taken t (t .owning) (there r₂) (there r₃) r₄ r₅;
               kept = taken-changes t (t .owning) (there r₂) (there r₃) r₄ r₅;
+              few = no-third (owning-taken t (t .owning) (there r₂) (there r₃) r₄ r₅);
             }

@@ -37,8 +37,9 @@ use Rattle.pair_owners.specs.Tables.{mark-at, slot-at}
 use Rattle.pair_owners.specs.Owners.{tally}
 use Rattle.pair_owners.proofs.Next.{same-at, same-past}
 use Rattle.pair_owners.proofs.Turns.{take-kept}
-use Rattle.pair_indexed.specs.Route.{pairs-in, marks-in, taken-in, Owning, Stale, Refreshed, Takes, Takings, RouteReady}
+use Rattle.pair_indexed.specs.Route.{pairs-in, marks-in, taken-in, NoThird, Owning, Stale, Refreshed, Takes, Takings, RouteReady}
 use Rattle.pair_indexed.proofs.Parts.{same-below, slice-kept, drop-kept, marks-kept, pairs-length, is-free, is-taken}
+use Rattle.pair_indexed.proofs.Third.{no-third}
 use Rattle.pair_indexed.proofs.Keeping.{query, heap-whole, answered, slot-here}
 use Rattle.pair_indexed.proofs.Filling.{owning-again, sets-changes}
 use Rattle.pair_indexed.proofs.Choosing.{many, member, none-left, at-slot, owner-in, owner-slot, owner-free, slot-in, pair-lower, pair-below, next-pair}
@@ -110,6 +111,7 @@ falls-taken z z′ n c c′ e h = omega (arith, mul-le-mul-right (suc n) e)
 pub record Going (w₀ w : List ℕ) (d height slots limit n : ℕ) : Type 0 where
   pub owning : Owning (endsIn w₀ d) w d height slots limit (taken-in w d) slots
   pub taken : Taken (nodeOf (endsIn w₀ d)) limit (pairs-in w₀ d) (pairs-in w d) (marks-in w d) n
+  pub few : NoThird w d slots
   pub kept : Changes w₀ w (d * pairsFrom) (d * noteFrom)
 
 pub going-start : (w : List ℕ) (d height slots limit : ℕ) → RouteReady w d height slots limit → Going w w d height slots limit 0
@@ -118,6 +120,7 @@ going-start w d height slots limit r =
       owning = r .owning;
       taken =
           taken-start (nodeOf (endsIn w d)) limit (pairs-in w d) (marks-in w d) (r .unmarked ∙ ap (λ (m : ℕ). replicate m 0) (sym (many (r .owning))));
+      few = r .few;
       kept = changes-none w (d * pairsFrom) (d * noteFrom);
     }
 
@@ -235,12 +238,16 @@ module _ {w₀ w : List ℕ} {d height slots limit n : ℕ} (g : Going w₀ w d 
       pairs-same : pairs-in w′ d ≡ pairs-in w d
       pairs-same = slice-kept w w′ (d * pairsFrom) (d * marksFrom) (changes .long) (omega (arith, room .long)) (same-below changes (d * pairsFrom) (d * marksFrom) (omega arith))
 
+      again : Owning l w′ d height slots limit (taken-in w′ d) slots
+      again =
+          subst (λ (m : List ℕ). Owning l w′ d height slots limit (usedOf m) slots) (sym marks-same)
+          (owning-again (g .owning) (r .owner) o-in o-slot (owner-free (g .owning) r c t) (owner-free (g .owning) r c t) f)
+
       pub going-again : Going w₀ w′ d height slots limit n
       going-again =
           record {
-            owning =
-                subst (λ (m : List ℕ). Owning l w′ d height slots limit (usedOf m) slots) (sym marks-same)
-                (owning-again (g .owning) (r .owner) o-in o-slot (owner-free (g .owning) r c t) (owner-free (g .owning) r c t) f);
+            owning = again;
+            few = no-third again;
             taken =
                 subst (λ (m : List ℕ). Taken (nodeOf l) limit (pairs-in w₀ d) (pairs-in w′ d) m n) (sym marks-same)
                 (subst (λ (m : List ℕ). Taken (nodeOf l) limit (pairs-in w₀ d) m (marks-in w d) n) (sym pairs-same) (g .taken));
@@ -323,6 +330,7 @@ module _ {w₀ w : List ℕ} {d height slots limit n : ℕ} (g : Going w₀ w d 
         going-took =
             record {
               owning = k .owning l (g .owning);
+              few = k .few;
               taken =
                   subst (λ (m : List ℕ). Taken (nodeOf l) limit (pairs-in w₀ d) (pairs-in w′ d) m (n + 1)) (sym marks-is)
                   (subst (λ (m : List ℕ). Taken (nodeOf l) limit (pairs-in w₀ d) m (set (set (marks-in w d) (P .i) 1) (P .j) 1) (n + 1)) (sym pairs-is)

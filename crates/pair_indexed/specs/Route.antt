@@ -24,9 +24,9 @@ use Rattle.pair_index.specs.declared.Best.{Best}
 use Rattle.pair_index.specs.Nodes.{node-at, Removes}
 use Rattle.pair_index.specs.Nodes as index
 use Rattle.pair_index.specs.Index.{pairOf, leaf-of, Indexed, Finite, Noted, Query, KeyOf, Answers}
-use Rattle.pair_heap.specs.Heap.{Heaps, coded, Sets}
+use Rattle.pair_heap.specs.Heap.{Heaps, coded, Enters, Sets}
 use Rattle.pair_heap.specs.Heap as heap
-use Rattle.pair_owners.specs.Tables.{mark-at, order-at, position-at, group-at, cursor-at, slot-at, Ordered, GroupRuns}
+use Rattle.pair_owners.specs.Tables.{mark-at, order-at, position-at, group-at, cursor-at, slot-at, OneDirection, Ordered, GroupRuns, GroupOfDirection}
 use Rattle.pair_owners.specs.Owners.{Owners, without}
 use Rattle.pair_owners.proofs.Seats.{seated}
 
@@ -83,6 +83,7 @@ pub record Ground (l : List End) (w : List ℕ) (d height slots limit : ℕ) (or
   pub fixed : Fixed w d order pos group
   pub ordered : Ordered order pos d
   pub runs : GroupRuns l order group d
+  pub whole : GroupOfDirection w d order group d
 
 -- The pair P s of each slot s, and its owner: an owner's pair is at or before all that the owner still has. The pair of the slot `but` is still to come.
 pub record Filled (n : Node) (d slots limit : ℕ) (used past : ℕ → Bool) (slot owner : ℕ → ℕ) (P : ℕ → RankedPair) (but : ℕ) : Type 0 where
@@ -109,6 +110,13 @@ pub record Owning (l : List End) (w : List ℕ) (d height slots limit : ℕ) (pa
   pub filled : Filled (nodeOf l) d slots limit (taken-in w d) past slot owner P but
   pub heaped : Heaped w d slots owner P but
   pub indexed : Indexed w (d * indexFrom) (2 ^ height) l (taken-in w d) (seated order d)
+
+-- The heap never holds a third active owner of a direction: no three slots have entries of owners whose directions are one, bit for bit.
+abbrev pub NoThird : List ℕ → ℕ → ℕ → Type 0
+NoThird w d slots =
+    (s t u a b c : ℕ) → s < t → t < u → u < slots
+    → Enters w (d * heapFrom) slots s a → Enters w (d * heapFrom) slots t b → Enters w (d * heapFrom) slots u c
+    → OneDirection w d a b → OneDirection w d b c → ⊥
 
 -- ---- what the functions ask and give
 
@@ -166,9 +174,11 @@ pub record Takings (w w′ : List ℕ) (d height slots limit n i j : ℕ) : Type
   pub owning : (l : List End) → Owning l w d height slots limit (taken-in w d) slots → Owning l w′ d height slots limit (taken-in w′ d) slots
   pub pairs : pairs-in w′ d ≡ set (set (pairs-in w d) (n + n) i) (n + n + 1) j
   pub marks : marks-in w′ d ≡ set (set (marks-in w d) i 1) j 1
+  pub few : NoThird w′ d slots
   pub kept : Changes w w′ (d * pairsFrom) (d * noteFrom)
 
 -- all owners' pairs are in the heap, and no end is taken
 pub record RouteReady (w : List ℕ) (d height slots limit : ℕ) : Type 0 where
   pub owning : Owning (endsIn w d) w d height slots limit (taken-in w d) slots
   pub unmarked : marks-in w d ≡ replicate d 0
+  pub few : NoThird w d slots

@@ -17,7 +17,7 @@ use Rattle.pair_index.specs.Search.{round-at}
 use Rattle.pair_index.specs.Index.{Indexed, Finite, Noted, KeyOf}
 use Rattle.pair_all_directions.specs.Around.{Every, round-of}
 use Rattle.pair_heap.specs.Heap.{node-at}
-use Rattle.pair_owners.specs.Tables.{order-at, group-at, cursor-at, slot-at, TablesSorted, GroupRuns, Started}
+use Rattle.pair_owners.specs.Tables.{order-at, group-at, cursor-at, slot-at, TablesSorted, GroupRuns, GroupOfDirection, Started}
 use Rattle.pair_owners.proofs.Seats.{seated}
 use Rattle.pair_indexed.specs.declared.Size.{Size}
 use Rattle.pair_indexed.specs.Route.{Sized, marks-in}
@@ -40,12 +40,13 @@ pub record Fits (n : ℕ) (s : Size) : Type 0 where
 pub record Arranged (w : List ℕ) (d m : ℕ) : Type 0 where
   pub sorted : TablesSorted w d
   pub runs : GroupRuns (endsIn w d) (order-at w d) (group-at w d) d
+  pub whole : GroupOfDirection w d (order-at w d) (group-at w d) d
   pub own : ℕ → ℕ
   pub started : Started (endsIn w d) (order-at w d) (group-at w d) (cursor-at w d) (slot-at w d) own d d m
 
 -- how many ends it asks at the least to look whether all directions are in the disk
 abbrev pub notedFrom : ℕ
-notedFrom = 128
+notedFrom = 48
 
 -- it is noted whether all directions are in the disk; among few ends that is not looked at, and noted as if not
 pub record Notes (w w′ : List ℕ) (d : ℕ) : Type 0 where

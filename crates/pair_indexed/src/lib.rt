@@ -49,7 +49,7 @@ fn tree_for(n: usize) -> Size
 }
 
 // From so many ends on it is worth a look whether all directions are in the disk.
-const NOTED: usize = 128;
+const NOTED: usize = 48;
 
 // It is noted whether all directions are in the disk, for which the index has a better bound; among few ends it is not looked at.
 fn note(w: &mut [u64], d: usize)

@@ -1,6 +1,6 @@
 -- The angle of a direction by the cases of the code, and the turns of writing the keys: the three words of one end more are written, and those of the ends
 -- before it stay, since each end has three words of its own behind all that is read.
-use Prim.Native.Nat.{ℕ, _+_, _-_, _*_, _^_, _≤_, _<_}
+use Prim.Native.Nat.{ℕ, _+_, _-_, _*_, _/_, _^_, _≤_, _<_}
 use mathlib.Core.Path.{_≡_, sym, _∙_, ap, ap₂}
 use mathlib.Core.Bool.{true, false}
 use mathlib.Core.List.{List}
@@ -29,13 +29,13 @@ module _ (x y : Float) {a b : Float} (p : a ≡ size-of x) (q : b ≡ size-of y)
   unfolding share-of
   share = ap₂ (λ (u v : Float). div binary64 x (add binary64 u v)) p q
 
-  pub angle-lower : {r : ℕ} → lt y nought ≡ true → r ≡ key (add binary64 three (div binary64 x (add binary64 a b))) → r ≡ angle-toward x y
+  pub angle-lower : {r : ℕ} → lt y nought ≡ true → r ≡ key (add binary64 three (div binary64 x (add binary64 a b))) / 2 → r ≡ angle-toward x y
   unfolding angle-toward
-  angle-lower h e = e ∙ ap (λ (t : Float). key (add binary64 three t)) share ∙ chosen (lt y nought) _ _ h
+  angle-lower h e = e ∙ ap (λ (t : Float). key (add binary64 three t) / 2) share ∙ chosen (lt y nought) _ _ h
 
-  pub angle-upper : {r : ℕ} → lt y nought ≡ false → r ≡ key (sub binary64 unity (div binary64 x (add binary64 a b))) → r ≡ angle-toward x y
+  pub angle-upper : {r : ℕ} → lt y nought ≡ false → r ≡ key (sub binary64 unity (div binary64 x (add binary64 a b))) / 2 → r ≡ angle-toward x y
   unfolding angle-toward
-  angle-upper h e = e ∙ ap (λ (t : Float). key (sub binary64 unity t)) share ∙ other (lt y nought) _ _ h
+  angle-upper h e = e ∙ ap (λ (t : Float). key (sub binary64 unity t) / 2) share ∙ other (lt y nought) _ _ h
 
 pub angle-none : {a b : Direction} → a ≡ b → a ≡ Absent → 2 ^ 64 - 1 ≡ angle-along b
 unfolding angle-along

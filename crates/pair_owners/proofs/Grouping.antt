@@ -1,8 +1,8 @@
 -- The groups and the first owners, made position by position. An end joins its predecessor's group where the two are alike, so that all of a group are; the first
--- three of a group have a slot each, in the order of the positions.
+-- two of a group have a slot each, in the order of the positions.
 use Prim.Native.Nat.{ℕ, _+_, _-_, _≤_, _<_}
 use mathlib.Core.Path.{_≡_, refl, sym, _∙_, ap, subst}
-use mathlib.Core.Bool.{true}
+use mathlib.Core.Bool.{true, false}
 use mathlib.Core.Logic.{_⊎_, inl, inr, ⊎-elim}
 use mathlib.Core.List.{List}
 use native.Mathlib.Omega.{arith}
@@ -12,14 +12,20 @@ use Rattle.pair_laws.proofs.Order.{tf}
 use Rattle.pair_laws.proofs.Owners.{There, alike-trans}
 use Rattle.pair_tree.specs.Flat.{changed}
 use Rattle.pair_tree.proofs.Flat.{same-or, below-or}
-use Rattle.pair_owners.specs.Tables.{owners, Ordered, Like, GroupRuns, Started}
+use Rattle.pair_owners.specs.Tables.{owners, Ordered, OneDirection, Together, Like, GroupRuns, GroupOfDirection, Started}
 use Rattle.pair_owners.specs.Owners.{leads, tally, Owners}
-use Rattle.pair_owners.proofs.Tally.{tally-run}
-use Rattle.pair_owners.proofs.Next.{is-leads, same-at, same-past}
+use Rattle.pair_owners.proofs.Tally.{tally-run, tally-within}
+use Rattle.pair_owners.proofs.Next.{leads-is, is-leads, same-at, same-past}
 
 like-trans : {l : List End} {a b e : ℕ} → Like l a b → Like l b e → Like l a e
 like-trans {l} {a} {b} {e} p q =
     record { lower = omega (arith, p .lower, q .lower); first = p .first; second = q .second; alike = alike-trans l a b e (p .alike) (q .alike) }
+
+pub same-sym : {w : List ℕ} {d a e : ℕ} → OneDirection w d a e → OneDirection w d e a
+same-sym s = record { first = s .second; second = s .first; x = sym (s .x); y = sym (s .y) }
+
+pub same-trans : {w : List ℕ} {d a b e : ℕ} → OneDirection w d a b → OneDirection w d b e → OneDirection w d a e
+same-trans s t = record { first = s .first; second = t .second; x = s .x ∙ t .x; y = s .y ∙ t .y }
 
 -- position n of an order, once it is reached
 module _ (l : List End) (order pos : ℕ → ℕ) (d n : ℕ) (ordered : Ordered order pos d) (n-in : n < d) where
@@ -177,6 +183,26 @@ module _ (l : List End) (order pos : ℕ → ℕ) (d n : ℕ) (ordered : Ordered
               let o : own′ x ≡ order n = same-at own m (order n) x c in
               (ap slot′ o ∙ slot-here ∙ e ∙ sym c, (n, omega arith, o), subst (λ (v : ℕ). There l v) (sym o) t)
 
+-- Ends of one direction are of one group: where one stands before the end at position n, the end right before that one is of the same direction, and of the group
+-- that the end joins.
+module _ {w : List ℕ} {d n : ℕ} {order : ℕ → ℕ} (group group′ : ℕ → ℕ) (z : Together w d order) (n-in : n < d) (same : (p : ℕ) → p < n → group′ (order p) ≡ group (order p))
+    (joins : OneDirection w d (order (n - 1)) (order n) → order (n - 1) < order n → group′ (order n) ≡ group (order (n - 1))) where
+  pub whole-next : GroupOfDirection w d order group n → GroupOfDirection w d order group′ (n + 1)
+  whole-next whole p q h k t =
+      ⊎-elim
+      (λ (c : q < n). same p (omega arith) ∙ whole p q h c t ∙ sym (same q c))
+      (λ (c : n ≤ q). let e : q ≡ n = omega arith in same p (omega arith) ∙ here (omega arith) (subst (λ (x : ℕ). OneDirection w d (order p) (order x)) e t) ∙ ap (λ (x : ℕ). group′ (order x)) (sym e))
+      (below-or q n)
+    where
+      here : p < n → OneDirection w d (order p) (order n) → group (order p) ≡ group′ (order n)
+      here l s =
+          let b = z p n l n-in s in
+          ⊎-elim
+          (λ (c : p < n - 1). whole p (n - 1) c (omega arith) (same-trans s (same-sym (b .0))))
+          (λ (c : n - 1 ≤ p). let e : p ≡ n - 1 = omega arith in ap (λ (x : ℕ). group (order x)) e)
+          (below-or p (n - 1))
+          ∙ sym (joins (b .0) (b .1))
+
 -- no position yet
 pub runs-start : (l : List End) (order group : ℕ → ℕ) → GroupRuns l order group 0
 runs-start l order group =
@@ -223,8 +249,18 @@ module _ {l : List End} {d m : ℕ} {order pos group cursor slot own : ℕ → �
         ahead = λ e h i. omega (arith, held-of e h i .1, cursor-of e h);
         after = λ e t f n. later e t n;
         led = λ e t f n. subst (λ (c : ℕ). owners ≤ tally (leads d order group slot nobody (group e)) c) (sym (cursor-of e (small e t))) (enough e t n);
+        most = λ g. tally-within (leads d order group slot nobody g) g owners d (λ p h t. first-of g p h (leads-is d order group slot nobody g p t));
       }
     where
+      -- an owner is one of the first in its group
+      first-of : (g p : ℕ) → p < d → (group (order p) ≡ g) × (slot (order p) < d) × (nobody (order p) ≡ false) → (g ≤ p) × (p < g + owners)
+      first-of g p h a =
+          ⊎-elim
+          (λ (x : slot (order p) ≡ d). absurd (omega (arith, x, a .1)))
+          (λ (x : (slot (order p) < m) × (own (slot (order p)) ≡ order p) × (p < group (order p) + owners)).
+          (omega (arith, a .0, r .below p h), omega (arith, a .0, x .2)))
+          (k .held p h)
+
       later : (e : ℕ) → There l e → (slot e < d → ⊥) → cursor (group e) ≤ pos e
       later e t n =
           let h = small e t in

@@ -6,3 +6,4 @@ pub mod Seats
 pub mod Turns
 pub mod Likeness
 pub mod Angles
+pub mod Together

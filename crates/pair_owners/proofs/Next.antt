@@ -16,8 +16,8 @@ use Rattle.pair_laws.proofs.Owners.{There, Alike}
 use Rattle.pair_tree.specs.Flat.{changed}
 use Rattle.pair_tree.proofs.Flat.{same-or, below-or}
 use Rattle.pair_owners.specs.Tables.{owners, Ordered, GroupRuns}
-use Rattle.pair_owners.specs.Owners.{tally, without, leads, Owners}
-use Rattle.pair_owners.proofs.Tally.{tally-le, tally-but, tally-more, tally-next, tally-two}
+use Rattle.pair_owners.specs.Owners.{tally, without, leads, KeepsSlot, Owners}
+use Rattle.pair_owners.proofs.Tally.{tally-le, tally-but, tally-less, tally-more, tally-next, tally-two, tally-three}
 
 -- ---- tests
 
@@ -38,7 +38,7 @@ pub is-without : (gone : ℕ → Bool) (x e : ℕ) → (e ≡ x → ⊥) → gon
 is-without gone x e h k = rw (ne-eqb e x h, k)
 
 module _ (d : ℕ) (order group slot : ℕ → ℕ) (gone : ℕ → Bool) (g p : ℕ) where
-  leads-is : leads d order group slot gone g p ≡ true → (group (order p) ≡ g) × (slot (order p) < d) × (gone (order p) ≡ false)
+  pub leads-is : leads d order group slot gone g p ≡ true → (group (order p) ≡ g) × (slot (order p) < d) × (gone (order p) ≡ false)
   leads-is h =
       let r = and-right (eqb (group (order p)) g) _ h in (
         eqb-true (group (order p)) g (and-left (eqb (group (order p)) g) _ h),
@@ -48,6 +48,13 @@ module _ (d : ℕ) (order group slot : ℕ → ℕ) (gone : ℕ → Bool) (g p :
 
   pub is-leads : group (order p) ≡ g → slot (order p) < d → gone (order p) ≡ false → leads d order group slot gone g p ≡ true
   is-leads a b c = rw (eq-eqb (group (order p)) g a, lt-ltb (slot (order p)) d b, c)
+
+-- an end less has its slot: no group has more owners for it
+pub fewer : (d : ℕ) (order group slot : ℕ → ℕ) (gone : ℕ → Bool) (x g n : ℕ)
+    → tally (leads d order group slot (without gone x) g) n ≤ tally (leads d order group slot gone g) n
+fewer d order group slot gone x g n =
+    tally-le (leads d order group slot (without gone x) g) (leads d order group slot gone g) n (λ p l t.
+    let a = leads-is d order group slot (without gone x) g p t in is-leads d order group slot gone g p (a .0) (a .1) (without-not gone x (order p) (a .2) .1))
 
 -- ---- an end that is taken hands on its slot
 
@@ -93,6 +100,7 @@ module _ {l : List End} {d : ℕ} {order pos group cursor slot own : ℕ → ℕ
               (λ (q : group e ≡ group x). absurd (ends e t f n q w))
               (λ (q : group e ≡ group x → ⊥). le-trans (s .led e t f n) (stays slot (group e) (cursor (group e)) (cursor-in e t f n) q (λ _ _. refl)))
               (same-or (group e) (group x));
+          most = λ h. le-trans (fewer d order group slot gone x h d) (s .most h);
         }
       where
         le-trans : {a b c : ℕ} → a ≤ b → b ≤ c → a ≤ c
@@ -189,6 +197,7 @@ module _ {l : List End} {d : ℕ} {order pos group cursor slot own : ℕ → ℕ
                 (λ (q : group e ≡ group x). led-here e t f n q)
                 (λ (q : group e ≡ group x → ⊥). led-other e t f n q)
                 (same-or (group e) (group x));
+            most = λ h. ⊎-elim (λ (q : h ≡ group x). most-here h q) (λ (q : h ≡ group x → ⊥). most-other h q) (same-or h (group x));
           }
         where
           le-trans : {a b c : ℕ} → a ≤ b → b ≤ c → a ≤ c
@@ -246,6 +255,42 @@ module _ {l : List End} {d : ℕ} {order pos group cursor slot own : ℕ → ℕ
               (le-trans (s .led e t f (idle e n))
               (stays slot′ (group e) (cursor (group e)) (cursor-in e t f (idle e n)) q (λ a w. slot-past a (λ b. w (ap group b ∙ g)))))
 
+          -- an owner of h but o was one before
+          kept : (h p : ℕ) → p < d → (p ≡ stop → ⊥) → leads d order group slot′ (without gone x) h p ≡ true → leads d order group slot (without gone x) h p ≡ true
+          kept h p l n t =
+              let a = leads-is d order group slot′ (without gone x) h p t in
+              let past : order p ≡ o → ⊥ = (λ w. n (sym (z .back p l) ∙ ap pos w ∙ z .back stop stop-in)) in
+              is-leads d order group slot (without gone x) h p (a .0) (subst (λ (v : ℕ). v < d) (slot-past (order p) past) (a .1)) (a .2)
+
+          -- x has gone from its group, and o has come
+          most-here : (h : ℕ) → h ≡ group x → tally (leads d order group slot′ (without gone x) h) d ≤ owners
+          most-here h q =
+              let f = leads d order group slot gone h in
+              let f₁ = leads d order group slot (without gone x) h in
+              let f′ = leads d order group slot′ (without gone x) h in
+              let at = z .pos-in x x-in in
+              let xs = z .seat x x-in in
+              let a = tally-but f′ f₁ d stop (λ p l n t. kept h p l n t) in
+              let b =
+              tally-less f₁ f d (pos x) at (gone-x h)
+              (is-leads d order group slot gone h (pos x) (ap group xs ∙ sym q) (subst (λ (v : ℕ). slot v < d) (sym xs) x-owner) (ap gone xs ∙ x-holds))
+              (λ p l t. let u = leads-is d order group slot (without gone x) h p t in is-leads d order group slot gone h p (u .0) (u .1) (without-not gone x (order p) (u .2) .1)) in
+              omega (arith, a, b, s .most h)
+            where
+              gone-x : (h : ℕ) → leads d order group slot (without gone x) h (pos x) ≡ false
+              gone-x h = ⊎-elim
+                  (λ (t : leads d order group slot (without gone x) h (pos x) ≡ true).
+                  absurd (without-not gone x (order (pos x)) (leads-is d order group slot (without gone x) h (pos x) t .2) .0 (z .seat x x-in)))
+                  (λ (t : leads d order group slot (without gone x) h (pos x) ≡ false). t)
+                  (two (leads d order group slot (without gone x) h (pos x)))
+
+          most-other : (h : ℕ) → (h ≡ group x → ⊥) → tally (leads d order group slot′ (without gone x) h) d ≤ owners
+          most-other h q =
+              le-trans
+              (tally-le (leads d order group slot′ (without gone x) h) (leads d order group slot (without gone x) h) d (λ p l t.
+              kept h p l (λ w. q (sym (leads-is d order group slot′ (without gone x) h p t .0) ∙ ap (λ (v : ℕ). group (order v)) w ∙ g)) t))
+              (le-trans (fewer d order group slot gone x h d) (s .most h))
+
 -- an end that was no owner has no slot to hand on
 pub no-slot : {l : List End} {d : ℕ} {order pos group cursor slot own : ℕ → ℕ} {used gone : ℕ → Bool} → Owners l d order pos group cursor slot own used gone
     → (x : ℕ) → used x ≡ true → (slot x < d → ⊥) → Owners l d order pos group cursor slot own used (without gone x)
@@ -264,6 +309,7 @@ no-slot {l} {d} {order} {pos} {group} {cursor} {slot} {own} {used} {gone} s x u 
           is-leads d order group slot (without gone x) (group e) p (w .0) (w .1)
           (is-without gone x (order p) (λ v. n (subst (λ (c : ℕ). slot c < d) v (w .1))) (w .2))) in
           omega arith;
+      most = λ g. let a = fewer d order group slot gone x g d in omega (arith, a, s .most g);
     }
   where
     old : (e : ℕ) → (e ≡ x → ⊥) → without gone x e ≡ true → gone e ≡ true
@@ -279,10 +325,32 @@ more-used {l} {d} {order} {pos} {group} {cursor} {slot} {own} {used} {used′} s
       ahead = s .ahead;
       after = λ e t u. s .after e t (free e u);
       led = λ e t u. s .led e t (free e u);
+      most = s .most;
     }
   where
     free : (e : ℕ) → used′ e ≡ false → used e ≡ false
     free e u = ⊎-elim (λ (y : used e ≡ true). absurd (tf (f e y) u)) (λ (y : used e ≡ false). y) (two (used e))
+
+-- ---- no group has a third owner
+
+module _ {l : List End} {d : ℕ} {order pos group cursor slot own : ℕ → ℕ} {used gone : ℕ → Bool} (z : Ordered order pos d)
+    (s : Owners l d order pos group cursor slot own used gone) where
+  pub no-third-owner : (a b c : ℕ) → KeepsSlot d slot gone a → KeepsSlot d slot gone b → KeepsSlot d slot gone c → (b ≡ a → ⊥) → (c ≡ a → ⊥) → (c ≡ b → ⊥)
+      → group b ≡ group a → group c ≡ group a → ⊥
+  no-third-owner a b c x y w p q r f g =
+      let k =
+      tally-three (leads d order group slot gone (group a)) d (pos a) (pos b) (pos c) (z .pos-in a (x .inside)) (z .pos-in b (y .inside)) (z .pos-in c (w .inside))
+      (apart b a (y .inside) (x .inside) p) (apart c a (w .inside) (x .inside) q) (apart c b (w .inside) (y .inside) r)
+      (leading a x refl) (leading b y f) (leading c w g) in
+      omega (arith, k, s .most (group a))
+    where
+      apart : (e h : ℕ) → e < d → h < d → (e ≡ h → ⊥) → pos e ≡ pos h → ⊥
+      apart e h i j n m = n (sym (z .seat e i) ∙ ap order m ∙ z .seat h j)
+
+      leading : (e : ℕ) → KeepsSlot d slot gone e → group e ≡ group a → leads d order group slot gone (group a) (pos e) ≡ true
+      leading e t m =
+          let v = z .seat e (t .inside) in
+          is-leads d order group slot gone (group a) (pos e) (ap group v ∙ m) (subst (λ (o : ℕ). slot o < d) (sym v) (t .owner)) (ap gone v ∙ t .kept)
 
 -- ---- the owners lead the others
 

@@ -1,10 +1,13 @@
 -- How many of the numbers below n pass a test.
-use Prim.Native.Nat.{ℕ, zero, suc, _+_, _≤_, _<_}
+use Prim.Native.Nat.{ℕ, zero, suc, _+_, _-_, _≤_, _<_}
 use mathlib.Core.Path.{_≡_, refl, _∙_, ap}
-use mathlib.Core.Bool.{Bool, true, false}
+use lib.Dec.{eqb}
+use borrow.Author.Tests.{eq-eqb, ne-eqb}
+use mathlib.Core.Bool.{Bool, true, false, not, _&&_}
 use mathlib.Core.Logic.{_⊎_, ⊎-elim}
 use native.Mathlib.Omega.{arith}
 use Rattle.rules.specs.Lists.{one}
+use Rattle.pair_laws.proofs.Order.{and-right}
 use Rattle.pair_tree.proofs.Flat.{same-or}
 use Rattle.pair_owners.specs.Owners.{tally}
 
@@ -36,7 +39,35 @@ module _ (f g : ℕ → Bool) where
       (λ (e : n ≡ x → ⊥). omega (arith, one-le (f n) (g n) (h n (omega arith) e), tally-but n x (λ p l. h p (omega arith))))
       (same-or n x)
 
+  -- what passes f passes g, and x passes g alone
+  pub tally-less : (n x : ℕ) → x < n → f x ≡ false → g x ≡ true → ((p : ℕ) → p < n → f p ≡ true → g p ≡ true) → tally f n + 1 ≤ tally g n
+  unfolding tally
+  tally-less zero x h a b k = absurd (omega arith)
+  tally-less (suc n) x h a b k =
+      ⊎-elim
+      (λ (e : n ≡ x).
+      let u : one (f n) ≡ 0 = ap (λ (y : ℕ). one (f y)) e ∙ ap one a in
+      let v : one (g n) ≡ 1 = ap (λ (y : ℕ). one (g y)) e ∙ one-true b in
+      omega (arith, tally-le n (λ p l. k p (omega arith))))
+      (λ (e : n ≡ x → ⊥).
+      omega (arith, one-le (f n) (g n) (k n (omega arith)), tally-less n x (omega arith) a b (λ p l. k p (omega arith))))
+      (same-or n x)
+
 module _ (f : ℕ → Bool) where
+  -- k at most pass, since they are among k numbers
+  pub tally-within : (a k n : ℕ) → ((p : ℕ) → p < n → f p ≡ true → (a ≤ p) × (p < a + k)) → tally f n ≤ k
+  unfolding tally
+  tally-within a k zero h = omega arith
+  tally-within a k (suc n) h = go (f n) refl (tally-within a k n) (tally-within a (n - a) n)
+    where
+      go : (c : Bool) → f n ≡ c → (((p : ℕ) → p < n → f p ≡ true → (a ≤ p) × (p < a + k)) → tally f n ≤ k)
+          → (((p : ℕ) → p < n → f p ≡ true → (a ≤ p) × (p < a + (n - a))) → tally f n ≤ n - a) → one (f n) + tally f n ≤ k
+      go false e ih ih′ = let z : one (f n) ≡ 0 = ap one e in omega (arith, ih (λ p l. h p (omega arith)))
+      go true e ih ih′ =
+          let t = h n (omega arith) e in
+          let i = ih′ (λ p l y. (h p (omega arith) y .0, omega (arith, h p (omega arith) y .0))) in
+          omega (arith, one-most (f n), t .0, t .1, i)
+
   pub tally-more : (n m : ℕ) → n ≤ m → tally f n ≤ tally f m
   unfolding tally
   tally-more n zero h = let e : n ≡ 0 = omega arith in rw e (omega arith)
@@ -77,3 +108,26 @@ module _ (f : ℕ → Bool) where
       let e : a + suc k ≡ a + k + 1 = omega arith in
       let i = tally-run a k (λ p x y. h p x (omega arith)) in
       rw (e, tally-next (a + k) (h (a + k) (omega arith) (omega arith))) (omega arith)
+
+  -- three that pass
+  pub tally-three : (n a b c : ℕ) → a < n → b < n → c < n → (b ≡ a → ⊥) → (c ≡ a → ⊥) → (c ≡ b → ⊥) → f a ≡ true → f b ≡ true → f c ≡ true → 3 ≤ tally f n
+  tally-three n a b c i j k x y z p q r =
+      let f₁ = but a f in
+      let f₂ = but b f₁ in
+      let f₃ = but c f₂ in
+      let u = tally-less f₁ f n a i (but-here a f) p (but-is a f n) in
+      let v = tally-less f₂ f₁ n b j (but-here b f₁) (but-past a f b x q) (but-is b f₁ n) in
+      let w = tally-less f₃ f₂ n c k (but-here c f₂) (but-past b f₁ c z (but-past a f c y r)) (but-is c f₂ n) in
+      omega arith
+    where
+      but : ℕ → (ℕ → Bool) → ℕ → Bool
+      but x g e = not (eqb e x) && g e
+
+      but-here : (x : ℕ) (g : ℕ → Bool) → but x g x ≡ false
+      but-here x g = rw (eq-eqb x x refl)
+
+      but-past : (x : ℕ) (g : ℕ → Bool) (e : ℕ) → (e ≡ x → ⊥) → g e ≡ true → but x g e ≡ true
+      but-past x g e h k = rw (ne-eqb e x h, k)
+
+      but-is : (x : ℕ) (g : ℕ → Bool) (n e : ℕ) → e < n → but x g e ≡ true → g e ≡ true
+      but-is x g n e l h = and-right (not (eqb e x)) (g e) h

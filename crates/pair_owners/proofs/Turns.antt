@@ -8,13 +8,13 @@ use native.Mathlib.Omega.{arith}
 use lib.Dec.{eqb}
 use lib.ListN.{length, getD, set, take}
 use lib.Seq.{getD-set-same, getD-set-other, getD-take, ext-getD, length-take-le}
-use borrow.Author.Tests.{eq-eqb, ne-eqb}
+use borrow.Author.Tests.{eq-eqb, ne-eqb, lt-ltb}
 use Rattle.rules.specs.declared.Direction.the-variants.{Toward}
 use Rattle.rules.specs.Plane.{float}
 use Rattle.rules.specs.Selecting.{End}
 use Rattle.pair_laws.specs.Ends.{there}
 use Rattle.pair_laws.proofs.Owners.{There}
-use Rattle.pair_ends.specs.Blocks.{pairsFrom, orderFrom, positionsFrom, sortKeysFrom, groupsFrom, cursorsFrom, slotsFrom, heapFrom}
+use Rattle.pair_ends.specs.Blocks.{piecesFrom, pairsFrom, orderFrom, positionsFrom, sortKeysFrom, groupsFrom, cursorsFrom, slotsFrom, heapFrom}
 use Rattle.rules.specs.Refusals.{endRoom}
 use Rattle.pair_ends.specs.Ends.{EndsRoom, endsIn}
 use Rattle.pair_ends.proofs.Reading.{direction-toward, direction-absent, ends-in-kept}
@@ -23,8 +23,8 @@ use Rattle.pair_tree.specs.Words.{Changes}
 use Rattle.pair_tree.proofs.Flat.{below-or}
 use Rattle.pair_tree.proofs.Words.{changes-none, changes-then, changes-wider, changes-set}
 use Rattle.pair_index.proofs.Leaves.{direction-is, is-there}
-use Rattle.pair_owners.specs.Tables.{mark-at, order-at, position-at, group-at, cursor-at, slot-at, owners, TablesSorted, Like, GroupRuns, Grouped, Slotted, Started, Groups, Due}
-use Rattle.pair_owners.proofs.Grouping.{runs-next, started-none, started-one, runs-start, started-start}
+use Rattle.pair_owners.specs.Tables.{mark-at, order-at, position-at, group-at, cursor-at, slot-at, owners, OneDirection, Together, TablesSorted, Like, GroupRuns, GroupOfDirection, alike-at, group-of, Grouped, Slotted, Started, Groups, Due}
+use Rattle.pair_owners.proofs.Grouping.{runs-next, whole-next, started-none, started-one, runs-start, started-start}
 
 -- ---- what a write elsewhere keeps
 
@@ -40,6 +40,16 @@ take-kept {w} {w′} {a} n c h k =
 
 pub ends-kept : {w w′ : List ℕ} {d a b : ℕ} → Changes w w′ a b → d * pairsFrom ≤ a → EndsRoom w d → endsIn w′ d ≡ endsIn w d
 ends-kept {w} {w′} {d} c h r = ends-in-kept w w′ d (take-kept (d * pairsFrom) c h (omega (arith, r .long)))
+
+-- one direction, by the words of another slice
+pub same-words : {w w′ : List ℕ} {d : ℕ} → ((i : ℕ) → i < d * piecesFrom → getD w′ i 0 ≡ getD w i 0) → (a e : ℕ) → a < d → e < d → OneDirection w d a e → OneDirection w′ d a e
+same-words {w} {w′} {d} f a e h k s =
+    record {
+      first = f a (omega arith) ∙ s .first;
+      second = f e (omega arith) ∙ s .second;
+      x = f (d + a * 2) (omega arith) ∙ s .x ∙ sym (f (d + e * 2) (omega arith));
+      y = f (d + a * 2 + 1) (omega arith) ∙ s .y ∙ sym (f (d + e * 2 + 1) (omega arith));
+    }
 
 pub sorted-kept : {w w′ : List ℕ} {d a b : ℕ} → Changes w w′ a b → d * sortKeysFrom ≤ a → TablesSorted w d → TablesSorted w′ d
 sorted-kept {w} {w′} {d} c h s =
@@ -88,11 +98,28 @@ module _ (w : List ℕ) (d : ℕ) (room : EndsRoom w d) where
             ∙ sym (direction-is room e j);
       }
 
+-- an end of its predecessor's direction, and higher, is of its group
+group-joined : (w : List ℕ) (d p : ℕ) → 0 < p → OneDirection w d (order-at w d (p - 1)) (order-at w d p) → order-at w d (p - 1) < order-at w d p
+    → group-of w d p ≡ group-at w d (order-at w d (p - 1))
+unfolding group-of alike-at
+group-joined w d p h s l =
+    let a = order-at w d (p - 1) in
+    let e = order-at w d p in
+    rw (
+      lt-ltb 0 p h,
+      eq-eqb (getD w a 0) 1 (s .first),
+      eq-eqb (getD w e 0) 1 (s .second),
+      eq-eqb (getD w (d + a * 2) 0) (getD w (d + e * 2) 0) (s .x),
+      eq-eqb (getD w (d + a * 2 + 1) 0) (getD w (d + e * 2 + 1) 0) (s .y),
+      lt-ltb a e l,
+    )
+
 -- ---- the turns of grouping
 
 pub record Grouping (w₀ w : List ℕ) (d p m : ℕ) : Type 0 where
   pub within : p ≤ d
   pub runs : GroupRuns (endsIn w₀ d) (order-at w₀ d) (group-at w d) p
+  pub whole : GroupOfDirection w₀ d (order-at w₀ d) (group-at w d) p
   pub own : ℕ → ℕ
   pub started : Started (endsIn w₀ d) (order-at w₀ d) (group-at w d) (cursor-at w d) (slot-at w d) own d p m
   pub frame : Changes w₀ w (d * groupsFrom) (d * heapFrom)
@@ -102,6 +129,7 @@ grouping-start w d =
     record {
       within = omega arith;
       runs = runs-start (endsIn w d) (order-at w d) (group-at w d);
+      whole = λ p q h k. absurd (omega arith);
       own = λ e. e;
       started = started-start (endsIn w d) (order-at w d) (group-at w d) (cursor-at w d) (slot-at w d) (λ e. e) d;
       frame = changes-none w (d * groupsFrom) (d * heapFrom);
@@ -112,6 +140,7 @@ grouping-stop {w₀} {w} {d} {p} {m} s h =
     let e : p ≡ d = omega (arith, s .within) in
     record {
       runs = subst (λ (n : ℕ). GroupRuns (endsIn w₀ d) (order-at w₀ d) (group-at w d) n) e (s .runs);
+      whole = subst (λ (n : ℕ). GroupOfDirection w₀ d (order-at w₀ d) (group-at w d) n) e (s .whole);
       own = s .own;
       started = subst (λ (n : ℕ). Started (endsIn w₀ d) (order-at w₀ d) (group-at w d) (cursor-at w d) (slot-at w d) (s .own) d n m) e (s .started);
       kept = s .frame;
@@ -127,7 +156,7 @@ module _ {w₀ w : List ℕ} {d p m : ℕ} (z : TablesSorted w₀ d) (s : Groupi
   order-same : (q : ℕ) → q < d → order-at w d q ≡ order-at w₀ d q
   order-same q h = s .frame .below (d * orderFrom + q) (omega arith)
 
-  module _ (h : p < d) (g : ℕ) (grouped : Grouped w d p g) where
+  module _ (h : p < d) (g : ℕ) (grouped : (g ≡ group-of w d p) × Grouped w d p g) where
     abbrev e : ℕ
     e = order-at w d p
 
@@ -151,7 +180,7 @@ module _ {w₀ w : List ℕ} {d p m : ℕ} (z : TablesSorted w₀ d) (s : Groupi
           subst (λ (l : List End). Like l (order-at w₀ d (p - 1)) e₀) ends-same
               (subst (λ (v : ℕ). Like (endsIn w d) v e₀) o (subst (λ (v : ℕ). Like (endsIn w d) (order-at w d (p - 1)) v) e-same (x .2))),
         ))
-        grouped
+        (grouped .1)
 
     pub grouping-low : g ≤ p
     grouping-low = ⊎-elim
@@ -160,13 +189,13 @@ module _ {w₀ w : List ℕ} {d p m : ℕ} (z : TablesSorted w₀ d) (s : Groupi
         omega (arith, x .0, x .1, s .runs .below (p - 1) (omega (arith, x .0))))
         joins
 
-    module _ (slot : ℕ) (slotted : Slotted w d p g m slot) where
+    module _ (slot : ℕ) (slotted : Slotted w d p g m slot) (together : Together w₀ d (order-at w₀ d)) where
       -- the three words that are written
       abbrev w₁ : List ℕ
       w₁ = set w (d * groupsFrom + e) g
 
       abbrev w₂ : List ℕ
-      w₂ = set w₁ (d * cursorsFrom + p) (p + 3)
+      w₂ = set w₁ (d * cursorsFrom + p) (p + owners)
 
       abbrev w₃ : List ℕ
       w₃ = set w₂ (d * slotsFrom + e) slot
@@ -175,7 +204,7 @@ module _ {w₀ w : List ℕ} {d p m : ℕ} (z : TablesSorted w₀ d) (s : Groupi
       c₁ = changes-set w (d * groupsFrom + e) g (d * groupsFrom) (d * cursorsFrom) (omega arith) (omega (arith, grouping-in))
 
       c₂ : Changes w₁ w₂ (d * cursorsFrom) (d * slotsFrom)
-      c₂ = changes-set w₁ (d * cursorsFrom + p) (p + 3) (d * cursorsFrom) (d * slotsFrom) (omega arith) (omega arith)
+      c₂ = changes-set w₁ (d * cursorsFrom + p) (p + owners) (d * cursorsFrom) (d * slotsFrom) (omega arith) (omega arith)
 
       c₃ : Changes w₂ w₃ (d * slotsFrom) (d * heapFrom)
       c₃ = changes-set w₂ (d * slotsFrom + e) slot (d * slotsFrom) (d * heapFrom) (omega arith) (omega (arith, grouping-in))
@@ -202,12 +231,12 @@ module _ {w₀ w : List ℕ} {d p m : ℕ} (z : TablesSorted w₀ d) (s : Groupi
           c₃ .below (d * groupsFrom + x) (omega arith) ∙ c₂ .below (d * groupsFrom + x) (omega arith) ∙ getD-set-other w (d * groupsFrom + e) (d * groupsFrom + x) g 0 (λ q. n (omega (arith, q, e-same)))
 
       cursor-here : cursor-at w₃ d p ≡ p + owners
-      cursor-here = c₃ .below (d * cursorsFrom + p) (omega arith) ∙ getD-set-same w₁ (d * cursorsFrom + p) (p + 3) 0 (omega (arith, long, c₁ .long))
+      cursor-here = c₃ .below (d * cursorsFrom + p) (omega arith) ∙ getD-set-same w₁ (d * cursorsFrom + p) (p + owners) 0 (omega (arith, long, c₁ .long))
 
       cursor-past : (x : ℕ) → x < d → (x ≡ p → ⊥) → cursor-at w₃ d x ≡ cursor-at w d x
       cursor-past x i n =
           c₃ .below (d * cursorsFrom + x) (omega arith)
-          ∙ getD-set-other w₁ (d * cursorsFrom + p) (d * cursorsFrom + x) (p + 3) 0 (λ q. n (omega (arith, q)))
+          ∙ getD-set-other w₁ (d * cursorsFrom + p) (d * cursorsFrom + x) (p + owners) 0 (λ q. n (omega (arith, q)))
           ∙ c₁ .beyond (d * cursorsFrom + x) (omega arith)
 
       slot-here : slot-at w₃ d e₀ ≡ slot
@@ -221,6 +250,22 @@ module _ {w₀ w : List ℕ} {d p m : ℕ} (z : TablesSorted w₀ d) (s : Groupi
 
       runs : GroupRuns (endsIn w₀ d) (order-at w₀ d) (group-at w₃ d) (p + 1)
       runs = runs-next (endsIn w₀ d) (order-at w₀ d) (position-at w₀ d) d p (z .order) h (group-at w d) (group-at w₃ d) g group-here group-past (s .runs) joins
+
+      whole : GroupOfDirection w₀ d (order-at w₀ d) (group-at w₃ d) (p + 1)
+      whole =
+          whole-next (group-at w d) (group-at w₃ d) together h
+          (λ q l. group-past (order-at w₀ d q) (z .order .order-in q (omega arith)) (λ x. omega (arith, z .order .back q (omega arith), z .order .back p h, ap (position-at w₀ d) x)))
+          (λ t l. group-here ∙ grouped .0 ∙ follows (before l) t l) (s .whole)
+        where
+          -- position 0 has none before it
+          before : order-at w₀ d (p - 1) < e₀ → 0 < p
+          before l = ⊎-elim (λ (x : 0 < p). x) (λ (x : p ≤ 0). let y : p - 1 ≡ p = omega arith in absurd (omega (arith, ap (order-at w₀ d) y))) (below-or 0 p)
+
+          follows : 0 < p → OneDirection w₀ d (order-at w₀ d (p - 1)) e₀ → order-at w₀ d (p - 1) < e₀ → group-of w d p ≡ group-at w d (order-at w₀ d (p - 1))
+          follows i t l =
+              let o = order-same (p - 1) (omega arith) in
+              let u = same-words (λ k j. s .frame .below k (omega arith)) (order-at w₀ d (p - 1)) e₀ (z .order .order-in (p - 1) (omega arith)) (z .order .order-in p h) t in
+              group-joined w d p i (subst (λ (v : ℕ). OneDirection w d v e) (sym o) (subst (λ (v : ℕ). OneDirection w d (order-at w₀ d (p - 1)) v) (sym e-same) u)) (omega (arith, o, e-same, l)) ∙ ap (group-at w d) o
 
       present : There (endsIn w d) e → There (endsIn w₀ d) e₀
       present t = subst (λ (l : List End). There l e₀) ends-same (subst (λ (v : ℕ). There (endsIn w d) v) e-same t)
@@ -238,6 +283,7 @@ module _ {w₀ w : List ℕ} {d p m : ℕ} (z : TablesSorted w₀ d) (s : Groupi
           (record {
             within = omega arith;
             runs = runs;
+            whole = whole;
             own = s .own;
             started =
                 started-none (endsIn w₀ d) (order-at w₀ d) (position-at w₀ d) d p (z .order) h (group-at w d) (group-at w₃ d) g group-here group-past (s .runs) joins (cursor-at w d)
@@ -249,6 +295,7 @@ module _ {w₀ w : List ℕ} {d p m : ℕ} (z : TablesSorted w₀ d) (s : Groupi
           (record {
             within = omega arith;
             runs = runs;
+            whole = whole;
             own = changed (s .own) m e₀;
             started =
                 started-one (endsIn w₀ d) (order-at w₀ d) (position-at w₀ d) d p (z .order) h (group-at w d) (group-at w₃ d) g group-here group-past (s .runs) joins (cursor-at w d)

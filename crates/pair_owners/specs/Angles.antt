@@ -1,5 +1,5 @@
 -- The keys that the ends are sorted by: where an end's direction stands on the way round, and the two words of the direction.
-use Prim.Native.Nat.{ℕ, _+_, _-_, _*_, _^_, _<_}
+use Prim.Native.Nat.{ℕ, _+_, _-_, _*_, _/_, _^_, _<_}
 use mathlib.Core.Path.{_≡_}
 use mathlib.Core.Bool.{false, cond}
 use mathlib.Core.List.{List}
@@ -25,9 +25,9 @@ size-of x = cond (lt x nought) (sub binary64 nought x) x
 unfoldable pub share-of : Float → Float → Float
 share-of x y = div binary64 x (add binary64 (size-of x) (size-of y))
 
--- the angle of (x, y): the key of a number from 0 to 4 that rises on the way round, or of a NaN
+-- the angle of (x, y): half the key of a number from 0 to 4 that rises on the way round, or of a NaN; it is below the greatest key
 unfoldable pub angle-toward : Float → Float → ℕ
-angle-toward x y = cond (lt y nought) (key (add binary64 three (share-of x y))) (key (sub binary64 unity (share-of x y)))
+angle-toward x y = cond (lt y nought) (key (add binary64 three (share-of x y)) / 2) (key (sub binary64 unity (share-of x y)) / 2)
 
 -- the angle of a direction; where it is absent, the greatest key
 unfoldable pub angle-along : Direction → ℕ

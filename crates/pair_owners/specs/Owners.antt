@@ -1,4 +1,4 @@
--- Which ends are owners, and why they are enough: each free end that is none comes, in its group, after three owners.
+-- Which ends are owners, why they are enough, and how many there are: each free end that is none comes, in its group, after two owners, and no group has a third.
 -- `used` says which ends are taken, `gone` which of these have handed on their slots.
 use Prim.Native.Nat.{ℕ, zero, suc, _+_, _≤_, _<_}
 use mathlib.Core.Path.{_≡_}
@@ -23,6 +23,12 @@ without gone x e = eqb e x || gone e
 abbrev pub leads : ℕ → (ℕ → ℕ) → (ℕ → ℕ) → (ℕ → ℕ) → (ℕ → Bool) → ℕ → ℕ → Bool
 leads d order group slot gone g p = eqb (group (order p)) g && (ltb (slot (order p)) d && not (gone (order p)))
 
+-- the end e is an owner that has not handed on its slot
+pub record KeepsSlot (d : ℕ) (slot : ℕ → ℕ) (gone : ℕ → Bool) (e : ℕ) : Type 0 where
+  pub inside : e < d
+  pub owner : slot e < d
+  pub kept : gone e ≡ false
+
 pub record Owners (l : List End) (d : ℕ) (order pos group cursor slot own : ℕ → ℕ) (used gone : ℕ → Bool) : Type 0 where
   -- an end that has handed on its slot is taken
   pub past : (e : ℕ) → gone e ≡ true → used e ≡ true
@@ -30,6 +36,8 @@ pub record Owners (l : List End) (d : ℕ) (order pos group cursor slot own : �
   pub holds : (e : ℕ) → e < d → slot e < d → gone e ≡ false → own (slot e) ≡ e
   -- an owner comes before the cursor of its group
   pub ahead : (e : ℕ) → e < d → slot e < d → pos e < cursor (group e)
-  -- a free end that is no owner comes after the cursor of its group, before which three owners stand
+  -- a free end that is no owner comes after the cursor of its group, before which two owners stand
   pub after : (e : ℕ) → There l e → used e ≡ false → (slot e < d → ⊥) → cursor (group e) ≤ pos e
   pub led : (e : ℕ) → There l e → used e ≡ false → (slot e < d → ⊥) → owners ≤ tally (leads d order group slot gone (group e)) (cursor (group e))
+  -- no group has more
+  pub most : (g : ℕ) → tally (leads d order group slot gone g) d ≤ owners

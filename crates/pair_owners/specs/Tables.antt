@@ -33,7 +33,7 @@ slot-at w d e = getD w (d * slotsFrom + e) 0
 
 -- how many ends of one direction are owners
 abbrev pub owners : ℕ
-owners = 3
+owners = 2
 
 -- ---- the order
 
@@ -43,6 +43,17 @@ pub record Ordered (order pos : ℕ → ℕ) (d : ℕ) : Type 0 where
   pub pos-in : (e : ℕ) → e < d → pos e < d
   pub seat : (e : ℕ) → e < d → order (pos e) ≡ e
   pub back : (p : ℕ) → p < d → pos (order p) ≡ p
+
+-- a and e have one direction, bit for bit
+pub record OneDirection (w : List ℕ) (d a e : ℕ) : Type 0 where
+  pub first : getD w a 0 ≡ 1
+  pub second : getD w e 0 ≡ 1
+  pub x : getD w (d + a * 2) 0 ≡ getD w (d + e * 2) 0
+  pub y : getD w (d + a * 2 + 1) 0 ≡ getD w (d + e * 2 + 1) 0
+
+-- ends of one direction stand together and rise: where one stands somewhere before another, one of them stands right before it, and is lower
+abbrev pub Together : List ℕ → ℕ → (ℕ → ℕ) → Type 0
+Together w d order = (p q : ℕ) → p < q → q < d → OneDirection w d (order p) (order q) → OneDirection w d (order (q - 1)) (order q) × (order (q - 1) < order q)
 
 -- what a function over the order asks
 pub record TablesSorted (w : List ℕ) (d : ℕ) : Type 0 where
@@ -70,6 +81,10 @@ pub record GroupRuns (l : List End) (order group : ℕ → ℕ) (n : ℕ) : Type
   pub rises : (p q : ℕ) → p ≤ q → q < n → group (order p) ≤ group (order q)
   pub alike : (p q : ℕ) → p < q → q < n → group (order p) ≡ group (order q) → Like l (order p) (order q)
 
+-- ends of one direction at the first n positions are of one group
+abbrev pub GroupOfDirection : List ℕ → ℕ → (ℕ → ℕ) → (ℕ → ℕ) → ℕ → Type 0
+GroupOfDirection w d order group n = (p q : ℕ) → p < q → q < n → OneDirection w d (order p) (order q) → group (order p) ≡ group (order q)
+
 -- the group of the end at position p: its predecessor's where the two are alike, else its own
 unfoldable pub group-of : List ℕ → ℕ → ℕ → ℕ
 group-of w d p = cond (ltb 0 p && alike-at w d (order-at w d (p - 1)) (order-at w d p)) (group-at w d (order-at w d (p - 1))) p
@@ -94,6 +109,7 @@ pub record Started (l : List End) (order group cursor slot own : ℕ → ℕ) (d
 -- what grouping gives
 pub record Groups (w w′ : List ℕ) (d m : ℕ) : Type 0 where
   pub runs : GroupRuns (endsIn w d) (order-at w d) (group-at w′ d) d
+  pub whole : GroupOfDirection w d (order-at w d) (group-at w′ d) d
   pub own : ℕ → ℕ
   pub started : Started (endsIn w d) (order-at w d) (group-at w′ d) (cursor-at w′ d) (slot-at w′ d) own d d m
   pub kept : Changes w w′ (d * groupsFrom) (d * heapFrom)

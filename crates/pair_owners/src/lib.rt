@@ -1,4 +1,4 @@
-// The owners: of the free ends of one direction the first three have a slot in the heap each. Ends are ordered by angle, so that those of one direction stand
+// The owners: of the free ends of one direction the first two have a slot in the heap each. Ends are ordered by angle, so that those of one direction stand
 // together, and near directions near each other.
 use pair_ends::CURSORS;
 use pair_ends::GROUPS;
@@ -13,11 +13,11 @@ ghost use Prim.Native.Nat.{_+_, _*_, _<_, _≤_};
 ghost use lib.Dec.{eqb};
 ghost use Rattle.rules.specs.Refusals.{mostEnds};
 ghost use Rattle.pair_ends.specs.Ends.{EndsRoom};
-ghost use Rattle.pair_owners.specs.Tables.{alike-at, group-of, TablesSorted, Grouped, Slotted, Groups, Due};
+ghost use Rattle.pair_owners.specs.Tables.{order-at, alike-at, group-of, Together, TablesSorted, Grouped, Slotted, Groups, Due};
 ghost use Rattle.pair_owners.specs.Angles.{size-of, angle-toward, angle-at, Keys};
 
 // How many ends of one direction are owners.
-const OWNERS: usize = 3;
+const OWNERS: usize = 2;
 
 // The greater of x and -x.
 fn size(x: f64) -> f64
@@ -26,15 +26,15 @@ fn size(x: f64) -> f64
     if x < 0.0 { 0.0 - x } else { x }
 }
 
-// Where a direction stands on the way round. Nothing but speed depends on it.
+// Where a direction stands on the way round: half a key, so that it is below that of an absent one.
 fn angle(x: f64, y: f64) -> u64
     ensures { λ r. ⌜ r ≡ angle-toward x y ⌝ }
 {
     let t = x / (size(x) + size(y));
     if y < 0.0 {
-        return float_order::key(3.0 + t);
+        return float_order::key(3.0 + t) / 2;
     }
-    float_order::key(1.0 - t)
+    float_order::key(1.0 - t) / 2
 }
 
 // The angle of end e; where it has no direction, one behind all others.
@@ -130,7 +130,7 @@ fn counted(m: usize, s: usize) -> usize
 
 // The groups, their cursors, and the slots of the first owners; how many these are.
 pub fn groups(w: &mut [u64], d: usize) -> usize
-    requires { ⌜ TablesSorted (now w) d ⌝ }
+    requires { ⌜ TablesSorted (now w) d × Together (now w) d (order-at (now w) d) ⌝ }
     ensures { λ r. ⌜ Groups (now (w .entry)) (now (w .exit)) d r ⌝ }
 {
     let mut m = 0;

@@ -11,9 +11,10 @@ pub struct Directions {
 }
 
 /// All directions, in the order of the table.
-pub const DIRECTIONS: [Directions; 4] = [
+pub const DIRECTIONS: [Directions; 5] = [
     Directions { name: "random", limit: -0.5, make: toward },
     Directions { name: "four", limit: -0.5, make: one_of_four },
+    Directions { name: "log yard", limit: -0.5, make: one_of_eight },
     Directions { name: "identical", limit: 1.0, make: along_x },
     Directions { name: "identical, none qualifies", limit: -0.5, make: along_x },
 ];
@@ -76,6 +77,12 @@ pub fn toward(random: &mut Random) -> (f64, f64) {
 
 fn one_of_four(random: &mut Random) -> (f64, f64) {
     random.pick(&[(1.0, 0.0), (0.0, 1.0), (-1.0, 0.0), (0.0, -1.0)])
+}
+
+/// The first direction of a spur at a log yard, which many spurs share.
+fn one_of_eight(random: &mut Random) -> (f64, f64) {
+    let (x, y) = random.pick(&[(1.0, 0.0), (0.6, 0.8), (0.0, 1.0), (0.6, -0.8)]);
+    random.pick(&[(x, y), (-x, -y)])
 }
 
 fn along_x(_random: &mut Random) -> (f64, f64) {

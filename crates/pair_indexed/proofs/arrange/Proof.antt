@@ -4,7 +4,7 @@ use native.Mathlib.Omega.{arith}
 use Rattle.pair_tree.proofs.Words.{changes-then, changes-wider}
 use Rattle.pair_owners.proofs.Turns.{room-kept}
 use Rattle.pair_ends.specs.Blocks.{orderFrom, heapFrom}
-use Rattle.pair_indexed.proofs.Arranging.{part-permuted, part-sorted, part-changes, arranged}
+use Rattle.pair_indexed.proofs.Arranging.{part-permuted, part-sorted, part-together, part-changes, arranged}
 use borrow.Author.Needs.{needs}
 use Rattle.pair_indexed.proofs.arrange.Statement.{statement}
 use Rattle.pair_indexed.proofs.arrange.Tie as tie
@@ -46,7 +46,7 @@ positions-requires : tie.Need-positions-requires
 positions-requires c κs = let a = c .before .before .before .before .before .before .before .before .before .before in part-permuted _ _ (a .args .d) (room-kept (c .before .before .before .before .before .before .before .keys .ensures .kept) (a .pre)) (c .before .before .before .sort-ends .ensures)
 
 groups-requires : tie.Need-groups-requires
-groups-requires c κs = let a = c .before .before .before .before .before .before .before .before .before .before .before .before .before .before in part-sorted _ _ (a .args .d) (room-kept (c .before .before .before .before .before .before .before .before .before .before .before .keys .ensures .kept) (a .pre)) (c .before .before .before .before .before .before .before .sort-ends .ensures) (c .before .before .before .positions .ensures)
+groups-requires c κs = let a = c .before .before .before .before .before .before .before .before .before .before .before .before .before .before in (part-sorted _ _ (a .args .d) (room-kept (c .before .before .before .before .before .before .before .before .before .before .before .keys .ensures .kept) (a .pre)) (c .before .before .before .before .before .before .before .sort-ends .ensures) (c .before .before .before .positions .ensures), part-together _ _ (a .args .d) (room-kept (c .before .before .before .before .before .before .before .before .before .before .before .keys .ensures .kept) (a .pre)) (c .before .before .before .before .before .before .before .sort-ends .ensures) (c .before .before .before .positions .ensures) (c .before .before .before .before .before .before .before .before .before .before .before .keys .ensures))
 
 same-length : tie.Need-same-length
 same-length c = search needs

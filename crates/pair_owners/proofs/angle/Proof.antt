@@ -1,4 +1,6 @@
 -- `angle` answers the angle of (x, y): below the axis the lower half of the way round, and else the upper.
+use Prim.Native.Nat.{ℕ, _/_}
+use mathlib.Core.Path.{ap}
 use lib.Ieee.{ofBits}
 use borrow.Author.Needs.{needs}
 use Rattle.pair_owners.proofs.Angles.{angle-lower, angle-upper}
@@ -19,7 +21,7 @@ unfolding ofBits
 returns c =
     let s = c .before .before in
     let a = s .before .before .args in
-    angle-lower (a .x) (a .y) (s .before .size .ensures) (s .size2 .ensures) (c .before .if1 .taken) (c .key .ensures)
+    angle-lower (a .x) (a .y) (s .before .size .ensures) (s .size2 .ensures) (c .before .if1 .taken) (ap (λ (k : ℕ). k / 2) (c .key .ensures))
 
 key-requires-2 : tie.Need-key-requires-2
 key-requires-2 c κs = search needs
@@ -29,7 +31,7 @@ unfolding ofBits
 returns-2 c =
     let s = c .before .before in
     let a = s .before .before .args in
-    angle-upper (a .x) (a .y) (s .before .size .ensures) (s .size2 .ensures) (c .before .if1 .left) (c .key2 .ensures)
+    angle-upper (a .x) (a .y) (s .before .size .ensures) (s .size2 .ensures) (c .before .if1 .left) (ap (λ (k : ℕ). k / 2) (c .key2 .ensures))
 
 pub angle-spec : {M : Type 1} → statement M
 angle-spec =

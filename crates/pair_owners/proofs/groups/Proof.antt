@@ -15,10 +15,10 @@ loop-holds : tie.Need-loop-holds Inv-loop μ-loop
 loop-holds c = grouping-start (c .before .args .w .now) (c .before .args .d)
 
 group-requires : tie.Need-group-requires Inv-loop μ-loop
-group-requires c κs = (grouping-sorted (c .before .before .before .before .pre) (c .before .before .loop .inv), c .before .loop-test .taken)
+group-requires c κs = (grouping-sorted (c .before .before .before .before .pre .0) (c .before .before .loop .inv), c .before .loop-test .taken)
 
 slot-requires : tie.Need-slot-requires Inv-loop μ-loop
-slot-requires c κs = (grouping-sorted (c .before .before .before .before .before .before .pre) (c .before .before .before .before .loop .inv), c .before .before .before .loop-test .taken, grouping-low (c .before .before .before .before .before .before .pre) (c .before .before .before .before .loop .inv) (c .before .before .before .loop-test .taken) _ (c .before .group .ensures .1))
+slot-requires c κs = (grouping-sorted (c .before .before .before .before .before .before .pre .0) (c .before .before .before .before .loop .inv), c .before .before .before .loop-test .taken, grouping-low (c .before .before .before .before .before .before .pre .0) (c .before .before .before .before .loop .inv) (c .before .before .before .loop-test .taken) _ (c .before .group .ensures))
 
 mul-e : tie.Need-mul-e Inv-loop μ-loop
 mul-e c = omega arith
@@ -27,61 +27,61 @@ add-e : tie.Need-add-e Inv-loop μ-loop
 add-e c = omega arith
 
 mul-e-2 : tie.Need-mul-e-2 Inv-loop μ-loop
-mul-e-2 c = omega (arith, c .before .before .before .before .before .before .before .pre .room .long)
+mul-e-2 c = omega (arith, c .before .before .before .before .before .before .before .pre .0 .room .long)
 
 slice-read-e : tie.Need-slice-read-e Inv-loop μ-loop
-slice-read-e c = omega (arith, c .before .before .before .before .before .before .before .before .pre .room .long, c .before .before .before .before .before .before .loop .inv .frame .long, grouping-in (c .before .before .before .before .before .before .before .before .pre) (c .before .before .before .before .before .before .loop .inv) (c .before .before .before .before .before .loop-test .taken) _ (c .before .before .before .group .ensures .1))
+slice-read-e c = omega (arith, c .before .before .before .before .before .before .before .before .pre .0 .room .long, c .before .before .before .before .before .before .loop .inv .frame .long, grouping-in (c .before .before .before .before .before .before .before .before .pre .0) (c .before .before .before .before .before .before .loop .inv) (c .before .before .before .before .before .loop-test .taken) _ (c .before .before .before .group .ensures))
 
 mul-w : tie.Need-mul-w Inv-loop μ-loop
-mul-w c = omega (arith, c .before .before .before .before .before .before .before .before .pre .room .long, c .before .before .before .before .before .before .loop .inv .frame .long, grouping-in (c .before .before .before .before .before .before .before .before .pre) (c .before .before .before .before .before .before .loop .inv) (c .before .before .before .before .before .loop-test .taken) _ (c .before .before .before .group .ensures .1))
+mul-w c = omega (arith, c .before .before .before .before .before .before .before .before .pre .0 .room .long, c .before .before .before .before .before .before .loop .inv .frame .long, grouping-in (c .before .before .before .before .before .before .before .before .pre .0) (c .before .before .before .before .before .before .loop .inv) (c .before .before .before .before .before .loop-test .taken) _ (c .before .before .before .group .ensures))
 
 add-w : tie.Need-add-w Inv-loop μ-loop
-add-w c = omega (arith, c .before .before .before .before .before .before .before .before .pre .room .long, c .before .before .before .before .before .before .loop .inv .frame .long, grouping-in (c .before .before .before .before .before .before .before .before .pre) (c .before .before .before .before .before .before .loop .inv) (c .before .before .before .before .before .loop-test .taken) _ (c .before .before .before .group .ensures .1))
+add-w c = omega (arith, c .before .before .before .before .before .before .before .before .pre .0 .room .long, c .before .before .before .before .before .before .loop .inv .frame .long, grouping-in (c .before .before .before .before .before .before .before .before .pre .0) (c .before .before .before .before .before .before .loop .inv) (c .before .before .before .before .before .loop-test .taken) _ (c .before .before .before .group .ensures))
 
 mul-w-2 : tie.Need-mul-w-2 Inv-loop μ-loop
-mul-w-2 c = omega (arith, c .before .before .before .before .before .before .before .before .pre .room .long, c .before .before .before .before .before .before .loop .inv .frame .long, grouping-in (c .before .before .before .before .before .before .before .before .pre) (c .before .before .before .before .before .before .loop .inv) (c .before .before .before .before .before .loop-test .taken) _ (c .before .before .before .group .ensures .1))
+mul-w-2 c = omega (arith, c .before .before .before .before .before .before .before .before .pre .0 .room .long, c .before .before .before .before .before .before .loop .inv .frame .long, grouping-in (c .before .before .before .before .before .before .before .before .pre .0) (c .before .before .before .before .before .before .loop .inv) (c .before .before .before .before .before .loop-test .taken) _ (c .before .before .before .group .ensures))
 
 slice-write-w : tie.Need-slice-write-w Inv-loop μ-loop
-slice-write-w c = omega (arith, c .before .before .before .before .before .before .before .before .pre .room .long, c .before .before .before .before .before .before .loop .inv .frame .long, grouping-in (c .before .before .before .before .before .before .before .before .pre) (c .before .before .before .before .before .before .loop .inv) (c .before .before .before .before .before .loop-test .taken) _ (c .before .before .before .group .ensures .1))
+slice-write-w c = omega (arith, c .before .before .before .before .before .before .before .before .pre .0 .room .long, c .before .before .before .before .before .before .loop .inv .frame .long, grouping-in (c .before .before .before .before .before .before .before .before .pre .0) (c .before .before .before .before .before .before .loop .inv) (c .before .before .before .before .before .loop-test .taken) _ (c .before .before .before .group .ensures))
 
 add-w-2 : tie.Need-add-w-2 Inv-loop μ-loop
-add-w-2 c = omega (arith, c .before .before .before .before .before .before .before .before .pre .room .long, c .before .before .before .before .before .before .loop .inv .frame .long, grouping-in (c .before .before .before .before .before .before .before .before .pre) (c .before .before .before .before .before .before .loop .inv) (c .before .before .before .before .before .loop-test .taken) _ (c .before .before .before .group .ensures .1))
+add-w-2 c = omega (arith, c .before .before .before .before .before .before .before .before .pre .0 .room .long, c .before .before .before .before .before .before .loop .inv .frame .long, grouping-in (c .before .before .before .before .before .before .before .before .pre .0) (c .before .before .before .before .before .before .loop .inv) (c .before .before .before .before .before .loop-test .taken) _ (c .before .before .before .group .ensures))
 
 mul-w-3 : tie.Need-mul-w-3 Inv-loop μ-loop
-mul-w-3 c = omega (arith, c .before .before .before .before .before .before .before .before .pre .room .long, c .before .before .before .before .before .before .loop .inv .frame .long, grouping-in (c .before .before .before .before .before .before .before .before .pre) (c .before .before .before .before .before .before .loop .inv) (c .before .before .before .before .before .loop-test .taken) _ (c .before .before .before .group .ensures .1))
+mul-w-3 c = omega (arith, c .before .before .before .before .before .before .before .before .pre .0 .room .long, c .before .before .before .before .before .before .loop .inv .frame .long, grouping-in (c .before .before .before .before .before .before .before .before .pre .0) (c .before .before .before .before .before .before .loop .inv) (c .before .before .before .before .before .loop-test .taken) _ (c .before .before .before .group .ensures))
 
 add-w-3 : tie.Need-add-w-3 Inv-loop μ-loop
-add-w-3 c = omega (arith, c .before .before .before .before .before .before .before .before .pre .room .long, c .before .before .before .before .before .before .loop .inv .frame .long, grouping-in (c .before .before .before .before .before .before .before .before .pre) (c .before .before .before .before .before .before .loop .inv) (c .before .before .before .before .before .loop-test .taken) _ (c .before .before .before .group .ensures .1))
+add-w-3 c = omega (arith, c .before .before .before .before .before .before .before .before .pre .0 .room .long, c .before .before .before .before .before .before .loop .inv .frame .long, grouping-in (c .before .before .before .before .before .before .before .before .pre .0) (c .before .before .before .before .before .before .loop .inv) (c .before .before .before .before .before .loop-test .taken) _ (c .before .before .before .group .ensures))
 
 mul-w-4 : tie.Need-mul-w-4 Inv-loop μ-loop
-mul-w-4 c = omega (arith, c .before .before .before .before .before .before .before .before .pre .room .long, c .before .before .before .before .before .before .loop .inv .frame .long, grouping-in (c .before .before .before .before .before .before .before .before .pre) (c .before .before .before .before .before .before .loop .inv) (c .before .before .before .before .before .loop-test .taken) _ (c .before .before .before .group .ensures .1))
+mul-w-4 c = omega (arith, c .before .before .before .before .before .before .before .before .pre .0 .room .long, c .before .before .before .before .before .before .loop .inv .frame .long, grouping-in (c .before .before .before .before .before .before .before .before .pre .0) (c .before .before .before .before .before .before .loop .inv) (c .before .before .before .before .before .loop-test .taken) _ (c .before .before .before .group .ensures))
 
 slice-write-w-2 : tie.Need-slice-write-w-2 Inv-loop μ-loop
-slice-write-w-2 c = simp length-set (omega (arith, c .before .before .before .before .before .before .before .before .pre .room .long, c .before .before .before .before .before .before .loop .inv .frame .long, c .before .before .before .before .before .loop-test .taken))
+slice-write-w-2 c = simp length-set (omega (arith, c .before .before .before .before .before .before .before .before .pre .0 .room .long, c .before .before .before .before .before .before .loop .inv .frame .long, c .before .before .before .before .before .loop-test .taken))
 
 mul-w-5 : tie.Need-mul-w-5 Inv-loop μ-loop
-mul-w-5 c = omega (arith, c .before .before .before .before .before .before .before .before .pre .room .long, c .before .before .before .before .before .before .loop .inv .frame .long, grouping-in (c .before .before .before .before .before .before .before .before .pre) (c .before .before .before .before .before .before .loop .inv) (c .before .before .before .before .before .loop-test .taken) _ (c .before .before .before .group .ensures .1))
+mul-w-5 c = omega (arith, c .before .before .before .before .before .before .before .before .pre .0 .room .long, c .before .before .before .before .before .before .loop .inv .frame .long, grouping-in (c .before .before .before .before .before .before .before .before .pre .0) (c .before .before .before .before .before .before .loop .inv) (c .before .before .before .before .before .loop-test .taken) _ (c .before .before .before .group .ensures))
 
 add-w-4 : tie.Need-add-w-4 Inv-loop μ-loop
-add-w-4 c = omega (arith, c .before .before .before .before .before .before .before .before .pre .room .long, c .before .before .before .before .before .before .loop .inv .frame .long, grouping-in (c .before .before .before .before .before .before .before .before .pre) (c .before .before .before .before .before .before .loop .inv) (c .before .before .before .before .before .loop-test .taken) _ (c .before .before .before .group .ensures .1))
+add-w-4 c = omega (arith, c .before .before .before .before .before .before .before .before .pre .0 .room .long, c .before .before .before .before .before .before .loop .inv .frame .long, grouping-in (c .before .before .before .before .before .before .before .before .pre .0) (c .before .before .before .before .before .before .loop .inv) (c .before .before .before .before .before .loop-test .taken) _ (c .before .before .before .group .ensures))
 
 mul-w-6 : tie.Need-mul-w-6 Inv-loop μ-loop
-mul-w-6 c = omega (arith, c .before .before .before .before .before .before .before .before .pre .room .long, c .before .before .before .before .before .before .loop .inv .frame .long, grouping-in (c .before .before .before .before .before .before .before .before .pre) (c .before .before .before .before .before .before .loop .inv) (c .before .before .before .before .before .loop-test .taken) _ (c .before .before .before .group .ensures .1))
+mul-w-6 c = omega (arith, c .before .before .before .before .before .before .before .before .pre .0 .room .long, c .before .before .before .before .before .before .loop .inv .frame .long, grouping-in (c .before .before .before .before .before .before .before .before .pre .0) (c .before .before .before .before .before .before .loop .inv) (c .before .before .before .before .before .loop-test .taken) _ (c .before .before .before .group .ensures))
 
 slice-write-w-3 : tie.Need-slice-write-w-3 Inv-loop μ-loop
-slice-write-w-3 c = simp length-set (omega (arith, c .before .before .before .before .before .before .before .before .pre .room .long, c .before .before .before .before .before .before .loop .inv .frame .long, grouping-in (c .before .before .before .before .before .before .before .before .pre) (c .before .before .before .before .before .before .loop .inv) (c .before .before .before .before .before .loop-test .taken) _ (c .before .before .before .group .ensures .1)))
+slice-write-w-3 c = simp length-set (omega (arith, c .before .before .before .before .before .before .before .before .pre .0 .room .long, c .before .before .before .before .before .before .loop .inv .frame .long, grouping-in (c .before .before .before .before .before .before .before .before .pre .0) (c .before .before .before .before .before .before .loop .inv) (c .before .before .before .before .before .loop-test .taken) _ (c .before .before .before .group .ensures)))
 
 counted-requires : tie.Need-counted-requires Inv-loop μ-loop
-counted-requires c κs = omega (arith, c .before .before .before .before .before .before .before .before .pre .room .few, c .before .before .before .before .before .before .loop .inv .started .few, c .before .before .before .before .before .loop-test .taken)
+counted-requires c κs = omega (arith, c .before .before .before .before .before .before .before .before .pre .0 .room .few, c .before .before .before .before .before .before .loop .inv .started .few, c .before .before .before .before .before .loop-test .taken)
 
 add-p : tie.Need-add-p Inv-loop μ-loop
-add-p c = omega (arith, c .before .before .before .before .before .before .before .before .before .pre .room .few, c .before .before .before .before .before .before .loop-test .taken)
+add-p c = omega (arith, c .before .before .before .before .before .before .before .before .before .pre .0 .room .few, c .before .before .before .before .before .before .loop-test .taken)
 
 loop-less : tie.Need-loop-less Inv-loop μ-loop
 loop-less c = omega (arith, c .before .before .before .before .before .before .loop-test .taken)
 
 loop-again : tie.Need-loop-again Inv-loop μ-loop
-loop-again c = grouping-next (c .before .before .before .before .before .before .before .before .before .pre) (c .before .before .before .before .before .before .before .loop .inv) (c .before .before .before .before .before .before .loop-test .taken) _ (c .before .before .before .before .group .ensures .1) _ (c .before .before .slot .ensures) _ (c .counted .ensures)
+loop-again c = grouping-next (c .before .before .before .before .before .before .before .before .before .pre .0) (c .before .before .before .before .before .before .before .loop .inv) (c .before .before .before .before .before .before .loop-test .taken) _ (c .before .before .before .before .group .ensures) _ (c .before .before .slot .ensures) (c .before .before .before .before .before .before .before .before .before .pre .1) _ (c .counted .ensures)
 
 same-length : tie.Need-same-length Inv-loop μ-loop
 same-length c = c .before .loop .inv .frame .long
