@@ -10,7 +10,7 @@
  * call spare and workspace are 0 over the length named below, each output begins with what was written, and
  * whatever lies beyond is as before.
  *
- * Coordinates may be any doubles, NaN and infinities included, and come back bit for bit.
+ * Coordinates are lent and come back bit for bit. Building takes any finite double and refuses the others.
  *
  * Link libdoor.a, which `rt staticlib door` writes for x86-64 Linux.
  */
@@ -58,6 +58,7 @@ enum lovasuku_refusal {
     LOVASUKU_MARK_ABOVE_ONE = 3,       /* A kind or a presence mark is above 1. */
     LOVASUKU_COUNTS_DO_NOT_ADD_UP = 4, /* The counts do not add up to half the coordinates' length. */
     LOVASUKU_TOO_MANY_COORDINATES = 5, /* More than 65,536 coordinates, counted in pairs. */
+    LOVASUKU_NO_PLACE = 15,            /* A coordinate is NaN or infinite. */
     LOVASUKU_BAD_LIMIT = 6,            /* The switch is above 1, or the limit is not a number from -1 to 1. */
     LOVASUKU_ROOM_TOO_SHORT = 7,       /* A lent room is shorter than the call needs. */
     LOVASUKU_PIECE_TOO_OFTEN = 8,      /* A piece number occurs more than twice. */
@@ -91,8 +92,9 @@ enum lovasuku_refusal {
  * Rooms: table 5n, members n, marks n, merged 2c, spare 2c, workspace 192n.
  *
  * Refusals: 1 n is above 4,096. 2 groups or kinds are not n numbers. 3 a kind is above 1. 4 the counts do not
- * add up to half the coordinates' length. 5 c is above 65,536. 6 switch_on is above 1, or it is 1 and limit is
- * NaN, below -1 or above 1. 7 a room is too short. No tolerance is refused. */
+ * add up to half the coordinates' length. 5 c is above 65,536. 15 a coordinate of any line is NaN or infinite. 6
+ * switch_on is above 1, or it is 1 and limit is NaN, below -1 or above 1. 7 a room is too short. No tolerance is
+ * refused. */
 int64_t lovasuku_build(const double *coordinates, size_t coordinates_length,
                        const uint32_t *counts, size_t counts_length,
                        const uint32_t *groups, size_t groups_length,
@@ -169,7 +171,7 @@ int64_t lovasuku_chain(const double *coordinates, size_t coordinates_length,
  * a line of no coordinates or of one is a line.
  *
  * Written are coordinates, x, y, x, y .., one line behind another, every bit of a double kept, those of a NaN too; and
- * counts, how many coordinates each line has. Both go into lovasuku_build as they are.
+ * counts, how many coordinates each line has. Both go into lovasuku_build as they are, which refuses a NaN (15).
  *
  * Rooms: coordinates, two numbers for each coordinate of all records; counts, a number for each record. For n
  * records in a run of b bytes that is (b - 9n) / 8 numbers and n.

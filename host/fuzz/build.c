@@ -37,11 +37,25 @@ static size_t next_lines(struct bytes *bytes) {
     return size == 0xfe ? next_below(bytes, MEDIUM) : size % FEW;
 }
 
+/* The exponent's bits, which are all set in a NaN and in an infinity. */
+static const uint64_t EXPONENT = 0x7ff0000000000000;
+
+static bool is_nowhere(uint64_t word) {
+    return (word & EXPONENT) == EXPONENT;
+}
+
+/* A word of the bytes; one that is no place is made one unless anything may stand there. */
+static uint64_t next_coordinate(struct bytes *bytes, bool anything) {
+    uint64_t word = next_word(bytes);
+    return is_nowhere(word) && !anything ? word ^ 0x0010000000000000 : word;
+}
+
 /* Writes the lines of the bytes, and beyond them a row of lines end to end. Gives the number of points. */
 static size_t fill_lines(struct bytes *bytes, size_t n, uint64_t *words, uint32_t *count, uint32_t *group,
                          uint8_t *kind) {
     static const uint8_t sizes[] = {2, 2, 2, 3, 3, 4, 1, 0};
     size_t points = 0;
+    bool anything = next_byte(bytes) >= 0xe0;
     for (size_t line = 0; line < n; line++) {
         bool made = bytes->left > 0;
         uint8_t flags = next_byte(bytes);
@@ -49,8 +63,8 @@ static size_t fill_lines(struct bytes *bytes, size_t n, uint64_t *words, uint32_
         group[line] = flags >> 3 & 1;
         kind[line] = flags < 0xe0 ? 0 : flags < 0xff ? 1 : 2;
         for (size_t k = 0; k < count[line]; k++) {
-            words[2 * points] = made ? next_word(bytes) : bits_of((double)(line + k));
-            words[2 * points + 1] = made ? next_word(bytes) : 0;
+            words[2 * points] = made ? next_coordinate(bytes, anything) : bits_of((double)(line + k));
+            words[2 * points + 1] = made ? next_coordinate(bytes, anything) : 0;
             points++;
         }
     }
@@ -129,6 +143,15 @@ static bool counts_add_up(const struct building *call, size_t numbers) {
     return 2 * sum == numbers;
 }
 
+static bool any_coordinate_nowhere(size_t numbers) {
+    for (size_t i = 0; i < numbers; i++) {
+        if (is_nowhere(((const uint64_t *)coordinates.fill)[i])) {
+            return true;
+        }
+    }
+    return false;
+}
+
 /* The number of the first refusal that applies, or 0. */
 static int refusal(const struct building *call, const struct lengths *lengths) {
     size_t wanted[ROOMS];
@@ -146,6 +169,9 @@ static int refusal(const struct building *call, const struct lengths *lengths) {
     }
     if (lengths->numbers > 2 * LOVASUKU_MOST_POINTS) {
         return LOVASUKU_TOO_MANY_COORDINATES;
+    }
+    if (any_coordinate_nowhere(lengths->numbers)) {
+        return LOVASUKU_NO_PLACE;
     }
     if (call->switch_on > 1 || (call->switch_on == 1 && limit_is_bad(call->limit))) {
         return LOVASUKU_BAD_LIMIT;

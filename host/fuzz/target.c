@@ -61,12 +61,13 @@ size_t next_length(struct bytes *bytes, size_t wanted) {
     }
 }
 
-/* NaN of several payloads, infinities, and the powers of two at which a direction's length overflows or
- * vanishes. */
+/* NaN of several payloads, infinities, the powers of two at which a direction's length overflows or
+ * vanishes, and those at which a difference does. */
 static const uint64_t edges[] = {
     0x7ff8000000000000, 0x7ff8000000000001, 0xfff4000000000000, 0x7ff0000000000000, 0xfff0000000000000,
     0x0000000000000001, 0x8000000000000001, 0x0010000000000000, 0x1e50000000000000, 0x1e60000000000000,
     0x43e0000000000000, 0xc3e0000000000000, 0x5fe0000000000000, 0x5ff0000000000000, 0x7fefffffffffffff,
+    0x7fe0000000000000, 0xffe0000000000000,
 };
 
 /* Places that lie in few cells. */

@@ -1,8 +1,8 @@
 -- Laws of the refusals of building: one more number summed or passed, and what a call has that no refusal meets.
-use mathlib.Core.Path.{_≡_, refl, sym, _∙_}
-use mathlib.Core.Bool.{Bool, true, false, not, _||_, true≢false}
+use mathlib.Core.Path.{_≡_, refl, sym, ap, _∙_}
+use mathlib.Core.Bool.{Bool, true, false, not, _&&_, _||_, true≢false}
 use mathlib.Core.List.{List, [], _∷_}
-use Prim.Native.Nat.{ℕ, suc, _+_, _*_, _≤_, _<_}
+use Prim.Native.Nat.{ℕ, zero, suc, _+_, _*_, _≤_, _<_}
 use native.Mathlib.Nat.{add-assoc}
 use native.Mathlib.Numerals.{add-one}
 use native.Mathlib.Omega.{arith}
@@ -11,11 +11,14 @@ use lib.Seq.{drop-cons}
 use lib.Dec.{ltb, eqb}
 use borrow.Author.Tests.{lt-ltb, le-ltb, ltb-false, eqb-true, not-false}
 use Rattle.rules.specs.declared.Settings.{Settings}
-use Rattle.rules.specs.Lists.{total}
+use lib.Ieee.Scale.{finite}
+use Rattle.rules.specs.Lists.{one, total}
+use Rattle.rules.specs.Plane.{Point, point, float, reads, points}
+use Rattle.point_numbers.proofs.Points.{points-exact}
 use Rattle.rules.specs.Layout.{Lines}
 use Rattle.build_refusals.specs.Admitted.{Admitted}
-use Rattle.rules.specs.Refusals.{Rooms, anyAbove, firstOf, refusalOf, mostLines, mostPoints, lineRoom, recordSize}
-use Rattle.build_refusals.specs.Tests.{switchBad, roomShort}
+use Rattle.rules.specs.Refusals.{Rooms, anyAbove, nowhere, anyNowhere, firstOf, refusalOf, mostLines, mostPoints, lineRoom, recordSize}
+use Rattle.build_refusals.specs.Tests.{wildOf, switchBad, roomShort}
 
 -- ---- sums and kinds
 
@@ -47,6 +50,46 @@ pub above-none : (m : ℕ) (l : List ℕ) (i : ℕ) → length l ≤ i → anyAb
 unfolding anyAbove
 above-none m l i h = rw (drop-of-length-le l {i = i} h)
 
+-- ---- places
+
+-- one number more is looked at
+pub wild-step : (l : List ℕ) (i s : ℕ) → i < length l → s + wildOf (drop i l) ≡ s + one (not (finite (float (getD l i 0)))) + wildOf (drop (i + 1) l)
+unfolding wildOf
+wild-step l i s h = rw (drop-cons l i 0 h, add-one, add-assoc)
+
+pub wild-none : (l : List ℕ) (i s : ℕ) → length l ≤ i → s + wildOf (drop i l) ≡ s
+unfolding wildOf
+wild-none l i s h = rw (drop-of-length-le l {i = i} h) (omega arith)
+
+here-nowhere : (p : Point) (l : List Point) → nowhere p ≡ true → anyNowhere (p ∷ l) ≡ true
+unfolding anyNowhere
+here-nowhere p l e = rw (e, anyNowhere)
+
+here-somewhere : (p : Point) (l : List Point) → nowhere p ≡ false → anyNowhere (p ∷ l) ≡ anyNowhere l
+unfolding anyNowhere
+here-somewhere p l e = rw (e, anyNowhere)
+
+-- a point is no place where one of its two numbers is none
+reads-wild : (n : ℕ) (l : List ℕ) → length l ≡ n * 2 → anyNowhere (reads 2 n l) ≡ ltb 0 (wildOf l)
+unfolding reads anyNowhere wildOf
+reads-wild zero [] h = refl
+reads-wild zero (a ∷ l) h = absurd (omega arith)
+reads-wild (suc n) [] h = absurd (omega arith)
+reads-wild (suc n) (a ∷ []) h = absurd (omega arith)
+reads-wild (suc n) (a ∷ b ∷ l) h = go (finite (float a)) (finite (float b)) refl refl (reads-wild n l (omega arith))
+  where
+    two : nowhere (point a b) ≡ not (finite (float a) && finite (float b))
+    two = unfold nowhere in refl
+
+    go : (p q : Bool) → finite (float a) ≡ p → finite (float b) ≡ q → anyNowhere (reads 2 n l) ≡ ltb 0 (wildOf l)
+        → anyNowhere (point a b ∷ reads 2 n l) ≡ ltb 0 (one (not (finite (float a))) + (one (not (finite (float b))) + wildOf l))
+    go true true e f ih = rw (e, f) (here-somewhere (point a b) (reads 2 n l) (two ∙ rw (e, f)) ∙ ih ∙ (let z : wildOf l ≡ 0 + (0 + wildOf l) = omega arith in ap (ltb 0) z))
+    go true false e f ih = rw (e, f) (here-nowhere (point a b) (reads 2 n l) (two ∙ rw (e, f)) ∙ sym (lt-ltb 0 (0 + (1 + wildOf l)) (omega arith)))
+    go false q e f ih = rw e (here-nowhere (point a b) (reads 2 n l) (two ∙ rw e) ∙ sym (lt-ltb 0 (1 + (one (not (finite (float b))) + wildOf l)) (omega arith)))
+
+pub nowhere-wild : (n : ℕ) (l : List ℕ) → n * 2 ≡ length l → anyNowhere (points 2 l) ≡ ltb 0 (wildOf l)
+nowhere-wild n l h = ap anyNowhere (points-exact 2 n l (omega arith) (sym h)) ∙ reads-wild n l (sym h)
+
 -- ---- the ladder
 
 -- the tests of a call, in order
@@ -59,6 +102,7 @@ tests l s o =
     ∷ (3, anyAbove 1 (l .kinds))
     ∷ (4, not (eqb (total (l .counts) * 2) numbers))
     ∷ (5, ltb (mostPoints * 2) numbers)
+    ∷ (15, anyNowhere (points 2 (l .coordinates)))
     ∷ (6, switchBad (s .switch) (s .limit))
     ∷ (7, roomShort n numbers (length (o .table)) (length (o .members)) (length (o .marks)) (length (o .merged)) (length (o .spare)) (length (o .workspace)))
     ∷ []
@@ -123,8 +167,9 @@ admitted l s o z =
     let t₅ = off (t₄ .1) in
     let t₆ = off (t₅ .1) in
     let t₇ = off (t₆ .1) in
+    let t₈ = off (t₇ .1) in
     let both = or-off (not (eqb (length (l .groups)) n)) (not (eqb (length (l .kinds)) n)) (t₂ .0) in
-    let r₁ = or-off (ltb (length (o .table)) (n * recordSize)) _ (t₇ .0) in
+    let r₁ = or-off (ltb (length (o .table)) (n * recordSize)) _ (t₈ .0) in
     let r₂ = or-off (ltb (length (o .members)) n) _ (r₁ .1) in
     let r₃ = or-off (ltb (length (o .marks)) n) _ (r₂ .1) in
     let r₄ = or-off (ltb (length (o .merged)) numbers) _ (r₃ .1) in
@@ -135,7 +180,8 @@ admitted l s o z =
       kinds-long = eqb-true (length (l .kinds)) n (not-false _ (both .1));
       adds = eqb-true (total (l .counts) * 2) numbers (not-false _ (t₄ .0));
       small = ltb-false 131072 numbers (t₅ .0);
-      switched = t₆ .0;
+      places = t₆ .0;
+      switched = t₇ .0;
       table-long = ltb-false (length (o .table)) (n * recordSize) (r₁ .0);
       members-long = ltb-false (length (o .members)) n (r₂ .0);
       marks-long = ltb-false (length (o .marks)) n (r₃ .0);

@@ -5,8 +5,9 @@ use mathlib.Core.Bool.{false}
 use lib.ListN.{length}
 use Rattle.rules.specs.declared.Settings.{Settings}
 use Rattle.rules.specs.Lists.{total}
+use Rattle.rules.specs.Plane.{points}
 use Rattle.rules.specs.Layout.{Lines}
-use Rattle.rules.specs.Refusals.{Rooms, mostLines, mostPoints, recordSize, lineRoom}
+use Rattle.rules.specs.Refusals.{Rooms, anyNowhere, mostLines, mostPoints, recordSize, lineRoom}
 use Rattle.build_refusals.specs.Tests.{switchBad}
 
 pub record Admitted (l : Lines) (s : Settings) (o : Rooms) : Type 0 where
@@ -15,6 +16,7 @@ pub record Admitted (l : Lines) (s : Settings) (o : Rooms) : Type 0 where
   pub kinds-long : length (l .kinds) ≡ length (l .counts)
   pub adds : total (l .counts) * 2 ≡ length (l .coordinates)
   pub small : length (l .coordinates) ≤ mostPoints * 2
+  pub places : anyNowhere (points 2 (l .coordinates)) ≡ false
   pub switched : switchBad (s .switch) (s .limit) ≡ false
   pub table-long : length (l .counts) * recordSize ≤ length (o .table)
   pub members-long : length (l .counts) ≤ length (o .members)

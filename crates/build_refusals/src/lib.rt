@@ -7,12 +7,12 @@ use rules::Settings;
 ghost use mathlib.Core.Path.{_≡_};
 ghost use mathlib.Core.Bool.{not, _||_};
 ghost use Prim.Native.Nat.{_≤_, _<_};
-ghost use lib.Dec.{eqb};
+ghost use lib.Dec.{eqb, ltb};
 ghost use lib.ListN.{length};
 ghost use Rattle.rules.specs.Lists.{total as total-of};
 ghost use Rattle.rules.specs.Layout.{lent};
 ghost use Rattle.rules.specs.Refusals.{anyAbove, limitBad, rooms, refusalOf, mostLines};
-ghost use Rattle.build_refusals.specs.Tests.{switchBad, roomShort};
+ghost use Rattle.build_refusals.specs.Tests.{wildOf, switchBad, roomShort};
 
 // The numbers of as many points as a call takes.
 const MOST_NUMBERS: usize = MOST_POINTS * 2;
@@ -43,6 +43,19 @@ pub fn any_above_one(kinds: &[u8]) -> bool
         i += 1;
     }
     false
+}
+
+// Whether one of the numbers is a NaN or infinite. All are looked at, so that several go at once.
+fn any_nowhere(numbers: &[u64]) -> bool
+    ensures { λ r. ⌜ r ≡ ltb 0 (wildOf (now (numbers .entry))) ⌝ }
+{
+    let mut wild: u64 = 0;
+    let mut i = 0;
+    while i < numbers.len() {
+        wild += float_bits::wild(numbers[i]);
+        i += 1;
+    }
+    0 < wild
 }
 
 // Whether the groups or the kinds are not as many as the lines.
@@ -146,6 +159,9 @@ pub fn refusal(
     }
     if MOST_NUMBERS < numbers {
         return 5;
+    }
+    if any_nowhere(coordinates) {
+        return 15;
     }
     if switch_bad(settings.switch, settings.limit) {
         return 6;

@@ -4,11 +4,12 @@ use mathlib.Core.Bool.{Bool, true, false, not, cond}
 use Prim.Native.Nat.{ℕ, zero, suc, _+_, _/_, _%_, _≤_, _<_, _^_}
 use native.Mathlib.Nat.{mod-lt, eq-or-lt-of-le, le-of-suc-le-suc}
 use native.Mathlib.Omega.{arith}
-use borrow.Author.Tests.{lt-ltb, le-ltb, eq-eqb, ne-eqb}
+use borrow.Author.Tests.{lt-ltb, le-ltb, ltb-true, ltb-false, eq-eqb, ne-eqb}
 use mathlib.Core.Logic.{_⊎_, inl, inr}
 use lib.Dec.{T, leb, eqb, ltb, lit<}
 use lib.Ieee.{Float, nan, inf, fin, binary64, odd, ofFields, ofBits, isNan, div}
 use lib.Ieee.Scale.{finite}
+use Rattle.rules.specs.Lists.{one}
 
 odd-finite : (d : ℕ) (s : Bool) (q k l : ℕ) → finite (odd d s q k l) ≡ true
 unfolding odd
@@ -50,6 +51,17 @@ pub finite-below : (n : ℕ) → ltb (n % 2 ^ 63) 0x7ff0_0000_0000_0000 ≡ fini
 unfolding ofBits
 finite-below n =
     sym (fields-finite (leb (2 ^ 63) n) (n % 2 ^ 63 / 2 ^ 52) (n % 2 ^ 52) ∙ split (n % 2 ^ 63) (mod-lt n (lit< tt)))
+
+-- one more in the exponent's lowest place reaches the sign's exactly from the infinity's pattern on
+pub wild-is : (n : ℕ) → (n % 2 ^ 63 + 2 ^ 52) / 2 ^ 63 ≡ one (not (finite (ofBits binary64 n)))
+wild-is n = go (n % 2 ^ 63) (mod-lt n (lit< tt)) (ltb (n % 2 ^ 63) 0x7ff0_0000_0000_0000) refl ∙ ap (λ (b : Bool). one (not b)) (finite-below n)
+  where
+    go : (r : ℕ) → r < 2 ^ 63 → (b : Bool) → ltb r 0x7ff0_0000_0000_0000 ≡ b → (r + 2 ^ 52) / 2 ^ 63 ≡ one (not (ltb r 0x7ff0_0000_0000_0000))
+    go r h true e = rw e (omega (arith, ltb-true r 0x7ff0_0000_0000_0000 e))
+    go r h false e = rw e (omega (arith, ltb-false r 0x7ff0_0000_0000_0000 e))
+
+pub wild-small : (n : ℕ) → (n % 2 ^ 63 + 2 ^ 52) / 2 ^ 63 ≤ 1
+wild-small n = let h : n % 2 ^ 63 < 2 ^ 63 = mod-lt n (lit< tt) in omega arith
 
 -- ---- NaNs
 pub is-nan : (x : Float) → isNan x ≡ true → x ≡ nan

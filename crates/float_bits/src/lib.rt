@@ -1,11 +1,16 @@
 // Doubles as their 64 bits. Rattle's `f64::from_bits` and `f64::to_bits` are undefined at a NaN, so each of these asks first, and is total.
 ghost use mathlib.Core.Path.{_≡_};
+ghost use mathlib.Core.Bool.{not};
+ghost use Prim.Native.Nat.{_≤_};
+ghost use Rattle.rules.specs.Lists.{one};
 ghost use lib.Ieee.{binary64, ofBits, isNan, eq};
 ghost use lib.Ieee.Scale.{finite};
 ghost use Rattle.float_bits.specs.Bits.{bitsOf};
 
-// The weight of the sign, the bits of the infinity above zero, and those of the NaN that stands for all of them.
+// The weights of the sign and of the exponent's lowest place, the bits of the infinity above zero, and those of the NaN that stands for all of them.
 const SIGN: u64 = 0x8000_0000_0000_0000;
+
+const UNIT: u64 = 0x0010_0000_0000_0000;
 
 const INFINITE: u64 = 0x7FF0_0000_0000_0000;
 
@@ -23,6 +28,13 @@ pub fn is_finite(n: u64) -> bool
     ensures { λ r. ⌜ r ≡ finite (ofBits binary64 n) ⌝ }
 {
     n % SIGN < INFINITE
+}
+
+// 1 where n is a NaN's bits or an infinity's, and 0 where it stands for a number: one more in the exponent's lowest place reaches the sign's.
+pub fn wild(n: u64) -> u64
+    ensures { λ r. ⌜ (r ≡ one (not (finite (ofBits binary64 n)))) × (r ≤ 1) ⌝ }
+{
+    (n % SIGN + UNIT) / SIGN
 }
 
 // The value that n stands for. All bits of a NaN give the one NaN.

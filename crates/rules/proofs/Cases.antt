@@ -1,17 +1,18 @@
--- Cases A to N of 01, computed on the book: `cases` is the single checked list of those that are marked P, `others` has G, I and N, and `slips` tells
--- what the cases leave open of 01's plausible slips.
+-- Cases A to N of 01, computed on the book: `cases` is the single checked list of those that are marked P, `others` has G, I and N, `slips` tells
+-- what the cases leave open of 01's plausible slips, and `places` which coordinates are no place, and when 15 is given.
 -- Written x,y there and x, y one after the other here. Marks, which 01 gives for C alone, are worked out by its rule for turned.
-use Prim.Native.Nat.{ℕ}
+use Prim.Native.Nat.{ℕ, _+_, _*_}
 use mathlib.Core.Bool.{Bool, true, false, _&&_}
 use mathlib.Core.List.{List, [], _∷_}
 use lib.Dec.{T, eqb}
 use lib.IntN.{pos, negsuc}
+use lib.ListN.{replicate}
 use lib.Ieee.{ofBits, lt, eq, le, add, sub, mul, div}
 use Rattle.rules.specs.Root.{root}
 use Rattle.rules.specs.Plane.{float, sameInt, unity, nought}
 use Rattle.rules.specs.Cell.{cell}
 use Rattle.rules.specs.Layout.{listed, lent, build}
-use Rattle.rules.specs.Refusals.{pairRefusalOf}
+use Rattle.rules.specs.Refusals.{rooms, refusalOf, pairRefusalOf, mostPoints}
 use Rattle.rules.specs.Calls.{pairsOf}
 use Rattle.rules.proofs.Computing.{book}
 use Rattle.rules.proofs.Given.{
@@ -28,6 +29,11 @@ use Rattle.rules.proofs.Given.{
   +3·5,
   +4·5,
   not-a-number,
+  +infinity,
+  -infinity,
+  greatest,
+  +2^1023,
+  -2^1023,
   every,
   Call,
   exactly,
@@ -236,6 +242,68 @@ slipCases = slip-order ∷ slip-zero ∷ slip-nan ∷ []
 pub slips : T (every slipCases)
 unfolding slipCases lt eq le add mul ofBits
 slips = tt
+
+-- Coordinates that are no place: a line of two coordinates, and one that passes through for want of a second one or by its kind. The number at the end is
+-- x, and the switch's is given too.
+refusedBy : ℕ → ℕ → ℕ → ℕ
+unfolding book
+refusedBy kind switch x =
+    refusalOf (lent (+0 ∷ +0 ∷ +1 ∷ +0 ∷ +1 ∷ x ∷ []) (2 ∷ 1 ∷ []) (0 ∷ 0 ∷ []) (0 ∷ kind ∷ []))
+    (record { tolerance = float +0; switch = switch; limit = float +0 })
+    (rooms [] [] [] [] [] [])
+
+-- as many numbers as are beyond the scope, of one line, all of them NaN
+tooMany : ℕ
+unfolding book
+tooMany =
+    let numbers = mostPoints * 2 + 2 in
+    refusalOf (lent (replicate numbers not-a-number) ((mostPoints + 1) ∷ []) (0 ∷ []) (0 ∷ []))
+    (record { tolerance = float +0; switch = 0; limit = float +0 })
+    (rooms [] [] [] [] [] [])
+
+place-nan : Bool
+unfolding refusedBy
+place-nan = eqb (refusedBy 0 0 not-a-number) 15 && eqb (refusedBy 1 0 not-a-number) 15
+
+place-infinity : Bool
+unfolding refusedBy
+place-infinity = eqb (refusedBy 0 0 +infinity) 15 && eqb (refusedBy 1 0 -infinity) 15
+
+-- the greatest number is a place, so that the rooms are looked at
+place-greatest : Bool
+unfolding refusedBy
+place-greatest = eqb (refusedBy 0 0 greatest) 7 && eqb (refusedBy 1 0 greatest) 7
+
+-- after 3 and 5, before 6
+place-order : Bool
+unfolding refusedBy tooMany
+place-order = eqb (refusedBy 2 0 not-a-number) 3 && eqb tooMany 5 && eqb (refusedBy 0 2 not-a-number) 15 && eqb (refusedBy 0 2 +1) 6
+
+-- Differences overflow all the same: of three lines that meet the one that is left alone has a direction with a NaN, which qualifies with none. Those of
+-- the others are (0, 0), whose measure is 0.
+place-overflow : Bool
+unfolding builds
+place-overflow =
+    builds
+    (record {
+      groups = 0 ∷ 0 ∷ 0 ∷ [];
+      lines = (+2^1023 ∷ +0 ∷ -2^1023 ∷ +0 ∷ []) ∷ (+2^1023 ∷ +0 ∷ +0 ∷ +0 ∷ []) ∷ (+2^1023 ∷ +0 ∷ +2^1023 ∷ +2^1023 ∷ []) ∷ [];
+      tolerance = +0;
+      switch = 1;
+      limit = +1;
+    })
+    ((0 ∷ 1 ∷ 0 ∷ 0 ∷ 2 ∷ []) ∷ (1 ∷ 2 ∷ 1 ∷ 0 ∷ 3 ∷ []) ∷ [])
+    (0 ∷ 2 ∷ 1 ∷ [])
+    (0 ∷ 1 ∷ 0 ∷ [])
+    (+2^1023 ∷ +2^1023 ∷ +2^1023 ∷ +0 ∷ +0 ∷ +0 ∷ [])
+
+pub placeCases : List Bool
+unfolding place-nan place-infinity place-greatest place-order place-overflow
+placeCases = place-nan ∷ place-infinity ∷ place-greatest ∷ place-order ∷ place-overflow ∷ []
+
+pub places : T (every placeCases)
+unfolding placeCases lt eq le add sub mul div root ofBits
+places = tt
 
 -- Points of three numbers: the extras ride along, also where a line is turned, and of a repeated x, y the earlier one's remain.
 pub extrasRide : Bool

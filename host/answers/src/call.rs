@@ -58,6 +58,11 @@ impl BuildCall {
         self.coordinates[2 * first..2 * last].chunks(2).map(|p| [p[0], p[1]]).collect()
     }
 
+    /// True where a coordinate is NaN or infinite, of whichever line: it is no place.
+    pub fn nowhere(&self) -> bool {
+        self.coordinates.iter().any(|&bits| !f64::from_bits(bits).is_finite())
+    }
+
     /// True where a line passes through unjoined: by its kind, or for want of two coordinates.
     pub fn passes(&self, line: usize) -> bool {
         self.kinds[line] == 1 || self.counts[line] < 2
@@ -148,6 +153,9 @@ impl Route {
 /// The number of the refusal with which a call was turned away.
 #[derive(Clone, Copy, Debug, PartialEq, Eq)]
 pub struct Refusal(pub u32);
+
+/// The refusal of a coordinate that is no place.
+pub const NO_PLACE: Refusal = Refusal(15);
 
 /// Whatever answers the calls: the model, the Rust original, the verified library.
 pub trait Port {

@@ -17,7 +17,7 @@ fn in_range(limit: u64) -> bool {
     (-1.0..=1.0).contains(&f64::from_bits(limit))
 }
 
-/// No refusal applies to the building call.
+/// No refusal applies to the building call but that of coordinates that are no place.
 pub fn build_call(call: &BuildCall) -> Checked {
     let n = call.lines();
     let pairs: usize = call.counts.iter().map(|&count| count as usize).sum();

@@ -1,10 +1,10 @@
 //! The recorded files. `data/oracle/README.md` describes their bytes.
 
-use crate::call::{BuildCall, Built, Pair, PairingCall};
+use crate::call::{BuildCall, Built, Pair, PairingCall, Refusal};
 use std::collections::HashMap;
 
-/// A building call with its answer.
-pub type BuildEntry = (BuildCall, Built);
+/// A building call with its answer, or with the refusal that turns it away.
+pub type BuildEntry = (BuildCall, Result<Built, Refusal>);
 
 /// A pairing call with the pairs that every route selects.
 pub type PairingEntry = (PairingCall, Vec<Pair>);
@@ -113,7 +113,7 @@ impl Writer {
         pair.iter().for_each(|end| self.middle(end));
     }
 
-    fn build_entry(&mut self, (call, built): &BuildEntry) {
+    fn build_entry(&mut self, (call, answer): &BuildEntry) {
         self.list(&call.coordinates, Self::word);
         self.list(&call.counts, Self::middle);
         self.list(&call.groups, Self::middle);
@@ -121,6 +121,14 @@ impl Writer {
         self.word(&call.tolerance);
         self.small(&call.switch);
         self.word(&call.limit);
+        match answer {
+            Ok(built) => self.built(built),
+            Err(Refusal(number)) => self.middle(number),
+        }
+    }
+
+    fn built(&mut self, built: &Built) {
+        self.number(0);
         self.list(&built.table, Self::record);
         self.list(&built.members, Self::middle);
         self.list(&built.marks, Self::small);
@@ -205,13 +213,19 @@ impl<'a> Reader<'a> {
             switch: self.within()?,
             limit: self.word()?,
         };
-        let built = Built {
+        match self.within()? {
+            0 => Ok((call, Ok(self.built()?))),
+            number => Ok((call, Err(Refusal(number)))),
+        }
+    }
+
+    fn built(&mut self) -> Read<Built> {
+        Ok(Built {
             table: self.list(Self::numbers)?,
             members: self.list(Self::within)?,
             marks: self.list(Self::within)?,
             merged: self.list(Self::word)?,
-        };
-        Ok((call, built))
+        })
     }
 
     fn pairing_entry(&mut self) -> Read<PairingEntry> {

@@ -20,4 +20,4 @@ pub mod replay;
 pub mod styles;
 pub mod wkb;
 
-pub use call::{BuildCall, Built, Pair, PairingCall, Port, Refusal, Route};
+pub use call::{BuildCall, Built, Pair, PairingCall, Port, Refusal, Route, NO_PLACE};

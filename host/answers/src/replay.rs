@@ -53,7 +53,7 @@ pub fn each<'a, E>(
 
 fn replay_build(port: &mut dyn Port, (call, recorded): &BuildEntry) -> Result<(), String> {
     let answer = port.build(call);
-    if answer.as_ref() == Ok(recorded) {
+    if answer == *recorded {
         return Ok(());
     }
     Err(format!("the answer differs\n{call}recorded {recorded:?}\nanswered {answer:?}"))

@@ -2,7 +2,7 @@
 
 use answers::model::plane::{cell, direction};
 use answers::model::Model;
-use answers::{BuildCall, Built, Pair, PairingCall, Port, Route};
+use answers::{BuildCall, Built, Pair, PairingCall, Port, Route, NO_PLACE};
 
 type Line = [(f64, f64)];
 
@@ -15,7 +15,7 @@ fn build(lines: &[&Line], tolerance: f64, limit: Option<f64>) -> Built {
         ..BuildCall::default()
     };
     lines.iter().for_each(|line| call.push_plain(line));
-    Model.build(&call).expect("the model refuses nothing")
+    Model.build(&call).expect("every coordinate is a place")
 }
 
 /// Bits of coordinates.
@@ -29,7 +29,7 @@ fn pairs(ends: &[(f64, f64)], pieces: &[u32], limit: f64) -> Vec<Pair> {
     for (&(x, y), &piece) in ends.iter().zip(pieces) {
         call.push(true, [x.to_bits(), y.to_bits()], piece);
     }
-    Model.pairs(Route::Plain, &call).expect("the model refuses nothing")
+    Model.pairs(Route::Plain, &call).expect("the model refuses no pairing")
 }
 
 #[test]
@@ -47,7 +47,7 @@ fn b_two_lines_meet_within_a_group() {
     let mut call = BuildCall::default();
     lines.iter().for_each(|line| call.push_plain(line));
     call.groups[1] = 1;
-    let built = Model.build(&call).expect("the model refuses nothing");
+    let built = Model.build(&call).expect("every coordinate is a place");
     assert_eq!(built.table, [[0, 1, 0, 0, 2], [1, 1, 0, 2, 2]]);
 }
 
@@ -126,6 +126,40 @@ fn m_directions_at_the_edges_of_the_format() {
     };
     assert_eq!((toward(-537), toward(-538)), (Some((1.0, 0.0)), None));
     assert_eq!((toward(511), toward(512)), (Some((1.0, 0.0)), Some((0.0, 0.0))));
+}
+
+#[test]
+fn a_coordinate_that_is_no_place_is_refused() {
+    let plain = [[0, 0], [1.0f64.to_bits(), 0]];
+    for lost in [f64::NAN, f64::INFINITY, f64::NEG_INFINITY].map(f64::to_bits) {
+        for (line, kind) in [([[0, 0], [0, lost]], 0), ([[lost, 0], [0, 0]], 1)] {
+            let mut call = BuildCall::default();
+            call.push(&plain, 0, 0);
+            call.push(&line, 0, kind);
+            assert_eq!(Model.build(&call), Err(NO_PLACE));
+            call.coordinates.truncate(6);
+            call.counts[1] = 1;
+            assert_eq!(Model.build(&call).is_err(), kind == 1);
+        }
+    }
+}
+
+#[test]
+fn differences_of_places_overflow() {
+    let greatest = 2f64.powi(1023).to_bits();
+    let line = [[greatest, 0], [greatest | 1 << 63, 0]];
+    let (x, y) = direction(&line, 0).expect("a direction");
+    assert!(x.is_nan() && y == 0.0);
+    // It never qualifies: of three lines that meet the other two are joined, whose directions are
+    // (0, 0), since the squares of their differences overflow too.
+    let mut call = BuildCall { switch: 1, limit: 1f64.to_bits(), ..BuildCall::default() };
+    call.push(&line, 0, 0);
+    let near = 2f64.powi(1022).to_bits();
+    call.push(&[[greatest, 0], [near, 0]], 0, 0);
+    call.push(&[[greatest, 0], [greatest, near]], 0, 0);
+    let built = Model.build(&call).expect("every coordinate is a place");
+    assert_eq!(built.table, [[0, 1, 0, 0, 2], [1, 2, 1, 0, 3]]);
+    assert_eq!(built.members, [0, 2, 1]);
 }
 
 #[test]

@@ -2,16 +2,28 @@
 
 use answers::check;
 use answers::format::{read, write, Recorded};
+use answers::model::plane::direction;
 use answers::model::Model;
 use answers::replay::{each, load, replay, FILES};
+use answers::{BuildCall, Built, Refusal, NO_PLACE};
+
+/// A call is refused exactly where a coordinate is no place, and else its answer has its form.
+fn checked_build(call: &BuildCall, answer: &Result<Built, Refusal>) -> check::Checked {
+    check::build_call(call)?;
+    match (call.nowhere(), answer) {
+        (true, Err(NO_PLACE)) => Ok(()),
+        (false, Ok(built)) => check::built(call, built),
+        _ => Err(format!("it is answered by {answer:?}")),
+    }
+}
 
 #[test]
 fn every_recorded_answer_is_well_formed() {
     for name in FILES {
         let checked = load(name).and_then(|recorded| match &recorded {
-            Recorded::Building(entries) => each(entries, |(call, built)| {
-                check::build_call(call).and_then(|()| check::built(call, built))
-            }),
+            Recorded::Building(entries) => {
+                each(entries, |(call, answer)| checked_build(call, answer))
+            }
             Recorded::Pairing(entries) => each(entries, |(call, pairs)| {
                 check::pairing_call(call).and_then(|()| check::pairs(call, pairs))
             }),
@@ -52,8 +64,33 @@ fn a_damaged_file_is_refused() {
 fn a_wrong_answer_is_found() {
     let mut recorded = load("networks.bin").expect("a recorded file");
     if let Recorded::Building(entries) = &mut recorded {
-        let (_, built) = entries.last_mut().expect("a call");
-        built.marks[0] ^= 1;
+        let (_, answer) = entries.last_mut().expect("a call");
+        answer.as_mut().expect("an answer").marks[0] ^= 1;
     }
     assert!(replay(&mut Model, &recorded).is_err());
+}
+
+#[test]
+fn many_calls_are_refused_and_many_overflow() {
+    let entries = match load("wild.bin") {
+        Ok(Recorded::Building(entries)) => entries,
+        other => panic!("{other:?}"),
+    };
+    let refused = entries.iter().filter(|(_, answer)| answer.is_err()).count();
+    let answered = entries.iter().filter(|(call, answer)| answer.is_ok() && overflows(call));
+    let overflowing = answered.count();
+    println!(
+        "wild.bin: {refused} calls refused, {overflowing} with a direction that is not finite"
+    );
+    assert!(refused > 500 && overflowing > 250, "{refused}, {overflowing}");
+}
+
+/// True where the direction at an end of a line that may be joined has a number that is not finite.
+fn overflows(call: &BuildCall) -> bool {
+    let wild = |(x, y): (f64, f64)| !(x.is_finite() && y.is_finite());
+    let mut lines = call.firsts().into_iter().enumerate().filter(|&(line, _)| !call.passes(line));
+    lines.any(|(line, first)| {
+        let points = call.points(line, first);
+        [0, 1].into_iter().filter_map(|end| direction(&points, end)).any(wild)
+    })
 }

@@ -23,13 +23,13 @@ fn every_side_reads_and_writes_every_run() {
     }
 }
 
-/// A road of three lines, a lone one with a NaN and an infinity, and a there-and-back line.
+/// A road of three lines, a lone one of the least numbers, and a there-and-back line.
 fn lines() -> LinesBuf {
     let mut lines = LinesBuf::default();
     lines.push([[0.0, 0.0], [1.25, -0.0]], 0);
     lines.push([[4.5, 1e-310], [1.25, -0.0]], 0);
     lines.push([[4.5, 1e-310], [f64::MAX, 7.0]], 0);
-    lines.push([[f64::from_bits(0x7ff8_0000_0000_0123), 3.0], [f64::INFINITY, 4.0]], 1);
+    lines.push([[f64::from_bits(1), 3.0], [f64::MIN, 4.0]], 1);
     lines.push([[5.0, 5.0], [6.0, 5.0], [5.0, 5.0]], 2);
     lines
 }

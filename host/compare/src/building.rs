@@ -3,7 +3,7 @@
 use crate::room::{more, Dirt, Room};
 use crate::{Door, Judge};
 use answers::random::Random;
-use answers::{BuildCall, Built};
+use answers::{BuildCall, Built, Refusal};
 use lovasuku_chains::size::{LINE_WORKSPACE, RECORD};
 
 /// The rooms of a building call.
@@ -81,17 +81,19 @@ pub fn compare_build(
     hold_build(door, call, &judge.build(call), seed)
 }
 
-/// The same with an answer that is known already.
+/// The same with an answer or a refusal that is known already.
 pub fn hold_build(
     door: &dyn Door,
     call: &BuildCall,
-    wanted: &Built,
+    wanted: &Result<Built, Refusal>,
     seed: u64,
 ) -> Result<(), String> {
     let mut rooms = BuildRooms::for_call(&mut Random::new(seed), call);
     let answer = door.build(call, &mut rooms);
-    if answer != wanted.table.len() as i64 {
-        return Err(format!("the answer is {answer}, not {} chains", wanted.table.len()));
+    match wanted {
+        Ok(built) if answer == built.table.len() as i64 => rooms.hold(call, built),
+        Ok(built) => Err(format!("the answer is {answer}, not {} chains", built.table.len())),
+        Err(Refusal(number)) if answer == -i64::from(*number) => rooms.untouched(),
+        Err(Refusal(number)) => Err(format!("the answer is {answer}, not refusal {number}")),
     }
-    rooms.hold(call, wanted)
 }

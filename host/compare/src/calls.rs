@@ -2,7 +2,7 @@
 //! some of the lines. The seed and the number of a call determine it.
 
 use answers::random::Random;
-use answers::styles::{junctions, pairing, Style, BUILDING, PAIRING};
+use answers::styles::{junctions, pairing, wild, Style, BUILDING, PAIRING};
 use answers::{BuildCall, PairingCall};
 use lovasuku_chains::size::{MOST_ENDS, MOST_LINES, MOST_POINTS};
 
@@ -27,6 +27,12 @@ pub struct Numbered {
 
 /// One call in so many is of real size.
 const REAL: u64 = 2_000;
+
+/// One building call in so many has a coordinate that is no place, beside those whose style has.
+const LOST: usize = 16;
+
+/// The bits of the exponent, which are all set in a NaN and in an infinity.
+const EXPONENT: u64 = 0x7ff0_0000_0000_0000;
 
 /// The most ends of a call with directions that are not finite, for which the Rust lists all pairs.
 const MOST_WILD_ENDS: usize = 2_048;
@@ -54,7 +60,31 @@ pub fn numbered(seed: u64, number: u64) -> Numbered {
         true => random.pick(&[0, MOST_POINTS]),
         false => random.pick(&[0, 0, 0, 0, 0, 12]),
     };
-    Numbered { style, call: Call::Build(stretched(&mut random, call, more)), rooms }
+    let mut call = stretched(&mut random, call, more);
+    if random.one_in(LOST) {
+        lose(&mut random, &mut call);
+    }
+    Numbered { style, call: Call::Build(call), rooms }
+}
+
+/// Puts a NaN or an infinity somewhere into a line, which passes through once in two.
+fn lose(random: &mut Random, call: &mut BuildCall) {
+    if call.lines() == 0 {
+        return;
+    }
+    let line = random.below(call.lines());
+    let (first, numbers) = (2 * call.firsts()[line], 2 * call.counts[line] as usize);
+    if numbers > 0 {
+        let lost = [EXPONENT, EXPONENT | 1 << 63, EXPONENT | random.bits()];
+        call.coordinates[first + random.below(numbers)] = random.pick(&lost);
+        call.kinds[line] |= u8::from(random.one_in(2));
+    }
+}
+
+/// Arbitrary bits of a finite number.
+fn place(random: &mut Random) -> u64 {
+    let bits = random.bits();
+    bits ^ if bits & EXPONENT == EXPONENT { 1 << 62 } else { 0 }
 }
 
 fn truncate(call: &mut PairingCall, ends: usize) {
@@ -102,7 +132,7 @@ fn stretched(random: &mut Random, call: BuildCall, more: usize) -> BuildCall {
 /// A point within a line: arbitrary, a repeat of its neighbour, or one near the origin.
 fn inner(random: &mut Random, neighbour: [u64; 2]) -> [u64; 2] {
     match random.below(4) {
-        0 => [random.bits(), random.bits()],
+        0 => [place(random), place(random)],
         1 => neighbour,
         _ => [random.unit().to_bits(), random.unit().to_bits()],
     }
@@ -112,7 +142,7 @@ fn inner(random: &mut Random, neighbour: [u64; 2]) -> [u64; 2] {
 const ADDED_PAIRS: [Style<PairingCall>; 2] = [("short", pairing::short), ("rim", pairing::rim)];
 
 /// The styles of building calls that this comparison adds.
-const ADDED: [Style<BuildCall>; 2] = [("tiny", tiny), ("any bits", any_bits)];
+const ADDED: [Style<BuildCall>; 3] = [("tiny", tiny), ("any bits", any_bits), ("far", wild::far)];
 
 /// Up to four lines of two or three points on a grid of four: the unit square, zeros of both signs,
 /// or places about the edge of a cell.
@@ -134,14 +164,14 @@ fn tiny(random: &mut Random, lines: usize) -> BuildCall {
     call
 }
 
-/// Lines of arbitrary coordinates whose ends are shared, with an arbitrary tolerance.
+/// Lines of arbitrary places whose ends are shared, with an arbitrary tolerance.
 fn any_bits(random: &mut Random, lines: usize) -> BuildCall {
-    let ends: Vec<_> = (0..1 + lines).map(|_| [random.bits(), random.bits()]).collect();
+    let ends: Vec<_> = (0..1 + lines).map(|_| [place(random), place(random)]).collect();
     let mut call = BuildCall::default();
     for _ in 0..lines {
         let inner = random.below(4);
         let mut line = vec![random.pick(&ends)];
-        line.extend((0..inner).map(|_| [random.bits(), random.bits()]));
+        line.extend((0..inner).map(|_| [place(random), place(random)]));
         line.push(random.pick(&ends));
         call.push(&line, 0, 0);
     }

@@ -1,7 +1,7 @@
 //! Who says what the answer is.
 
 use answers::model::Model;
-use answers::{BuildCall, Built, Pair, PairingCall, Port, Route};
+use answers::{BuildCall, Built, Pair, PairingCall, Port, Refusal, Route};
 use oracle::Oracle;
 
 /// Above this many ends the Rust is asked once for all routes: its plain route lists every
@@ -27,24 +27,19 @@ impl Judge {
         }
     }
 
-    /// The answer to a building call.
-    ///
-    /// # Panics
-    ///
-    /// Panics where the judge refuses the call, as no judge does.
-    pub fn build(self, call: &BuildCall) -> Built {
-        let built = match self {
+    /// The answer to a building call, or the refusal of a coordinate that is no place.
+    pub fn build(self, call: &BuildCall) -> Result<Built, Refusal> {
+        match self {
             Judge::Oracle(mut oracle) => oracle.build(call),
             Judge::Model => Model.build(call),
-        };
-        built.expect("a judge refuses nothing")
+        }
     }
 
     /// The answers to a pairing call. Of many ends the Rust is asked by one route for all.
     ///
     /// # Panics
     ///
-    /// Panics where the judge refuses the call, as no judge does.
+    /// Panics where the judge refuses the call, as no judge does of pairing.
     pub fn pairs(self, call: &PairingCall) -> Selections {
         let routes = Route::for_call(call);
         let once = if routes.contains(&Route::Indexed) { Route::Indexed } else { Route::Plain };
@@ -55,7 +50,7 @@ impl Judge {
             }
             Judge::Oracle(oracle) => Selections::same(routes, oracle.selected(once, call)),
             Judge::Model => {
-                let pairs = Model.pairs(once, call).expect("a judge refuses nothing");
+                let pairs = Model.pairs(once, call).expect("a judge refuses no pairing");
                 Selections::same(routes, pairs)
             }
         }

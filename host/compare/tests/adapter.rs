@@ -3,8 +3,8 @@
 use answers::format::Recorded;
 use answers::model::plane::Point;
 use answers::replay::{load, FILES};
-use answers::{BuildCall, Built};
-use lovasuku_chains::{build_chains, LineInput, OwnedChain};
+use answers::{BuildCall, Built, Refusal};
+use lovasuku_chains::{self as library, build_chains, LineInput, OwnedChain};
 
 /// The angle in degrees that says the same as switch and limit, where one does to the bit.
 fn angle(call: &BuildCall) -> Option<f64> {
@@ -54,22 +54,34 @@ fn recorded(call: &BuildCall, built: &Built) -> Vec<Bits> {
 
 #[test]
 fn the_adapter_builds_the_recorded_chains() {
-    let mut compared = [0; 2];
+    let (mut compared, mut refused) = ([0; 2], 0);
     for name in FILES {
         let entries = match load(name) {
             Ok(Recorded::Building(entries)) => entries,
             Ok(Recorded::Pairing(_)) => continue,
             Err(fault) => panic!("{fault}"),
         };
-        for (call, built) in &entries {
-            if let Some(angle) = angle(call) {
-                let chains = build_chains(inputs(call), f64::from_bits(call.tolerance), angle);
-                let chains: Vec<Bits> = chains.unwrap().into_iter().map(bits).collect();
-                assert_eq!(chains, recorded(call, built), "{name}\n{call}");
-                compared[usize::from(call.switch)] += 1;
+        for (call, answer) in &entries {
+            let angle = match angle(call) {
+                Some(angle) => angle,
+                None => continue,
+            };
+            let chains = build_chains(inputs(call), f64::from_bits(call.tolerance), angle);
+            match (chains, answer) {
+                (Ok(chains), Ok(built)) => {
+                    let chains: Vec<Bits> = chains.into_iter().map(bits).collect();
+                    assert_eq!(chains, recorded(call, built), "{name}\n{call}");
+                    compared[usize::from(call.switch)] += 1;
+                }
+                (Err(library::Refusal::NoPlace), Err(Refusal(15))) => refused += 1,
+                (chains, _) => panic!("{name}: {chains:?}, not {answer:?}\n{call}"),
             }
         }
     }
     assert!(compared[0] > 10_000 && compared[1] > 1_000, "{compared:?}");
-    println!("{} calls without and {} with junctions compared", compared[0], compared[1]);
+    assert!(refused > 100, "{refused}");
+    println!(
+        "{} calls without and {} with junctions compared, {refused} refused",
+        compared[0], compared[1]
+    );
 }

@@ -15,8 +15,8 @@ fn replayed(name: &str) -> Result<usize, String> {
         seed
     };
     match load(name)? {
-        Recorded::Building(entries) => each(&entries, |(call, built)| {
-            hold_build(&Library, call, built, seed())
+        Recorded::Building(entries) => each(&entries, |(call, answer)| {
+            hold_build(&Library, call, answer, seed())
                 .map_err(|difference| format!("{difference}\n{call}"))
         }),
         Recorded::Pairing(entries) => each(&entries, |(call, pairs)| {

@@ -25,7 +25,7 @@ pub const PASSING: u8 = 1;
 /// ```
 #[derive(Clone, Copy, Debug, Default, PartialEq)]
 pub struct Lines<'a> {
-    /// x, y, x, y .. of all lines. Any float may stand here; each comes back bit for bit.
+    /// x, y, x, y .. of all lines. Any finite float may stand here; each comes back bit for bit.
     pub coordinates: &'a [f64],
     /// The number of coordinates of each line, counted in pairs of x and y.
     pub counts: &'a [u32],

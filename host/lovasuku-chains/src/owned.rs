@@ -62,7 +62,7 @@ impl From<Chain<'_>> for OwnedChain {
 ///
 /// # Errors
 ///
-/// [`Refusal::TooMany`] and [`Refusal::TooManyCoordinates`].
+/// [`Refusal::TooMany`], [`Refusal::TooManyCoordinates`] and [`Refusal::NoPlace`].
 ///
 /// ```
 /// use lovasuku_chains::{build_chains, LineInput};

@@ -5,7 +5,8 @@ use std::fmt;
 
 /// Why a call was turned away. A refused call reports nothing and stores nothing.
 ///
-/// The refusals are tested in the order of their numbers, and the first that applies is given.
+/// The refusals are tested in the order in which they stand here, and the first that applies is
+/// given.
 ///
 /// ```
 /// use lovasuku_chains::Refusal;
@@ -29,6 +30,8 @@ pub enum Refusal {
     CountsDoNotAddUp,
     /// 5: more than 65,536 coordinates, counted in pairs.
     TooManyCoordinates,
+    /// 15: a coordinate is NaN or infinite, of whichever line.
+    NoPlace,
     /// 6: the limit is NaN, below -1 or above 1. At the [`door`](crate::door) also: the switch is
     /// above 1.
     BadLimit,
@@ -76,6 +79,7 @@ impl Refusal {
             12 => Refusal::BadType,
             13 => Refusal::BadLength,
             14 => Refusal::RecordRoomTooShort,
+            15 => Refusal::NoPlace,
             16 => Refusal::UnknownOrder,
             unknown => Refusal::Unknown(unknown),
         }
@@ -89,6 +93,7 @@ impl Refusal {
             Refusal::MarkAboveOne => 3,
             Refusal::CountsDoNotAddUp => 4,
             Refusal::TooManyCoordinates => 5,
+            Refusal::NoPlace => 15,
             Refusal::BadLimit => 6,
             Refusal::RoomTooShort => 7,
             Refusal::PieceTooOften => 8,
@@ -113,6 +118,7 @@ impl Refusal {
                 "the counts do not add up to half the number of coordinates"
             }
             Refusal::TooManyCoordinates => "there are more than 65,536 coordinates",
+            Refusal::NoPlace => "a coordinate is not finite, so that it is no place",
             Refusal::BadLimit => "the limit is not a number from -1 to 1",
             Refusal::RoomTooShort => "a room is too short",
             Refusal::PieceTooOften => "a piece number occurs more than twice",
@@ -149,7 +155,7 @@ mod tests {
         for number in 1..=30 {
             let refusal = Refusal::of_number(number);
             assert_eq!(refusal.number(), number);
-            let known = number <= 14 || number == 16;
+            let known = number <= 16;
             assert_eq!(!known, matches!(refusal, Refusal::Unknown(_)));
         }
     }

@@ -76,7 +76,7 @@ impl Rooms {
     ///
     /// The first of these that applies: [`Refusal::TooMany`], [`Refusal::TablesDiffer`],
     /// [`Refusal::MarkAboveOne`], [`Refusal::CountsDoNotAddUp`], [`Refusal::TooManyCoordinates`],
-    /// [`Refusal::BadLimit`].
+    /// [`Refusal::NoPlace`], [`Refusal::BadLimit`].
     pub fn build<'a>(
         &'a mut self,
         lines: Lines<'a>,

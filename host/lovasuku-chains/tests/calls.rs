@@ -1,10 +1,11 @@
 //! What the safe calls promise beside the rules: borrowed coordinates, bits kept, rooms lent again,
 //! every refusal by its name.
 
+use lovasuku_chains::large::{join, Capacity, Fault, Line};
 use lovasuku_chains::size::{MOST_ENDS, MOST_LINES, MOST_POINTS};
 use lovasuku_chains::{
-    build_chains, chain_coordinates, chain_question, door, Ends, LineInput, Lines, LinesBuf,
-    OwnedChain, Refusal, Rooms, Route, Settings,
+    build_chains, chain_coordinates, chain_question, door, Chains, Ends, LineInput, Lines,
+    LinesBuf, OwnedChain, Refusal, Rooms, Route, Settings,
 };
 
 /// A line that joins the next but one, and between them one that passes through.
@@ -40,16 +41,60 @@ fn coordinates_are_borrowed_from_the_lines_or_the_rooms() {
 
 #[test]
 fn every_bit_of_a_coordinate_comes_back() {
-    let [quiet, signalling] = [0x7ff8_0000_0000_0123, 0xfff4_0000_0000_0001].map(f64::from_bits);
+    let least = f64::from_bits(1);
     let mut lines = LinesBuf::default();
-    lines.push([[5.0, signalling], [quiet, -0.0]], 0);
-    lines.push([[quiet, -0.0], [6.0, 7.0]], 0);
+    lines.push([[5.0, least], [f64::MAX, -0.0]], 0);
+    lines.push([[f64::MAX, -0.0], [6.0, -least], [f64::MIN, 7.1]], 0);
     let mut rooms = Rooms::default();
     let chains = rooms.build(lines.lines(), Settings::default()).unwrap();
     let bits: Vec<u64> = chains.merged().iter().map(|x| x.to_bits()).collect();
-    // A NaN equals nothing, so the coordinate that both lines end in is not dropped.
-    let there: Vec<u64> = lines.lines().coordinates.iter().map(|x| x.to_bits()).collect();
-    assert_eq!(bits, there);
+    let laid = [5.0, least, f64::MAX, -0.0, 6.0, -least, f64::MIN, 7.1];
+    assert_eq!(bits, laid.map(f64::to_bits));
+}
+
+#[test]
+fn a_coordinate_that_is_no_place_is_refused() {
+    let mut rooms = Rooms::default();
+    for lost in [f64::NAN, -f64::NAN, f64::INFINITY, f64::NEG_INFINITY] {
+        for point in [[lost, 0.0], [0.0, lost]] {
+            let mut plain = LinesBuf::default();
+            plain.push([[0.0, 0.0], point, [1.0, 0.0]], 0);
+            let mut passing = LinesBuf::default();
+            passing.push([[0.0, 0.0], [1.0, 0.0]], 0);
+            passing.push_passing([[0.0, 0.0], point], 0);
+            let mut single = LinesBuf::default();
+            single.push([point], 0);
+            for lines in [plain, passing, single] {
+                let settings = Settings::default();
+                let refused = |settings| rooms.build(lines.lines(), settings).err();
+                let answers = [settings, settings.with_limit(2.0)].map(refused);
+                assert_eq!(answers, [Some(Refusal::NoPlace); 2]);
+            }
+            let lines = [[[5.0, 5.0], [6.0, 5.0]], [[0.0, 0.0], point]];
+            let lines = [0, 1].map(|k| Line { points: Some(&lines[k]), group: 0 });
+            let joined = join(&lines, Settings::default().with_tolerance(1.0), Capacity::default());
+            assert_eq!(joined, Err(Fault::Refused(Refusal::NoPlace)));
+        }
+    }
+}
+
+#[test]
+fn a_difference_that_overflows_continues_nothing() {
+    let far = 2f64.powi(1023);
+    let mut lines = LinesBuf::default();
+    lines.push([[far, 0.0], [-far, 0.0]], 0);
+    lines.push([[far, 0.0], [far, far]], 0);
+    lines.push([[far, 0.0], [far, -far]], 0);
+    let mut rooms = Rooms::default();
+    let wide = Settings::default().with_limit(1.0);
+    let members = |chains: Chains| -> Vec<Vec<u32>> {
+        chains.iter().map(|chain| chain.members().to_vec()).collect()
+    };
+    // The first line's direction has a NaN; those of the others are (0, 0), whose measure is 0.
+    let chains = rooms.build(lines.lines(), wide).unwrap();
+    assert_eq!(members(chains), [vec![0], vec![2, 1]]);
+    let chains = rooms.build(lines.lines(), wide.with_limit(-0.5)).unwrap();
+    assert_eq!(members(chains), [vec![0], vec![1], vec![2]]);
 }
 
 #[test]
@@ -121,6 +166,10 @@ fn the_first_refusal_that_applies_is_given() {
     assert_eq!(refused(wrong), Some(4));
     let long = Lines { coordinates: &wrong.coordinates[1..], counts: &[70_000], ..wrong };
     assert_eq!(refused(long), Some(5));
+    let mut lost = [0.0; 140_000];
+    lost[3] = f64::NAN;
+    assert_eq!(refused(Lines { coordinates: &lost, counts: &[70_000], ..wrong }), Some(5));
+    assert_eq!(refused(Lines { coordinates: &lost[..4], ..wrong }), Some(15));
     assert_eq!(refused(Lines { coordinates: &[0.0; 4], ..wrong }), Some(6));
 }
 

@@ -95,7 +95,7 @@ fn lines() -> LinesBuf {
     let mut lines = LinesBuf::default();
     lines.push([[0.0, 0.0], [1.0, -0.0]], 0);
     lines.push([[2.0, 0.0], [1.0, -0.0]], 0);
-    lines.push([[f64::from_bits(0x7ff8_0000_0000_0123), 3.0], [f64::INFINITY, 4.0]], 1);
+    lines.push([[f64::from_bits(1), 3.0], [f64::MIN, 4.0]], 1);
     lines.push([[7.5, -7.5]], 2);
     lines
 }

@@ -51,12 +51,42 @@ fn geometry_that_is_no_line() {
 fn positions_that_are_none() {
     let told =
         "lovasuku: standard input: feature 1 (line 2): its coordinates are not positions of finite numbers\n";
-    for positions in
-        ["[[0,0],[1]]", "[[0,0],[1,null]]", "[0,0]", "[[0,0],[1,1e999]]", "null", "[[\"0\",0]]"]
-    {
+    for positions in ["[[0,0],[1]]", "[[0,0],[1,null]]", "[0,0]", "null", "[[\"0\",0]]"] {
         let text = three(&feature("LineString", positions));
         assert_eq!(fault("positions", &text, &[]), told, "{positions}");
     }
+}
+
+#[test]
+fn places_that_are_none() {
+    let told = "a number of its coordinates is too large for a double, so that it is no place";
+    let all = [
+        ("LineString", "[[0,0],[1,1e999]]"),
+        ("LineString", "[[-1e999,0],[1,0]]"),
+        ("LineString", "[[0,1e309]]"),
+        ("MultiLineString", "[[[0,0],[1,0]],[[1e999,0]]]"),
+    ];
+    for (kind, positions) in all {
+        let lost = feature(kind, positions);
+        let named = lost.replacen('{', r#"{"id":"spur 7","#, 1);
+        for (lost, place) in [(lost, "line 2"), (named, r#"id "spur 7", line 2"#)] {
+            let wanted = format!("lovasuku: standard input: feature 1 ({place}): {told}\n");
+            assert_eq!(fault("nowhere", &three(&lost), &[]), wanted);
+        }
+    }
+    for word in ["NaN", "Infinity"] {
+        let lost = feature("LineString", &format!("[[0,0],[1,{word}]]"));
+        let told = fault("words", &three(&lost), &[]);
+        assert!(told.starts_with("lovasuku: standard input: feature 1: bad JSON: "), "{told}");
+    }
+}
+
+#[test]
+fn the_greatest_places_are_places() {
+    let far = "[[1.7976931348623157e308,0],[-1.7976931348623157e308,0]]";
+    let run = run(&["join", "-", "-o", "-", "-q"], &three(&feature("LineString", far)));
+    assert_eq!((run.status, &run.err[..]), (0, ""));
+    assert!(run.out.contains("1.7976931348623157e308"), "{}", run.out);
 }
 
 #[test]

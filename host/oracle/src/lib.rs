@@ -94,7 +94,7 @@ impl Oracle {
 }
 
 /// The edited original as something that answers calls. The marks, which it does not know, are
-/// the model's.
+/// the model's, and so is the refusal of coordinates that are no place.
 impl Port for Oracle {
     fn build(&mut self, call: &BuildCall) -> Result<Built, Refusal> {
         let marks = Model.build(call)?.marks;

@@ -4,8 +4,8 @@ use answers::model::plane::direction;
 use answers::model::Model;
 use answers::random::Random;
 use answers::replay::{load, replay, FILES};
-use answers::styles::{Style, BUILDING, PAIRING};
-use answers::{Port, Route};
+use answers::styles::{wild, Style, BUILDING, PAIRING};
+use answers::{BuildCall, Port, Route};
 use oracle::Oracle;
 
 /// The sizes that are tried, about the boundaries.
@@ -43,7 +43,8 @@ fn each_call<C>(styles: &[Style<C>], seed: u64, mut test: impl FnMut(&'static st
 #[test]
 fn the_model_builds_as_the_oracle_does() {
     if let Some(mut oracle) = oracle() {
-        each_call(&BUILDING, 101, |name, call| {
+        let far: [Style<BuildCall>; 1] = [("far", wild::far)];
+        each_call(&[&BUILDING[..], &far].concat(), 101, |name, call| {
             assert_eq!(Model.build(&call), oracle.build(&call), "{name}\n{call}");
         });
     }

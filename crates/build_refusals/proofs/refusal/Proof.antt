@@ -3,13 +3,16 @@ use borrow.Author.Needs.{needs}
 use Rattle.build_refusals.proofs.refusal.Statement.{statement}
 use Rattle.build_refusals.proofs.refusal.Tie as tie
 use Prim.Native.Nat.{ℕ}
-use mathlib.Core.Path.{sym, _∙_}
+use mathlib.Core.Path.{_≡_, sym, _∙_}
 use denote.Ref.{now}
+use lib.Dec.{ltb}
 use lib.ListN.{drop}
+use Rattle.rules.specs.Plane.{points}
+use Rattle.build_refusals.specs.Tests.{wildOf}
 use borrow.Author.Tests.{lt-ltb, le-ltb, eq-eqb, ne-eqb}
 use Rattle.rules.specs.Layout.{Lines, lent}
-use Rattle.rules.specs.Refusals.{Rooms, rooms, refusalOf}
-use Rattle.build_refusals.proofs.Laws.{tests, Left, opened, rung, halt, top, sums}
+use Rattle.rules.specs.Refusals.{Rooms, rooms, anyNowhere, refusalOf}
+use Rattle.build_refusals.proofs.Laws.{nowhere-wild, tests, Left, opened, rung, halt, top, sums}
 
 abbrev start : tie.Else1 → tie.Start
 start c = c .before .before .before .before .before .before .before .before .before .before .before
@@ -43,8 +46,16 @@ left4 c = rung (left3 (c .before .before)) (sums _ _ _ (c .before .total .ensure
 left5 : (c : tie.Else5) → After 5 (start (c .before .before .before .before .before .before .before))
 left5 c = rung (left4 (c .before)) (le-ltb _ _ (c .if5 .left))
 
+-- a coordinate is no place exactly where one of the numbers is none: they are two for each, since the counts add up
+places : (c : tie.Else5) → anyNowhere (points 2 (now (start (c .before .before .before .before .before .before .before) .args .coordinates)))
+    ≡ ltb 0 (wildOf (now (start (c .before .before .before .before .before .before .before) .args .coordinates)))
+places c = nowhere-wild _ _ (c .before .if4 .left)
+
 left6 : (c : tie.Else6) → After 6 (start (c .before .before .before .before .before .before .before .before .before))
-left6 c = rung (left5 (c .before .before)) (sym (c .before .switch-bad .ensures) ∙ c .if6 .left)
+left6 c = rung (left5 (c .before .before)) (places (c .before .before) ∙ sym (c .before .any-nowhere .ensures) ∙ c .if6 .left)
+
+left7 : (c : tie.Else7) → After 7 (start (c .before .before .before .before .before .before .before .before .before .before .before))
+left7 c = rung (left6 (c .before .before)) (sym (c .before .switch-bad .ensures) ∙ c .if7 .left)
 
 returns : tie.Need-returns
 returns c = halt (all (c .before .before .before .before .before .before .before .before .before .before .before)) (lt-ltb _ _ (c .if1 .taken))
@@ -73,20 +84,26 @@ returns-4 c = halt (left3 (c .before .before)) (sums _ _ _ (c .before .total .en
 returns-5 : tie.Need-returns-5
 returns-5 c = halt (left4 (c .before)) (lt-ltb _ _ (c .if5 .taken))
 
+any-nowhere-requires : tie.Need-any-nowhere-requires
+any-nowhere-requires c κs = search needs
+
+returns-6 : tie.Need-returns-6
+returns-6 c = halt (left5 (c .before .before)) (places (c .before .before) ∙ sym (c .before .any-nowhere .ensures) ∙ c .if6 .taken)
+
 switch-bad-requires : tie.Need-switch-bad-requires
 switch-bad-requires c κs = search needs
 
-returns-6 : tie.Need-returns-6
-returns-6 c = halt (left5 (c .before .before)) (sym (c .before .switch-bad .ensures) ∙ c .if6 .taken)
+returns-7 : tie.Need-returns-7
+returns-7 c = halt (left6 (c .before .before)) (sym (c .before .switch-bad .ensures) ∙ c .if7 .taken)
 
 room-short-requires : tie.Need-room-short-requires
 room-short-requires c κs = search needs
 
-returns-7 : tie.Need-returns-7
-returns-7 c = halt (left6 (c .before .before)) (sym (c .before .room-short .ensures) ∙ c .if7 .taken)
-
 returns-8 : tie.Need-returns-8
-returns-8 c = top (rung (left6 (c .before .before)) (sym (c .before .room-short .ensures) ∙ c .if7 .left))
+returns-8 c = halt (left7 (c .before .before)) (sym (c .before .room-short .ensures) ∙ c .if8 .taken)
+
+returns-9 : tie.Need-returns-9
+returns-9 c = top (rung (left7 (c .before .before)) (sym (c .before .room-short .ensures) ∙ c .if8 .left))
 
 pub refusal-spec : {M : Type 1} → statement M
 refusal-spec =
@@ -101,8 +118,10 @@ refusal-spec =
     mul-if4
     returns-4
     returns-5
-    switch-bad-requires
+    any-nowhere-requires
     returns-6
-    room-short-requires
+    switch-bad-requires
     returns-7
-    returns-8)
+    room-short-requires
+    returns-8
+    returns-9)

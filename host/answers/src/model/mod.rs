@@ -2,14 +2,15 @@
 //!
 //! One file per heading of the rules: [`plane`] (keys, directions, the measure), [`selecting`],
 //! [`walking`] (joining and walks), [`layout`] (the answer's tables). This file has the two rounds.
-//! The model refuses nothing: it is put only to calls that the port accepts.
+//! The model refuses coordinates that are no place and nothing else: it is put only to calls to
+//! which no other refusal applies.
 
 pub mod layout;
 pub mod plane;
 pub mod selecting;
 pub mod walking;
 
-use crate::call::{BuildCall, Built, Pair, PairingCall, Port, Refusal, Route};
+use crate::call::{BuildCall, Built, Pair, PairingCall, Port, Refusal, Route, NO_PLACE};
 use plane::{cell_key, exact_key, same, Key, Point};
 use walking::{joins, walks};
 
@@ -31,16 +32,24 @@ pub struct Model;
 
 impl Port for Model {
     fn build(&mut self, call: &BuildCall) -> Result<Built, Refusal> {
-        let (plain, passing) = lines(call);
-        let mut chains = rounds(call, plain);
-        chains.extend(passing);
-        Ok(layout::built(call, &chains))
+        match call.nowhere() {
+            true => Err(NO_PLACE),
+            false => Ok(built(call)),
+        }
     }
 
     fn pairs(&mut self, _: Route, call: &PairingCall) -> Result<Vec<Pair>, Refusal> {
         let limit = f64::from_bits(call.limit);
         Ok(selecting::selected(&call.all_directions(), &call.pieces, limit))
     }
+}
+
+/// The answer by the rules, whatever the coordinates are.
+pub fn built(call: &BuildCall) -> Built {
+    let (plain, passing) = lines(call);
+    let mut chains = rounds(call, plain);
+    chains.extend(passing);
+    layout::built(call, &chains)
 }
 
 /// The lines of a call as pieces of one member: those to be joined, and those that pass through.

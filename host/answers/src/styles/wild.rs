@@ -44,6 +44,18 @@ pub const WORDS: [u64; 36] = [
     0xffef_ffff_ffff_ffff, // the least
 ];
 
+/// Numbers so far apart that a difference of two of them overflows, beside some that are not.
+pub const FAR: [u64; 8] = [
+    0x7fe0_0000_0000_0000, // 2^1023
+    0xffe0_0000_0000_0000, // -2^1023
+    0x7fef_ffff_ffff_ffff, // the greatest
+    0xffef_ffff_ffff_ffff, // the least
+    0x5ff0_0000_0000_0000, // 2^512
+    0x3ff0_0000_0000_0000, // 1
+    0x0000_0000_0000_0000, // 0
+    0x0000_0000_0000_0001, // 2^-1074, the least subnormal
+];
+
 /// One of the wild words.
 pub fn word(random: &mut Random) -> u64 {
     random.pick(&WORDS)
@@ -57,6 +69,11 @@ pub fn wild(random: &mut Random, lines: usize) -> BuildCall {
 /// Lines over a few arbitrary bit patterns.
 pub fn bits(random: &mut Random, lines: usize) -> BuildCall {
     over_few(random, lines, Random::bits)
+}
+
+/// Lines over a few finite numbers that are far apart, so that directions overflow.
+pub fn far(random: &mut Random, lines: usize) -> BuildCall {
+    over_few(random, lines, |random| random.pick(&FAR))
 }
 
 fn over_few(random: &mut Random, lines: usize, word: fn(&mut Random) -> u64) -> BuildCall {

@@ -1,7 +1,7 @@
 //! Damaged building calls.
 
 use crate::building_damages::{accepted, damages, lengths, LentLines};
-use crate::damaged;
+use crate::{damaged, IN_ORDER};
 use answers::random::Random;
 use answers::BuildCall;
 use compare::building::{compare_build, BuildRooms};
@@ -53,7 +53,7 @@ fn many_damages_at_once() {
     let mut random = Random::new(5);
     for _ in 0..1_000 {
         let mut some = Vec::new();
-        for refusal in 1..=7 {
+        for refusal in IN_ORDER {
             let of: Vec<_> = all.iter().filter(|damage| damage.refusal == refusal).collect();
             if random.one_in(2) {
                 some.push(random.pick(&of));

@@ -1,6 +1,6 @@
 //! Building calls that are accepted at the edge, and every damage to one.
 
-use crate::{short_rooms, shorter, Lent, NO_LIMITS};
+use crate::{short_rooms, shorter, Lent, NO_LIMITS, NO_PLACES};
 use answers::BuildCall;
 use compare::building::BuildRooms;
 
@@ -21,12 +21,15 @@ pub fn lengths(lent: &LentLines) -> [usize; 6] {
     }
 }
 
+/// The greatest number, after which the infinity follows.
+const GREATEST: u64 = 0x7fef_ffff_ffff_ffff;
+
 /// Calls that are accepted, each at an edge of the refusals.
 pub fn accepted() -> Vec<(&'static str, BuildCall)> {
     let mut small = BuildCall::default();
     small.push_plain(&[(0.0, 0.0), (1.0, 0.0)]);
     small.push_plain(&[(1.0, 0.0), (2.0, 0.0), (3.0, 0.0)]);
-    small.push(&[[0, 0]], u32::MAX, 1);
+    small.push(&[[GREATEST, GREATEST | 1 << 63]], u32::MAX, 1);
     small.limit = f64::NAN.to_bits();
     let mut edge = small.clone();
     edge.kinds.fill(1);
@@ -48,6 +51,7 @@ fn largest() -> BuildCall {
 pub fn damages() -> Vec<Damage> {
     let mut all = numbers();
     all.extend(counts());
+    all.extend(places());
     all.extend(settings());
     all.extend(short_rooms(["table", "members", "marks", "merged", "spare", "workspace"]));
     all
@@ -108,6 +112,28 @@ fn counts() -> Vec<Damage> {
             call.counts[0] += 200_000;
         }),
     ]
+}
+
+/// Refusal 15: a number that is no place's, first, second, last but one and last. In the smallest
+/// call the last two are a line's that passes through, of one coordinate.
+fn places() -> Vec<Damage> {
+    let mut all = Vec::new();
+    for lost in NO_PLACES {
+        let name = |place: &str| format!("{place} number {:?} ({lost:x})", f64::from_bits(lost));
+        let put = |from_last: bool, k: usize| {
+            move |call: &mut BuildCall| {
+                let numbers = &mut call.coordinates;
+                let at = if from_last { numbers.len().checked_sub(k + 1) } else { Some(k) };
+                at.and_then(|at| numbers.get_mut(at)).into_iter().for_each(|it| *it = lost);
+            }
+        };
+        all.push(damage(15, &name("first"), put(false, 0)));
+        all.push(damage(15, &name("second"), put(false, 1)));
+        all.push(damage(15, &name("last but one"), put(true, 1)));
+        all.push(damage(15, &name("last"), put(true, 0)));
+    }
+    all.push(damage(15, "every number NaN", |call| call.coordinates.fill(u64::MAX)));
+    all
 }
 
 /// Refusal 6: a switch that is none, and limits that are none under switch 1.

@@ -80,14 +80,26 @@ pub fn short_rooms<C, const ROOMS: usize>(names: [&str; ROOMS]) -> Vec<Damage<C,
     all
 }
 
-/// The call with the damages, the lowest refusal's last, so that no other undoes it. Gives that
+/// The refusals of building in the order of checking.
+pub const IN_ORDER: [i64; 8] = [1, 2, 3, 4, 5, 15, 6, 7];
+
+/// The place of a refusal in the order of checking: 15 stands between 5 and 6.
+fn place(refusal: i64) -> i64 {
+    if refusal == 15 {
+        11
+    } else {
+        2 * refusal
+    }
+}
+
+/// The call with the damages, the first refusal's last, so that no other undoes it. Gives that
 /// refusal too, and the names of all.
 pub fn damaged<C: Clone, const ROOMS: usize>(
     call: &C,
     damages: &[&Damage<C, ROOMS>],
 ) -> (i64, Lent<C, ROOMS>, String) {
     let mut ordered = damages.to_vec();
-    ordered.sort_by_key(|damage| Reverse(damage.refusal));
+    ordered.sort_by_key(|damage| Reverse(place(damage.refusal)));
     let mut lent = Lent { call: call.clone(), short: [None; ROOMS] };
     ordered.iter().for_each(|damage| (damage.apply)(&mut lent));
     let names: Vec<_> = ordered.iter().map(|damage| damage.name.as_str()).collect();
@@ -102,6 +114,16 @@ pub const NO_LIMITS: [u64; 6] = [
     0x3ff0_0000_0000_0001,
     0xfff0_0000_0000_0000,
     0x7ff0_0000_0000_0000,
+];
+
+/// Floats that are no place: infinities, and NaN of several payloads and both signs.
+pub const NO_PLACES: [u64; 6] = [
+    0x7ff0_0000_0000_0000,
+    0xfff0_0000_0000_0000,
+    0x7ff8_0000_0000_0000,
+    0x7ff0_0000_0000_0001,
+    0xfff4_0000_0000_0000,
+    0xffff_ffff_ffff_ffff,
 ];
 
 /// Takes the last number out of a table.

@@ -1,18 +1,19 @@
 //! Round trips: what was written is read, and what was read is written, over recorded networks.
 
 use crate::{Reading, Writing};
-use answers::format::Recorded;
+use answers::format::{BuildEntry, Recorded};
 use answers::replay::{load, FILES};
 use answers::wkb::{record, Chains};
 use answers::{BuildCall, Built};
 
-/// Every recorded building call, with its answer.
+/// Every recorded building call that is answered, with its answer.
 fn recorded() -> Vec<(BuildCall, Built)> {
     let building = |name: &&str| match load(name) {
         Ok(Recorded::Building(entries)) => entries,
         _ => Vec::new(),
     };
-    FILES.iter().flat_map(building).collect()
+    let answered = |(call, answer): BuildEntry| Some((call, answer.ok()?));
+    FILES.iter().flat_map(building).filter_map(answered).collect()
 }
 
 /// The coordinates of a chain of a recorded answer.

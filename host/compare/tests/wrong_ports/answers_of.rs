@@ -1,17 +1,17 @@
 //! Right answers, and wrong ones that a port could plausibly give.
 
 use answers::model::plane::measure;
-use answers::model::Model;
+use answers::model::{built, Model};
 use answers::{BuildCall, Built, Pair, PairingCall, Port, Route};
 
 /// The right answer.
 pub fn right(call: &BuildCall) -> Built {
-    Model.build(call).expect("the model refuses nothing")
+    built(call)
 }
 
 /// The right pairs.
 pub fn right_pairs(call: &PairingCall) -> Vec<Pair> {
-    Model.pairs(Route::Plain, call).expect("the model refuses nothing")
+    Model.pairs(Route::Plain, call).expect("the model refuses no pairing")
 }
 
 /// True where round two runs.

@@ -8,6 +8,8 @@ use compare::Door;
 
 /// A port in which each part may be replaced by a wrong one.
 pub struct Pretended {
+    /// Whether a building call is refused for a coordinate that is no place.
+    pub nowhere: fn(&BuildCall) -> bool,
     /// The answer to a building call.
     pub build: fn(&BuildCall) -> Built,
     /// The pairs of a pairing call.
@@ -23,6 +25,7 @@ pub struct Pretended {
 impl Default for Pretended {
     fn default() -> Self {
         Pretended {
+            nowhere: BuildCall::nowhere,
             build: answers_of::right,
             pairs: answers_of::right_pairs,
             after_build: |_, _| (),
@@ -36,6 +39,9 @@ impl Door for Pretended {
     fn build(&self, call: &BuildCall, rooms: &mut BuildRooms) -> i64 {
         if let Some(number) = self.refusal {
             return -number;
+        }
+        if (self.nowhere)(call) {
+            return -15;
         }
         let built = (self.build)(call);
         let merged: Vec<f64> = built.merged.iter().map(|&bits| f64::from_bits(bits)).collect();

@@ -95,6 +95,51 @@ fn round_two_skipped() {
     assert!(f64::from_bits(call.tolerance) > 0.0);
 }
 
+/// Tests that a port which lets some coordinates through is caught on one line of one point.
+#[track_caller]
+fn assert_let_through(nowhere: fn(&BuildCall) -> bool) -> BuildCall {
+    let (call, sentence) = caught_building(Pretended { nowhere, ..Pretended::default() });
+    assert_small(&call, 1, 1);
+    assert_eq!(sentence, "the answer is 1, not refusal 15");
+    call
+}
+
+/// True where a line that the test asks for has a coordinate of which the other test holds.
+fn has(call: &BuildCall, looked_at: fn(&BuildCall, usize) -> bool, lost: fn(f64) -> bool) -> bool {
+    let mut lines = call.firsts().into_iter().enumerate();
+    lines.any(|(line, first)| {
+        let points = call.points(line, first);
+        let mut numbers = points.iter().flatten().map(|&bits| f64::from_bits(bits));
+        looked_at(call, line) && numbers.any(lost)
+    })
+}
+
+#[test]
+fn infinities_let_through() {
+    let call = assert_let_through(|call| has(call, |_, _| true, f64::is_nan));
+    assert!(call.coordinates.iter().any(|&bits| f64::from_bits(bits).is_infinite()), "{call}");
+}
+
+#[test]
+fn nans_let_through() {
+    let call = assert_let_through(|call| has(call, |_, _| true, f64::is_infinite));
+    assert!(call.coordinates.iter().any(|&bits| f64::from_bits(bits).is_nan()), "{call}");
+}
+
+#[test]
+fn lines_that_pass_through_not_looked_at() {
+    assert_let_through(|call| has(call, |call, line| !call.passes(line), |x| !x.is_finite()));
+}
+
+#[test]
+fn a_far_place_refused() {
+    let nowhere =
+        |call: &BuildCall| has(call, |_, _| true, |x| x.is_nan() || x.abs() >= 2f64.powi(1023));
+    let (call, sentence) = caught_building(Pretended { nowhere, ..Pretended::default() });
+    assert_small(&call, 1, 1);
+    assert_eq!(sentence, "the answer is -15, not 1 chains");
+}
+
 #[test]
 fn everything_refused() {
     let wrong = Pretended { refusal: Some(7), ..Pretended::default() };

@@ -143,8 +143,18 @@ const OTHER: [&str; 5] = ["Point", "MultiPoint", "Polygon", "MultiPolygon", "Geo
 
 const NO_POSITIONS: &str = "its coordinates are not positions of finite numbers";
 
+const NO_PLACE: &str = "a number of its coordinates is too large for a double, so that it is no place";
+
+/// What is wrong with coordinates that cannot be read.
+fn unread(fault: serde_json::Error) -> &'static str {
+    match fault.to_string().starts_with("number out of range") {
+        true => NO_PLACE,
+        false => NO_POSITIONS,
+    }
+}
+
 fn line(coordinates: &str, heights: Heights) -> Result<Geometry, String> {
-    let run: Run = serde_json::from_str(coordinates).map_err(|_| NO_POSITIONS)?;
+    let run: Run = serde_json::from_str(coordinates).map_err(unread)?;
     match (run.high, heights) {
         (Some(k), Heights::Refused) => Err(high(k, "")),
         _ => Ok(Geometry::Line(run.points)),
@@ -152,7 +162,7 @@ fn line(coordinates: &str, heights: Heights) -> Result<Geometry, String> {
 }
 
 fn lines(coordinates: &str, heights: Heights) -> Result<Geometry, String> {
-    let runs: Vec<Run> = serde_json::from_str(coordinates).map_err(|_| NO_POSITIONS)?;
+    let runs: Vec<Run> = serde_json::from_str(coordinates).map_err(unread)?;
     for (part, run) in runs.iter().enumerate() {
         if let (Some(k), Heights::Refused) = (run.high, heights) {
             return Err(high(k, &format!(" of part {part}")));

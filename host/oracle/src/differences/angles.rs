@@ -31,16 +31,19 @@ pub fn report(oracle: Oracle) {
     println!("unedited routes against one another: {} of {}", routes(oracle), CALLS * FINITE);
 }
 
-/// How many building calls differ in their chains, style by style.
+/// How many building calls differ in their chains, style by style, of those whose coordinates are
+/// all places.
 fn building(oracle: Oracle, angle: f64, (switch, limit): (u8, f64)) -> String {
     let differ = |(name, make): Style<BuildCall>| {
         let mut random = Random::new(201);
         let mut differs = |size: usize| {
             let call = BuildCall { switch, limit: limit.to_bits(), ..make(&mut random, size) };
-            oracle.chains(&call) != oracle.unedited_chains(&call, angle)
+            let chains = || oracle.chains(&call) != oracle.unedited_chains(&call, angle);
+            (!call.nowhere()).then(chains)
         };
-        let count = (0..CALLS).filter(|k| differs(k % 40)).count();
-        format!("{name} {count}")
+        let compared: Vec<bool> = (0..CALLS).filter_map(|k| differs(k % 40)).collect();
+        let count = compared.iter().filter(|&&differs| differs).count();
+        format!("{name} {count} of {}", compared.len())
     };
     BUILDING.into_iter().map(differ).collect::<Vec<_>>().join(", ")
 }
