@@ -68,7 +68,17 @@ enum lovasuku_refusal {
     LOVASUKU_BAD_TYPE = 12,            /* A WKB record's type is not 2. */
     LOVASUKU_BAD_LENGTH = 13,          /* The lengths do not add up, or a WKB record's count and length disagree. */
     LOVASUKU_RECORD_ROOM_TOO_SHORT = 14, /* A room is shorter than the WKB records need. */
-    LOVASUKU_UNKNOWN_ORDER = 16        /* The byte order to be written is neither 0 nor 1. */
+    LOVASUKU_UNKNOWN_ORDER = 16,       /* The byte order to be written is neither 0 nor 1. */
+    LOVASUKU_NO_TWO_ENDS = 26          /* An end number is not below the number of ends, or the two are equal. */
+};
+
+/* Why two ends are joined or not: what lovasuku_why answers, and the first of these that applies. */
+enum lovasuku_reason {
+    LOVASUKU_SELECTED = 0,         /* Their pair is selected. */
+    LOVASUKU_SAME_PIECE = 1,       /* They are the two ends of one piece. */
+    LOVASUKU_ABSENT_DIRECTION = 2, /* One of them has no direction. */
+    LOVASUKU_NOT_QUALIFYING = 3,   /* Their measure is above the limit, or NaN. */
+    LOVASUKU_BLOCKED = 4           /* 4 + p: selected pair p, pairs[2p] and pairs[2p + 1], has one of them. */
 };
 
 /* Joins lines into chains. The result is the number of chains.
@@ -150,6 +160,23 @@ int64_t lovasuku_pairs_chosen(const uint8_t *present, size_t present_length,
                               double limit,
                               uint32_t *pairs, size_t pairs_length,
                               uint64_t *workspace, size_t workspace_length);
+
+/* Why wasn't this bend joined? The result is the reason of ends i and j, which may come in either order, as a number
+ * of enum lovasuku_reason. The first that applies: 0 their pair is selected. 1 they are of the same piece. 2 one of
+ * them has no direction. 3 their measure is not at or below limit. 4 + p their pair qualifies, but selected pair p comes
+ * before it and has one of its ends, and no earlier selected pair has one. Selected pairs are counted from 0 in the
+ * order of selection: pair p is pairs[2p] and pairs[2p + 1].
+ *
+ * Lent, written and rooms are those of the plain route, whatever the reason. How many pairs were written, the plain
+ * route tells.
+ *
+ * Refusals are those of the plain route, and then: 26 i or j is not below d, or they are equal. */
+int64_t lovasuku_why(const uint8_t *present, size_t present_length,
+                     const double *directions, size_t directions_length,
+                     const uint32_t *pieces, size_t pieces_length,
+                     double limit, uint32_t i, uint32_t j,
+                     uint32_t *pairs, size_t pairs_length,
+                     uint64_t *workspace, size_t workspace_length);
 
 /* The chain question: does record k of a table name a chain? The result is 0, which says yes.
  *

@@ -1,4 +1,5 @@
-/* Pairing calls: the refusals, the rooms, and that the pairs are the only ones which the rules allow. */
+/* Pairing calls: the refusals, the rooms, that the pairs are the only ones which the rules allow, and why two ends are
+ * joined or not. */
 #include <math.h>
 #include <string.h>
 
@@ -13,6 +14,7 @@ struct pairing {
     size_t d, present, directions, pairs, workspace;
     double limit;
     unsigned char dirt;
+    uint32_t asked[2];
 };
 
 typedef int64_t route(const uint8_t *, size_t, const double *, size_t, const uint32_t *, size_t, double,
@@ -34,6 +36,10 @@ static struct pairing next_pairing(struct bytes *bytes) {
     call.d = size < 0xfe ? size % SMALL : size == 0xfe ? next_below(bytes, MEDIUM) : LOVASUKU_MOST_ENDS + 1;
     call.limit = next_limit(bytes);
     call.dirt = next_byte(bytes);
+    for (int k = 0; k < 2; k++) {
+        uint8_t end = next_byte(bytes);
+        call.asked[k] = end < 0xfe ? end % SMALL : end == 0xfe ? (uint32_t)call.d : UINT32_MAX;
+    }
     call.present = next_length(bytes, call.d);
     call.directions = next_length(bytes, 2 * call.d);
     size_t room = call.d > LOVASUKU_MOST_ENDS ? SMALL : call.d;
@@ -123,23 +129,35 @@ static int refusal(const struct pairing *call, bool alone) {
     return alone && any_wild(call) ? LOVASUKU_NOT_FINITE : 0;
 }
 
-/* Makes the call by a route, and requires the answer and the rooms to be what the form alone demands. */
-static int64_t call_route(const struct pairing *call, route *by, bool alone, double limit) {
+static void lend_rooms(const struct pairing *call) {
     lend_room(&pairs, call->pairs * sizeof(uint32_t), call->dirt);
     lend_room(&workspace, call->workspace * sizeof(uint64_t), call->dirt);
+}
+
+static void require_refused(void) {
+    require_untouched_from(&pairs, 0, "a refused call leaves pairs as they were");
+    require_untouched_from(&workspace, 0, "a refused call leaves workspace as it was");
+}
+
+static void require_accepted(const struct pairing *call, size_t count) {
+    require_untouched_from(&pairs, 8 * count, "pairs are as before beyond what is written");
+    require_cleared(&workspace, 8 * LOVASUKU_END_WORKSPACE * call->d,
+                    "workspace is zero and as before beyond");
+}
+
+/* Makes the call by a route, and requires the answer and the rooms to be what the form alone demands. */
+static int64_t call_route(const struct pairing *call, route *by, bool alone, double limit) {
+    lend_rooms(call);
     int64_t answer = by(present.lent, call->present, directions.lent, call->directions, pieces.lent, call->d,
                         limit, pairs.lent, call->pairs, workspace.lent, call->workspace);
     int expected = refusal(call, alone);
     require(expected == 0 ? answer >= 0 : answer == -expected, "the first refusal that applies is given");
     if (answer < 0) {
-        require_untouched_from(&pairs, 0, "a refused call leaves pairs as they were");
-        require_untouched_from(&workspace, 0, "a refused call leaves workspace as it was");
+        require_refused();
         return answer;
     }
     require((size_t)answer <= call->d / 2, "no more pairs than ends");
-    require_untouched_from(&pairs, 8 * (size_t)answer, "pairs are as before beyond what is written");
-    require_cleared(&workspace, 8 * LOVASUKU_END_WORKSPACE * call->d,
-                    "workspace is zero and as before beyond");
+    require_accepted(call, (size_t)answer);
     return answer;
 }
 
@@ -198,6 +216,50 @@ static void require_begins(const uint32_t *kept, int64_t count, int64_t answer, 
             "routes agree, and a wider limit undoes no pair");
 }
 
+/* The reason of two ends, where `count` pairs are selected: the first that applies. */
+static int64_t reason(const struct pairing *call, size_t i, size_t j, const uint32_t *pair, size_t count) {
+    const uint32_t *piece = (const uint32_t *)pieces.fill;
+    size_t earliest = count;
+    for (size_t p = count; p-- > 0;) {
+        size_t a = pair[2 * p], b = pair[2 * p + 1];
+        if ((a == i && b == j) || (a == j && b == i)) {
+            return LOVASUKU_SELECTED;
+        }
+        earliest = a == i || a == j || b == i || b == j ? p : earliest;
+    }
+    if (piece[i] == piece[j]) {
+        return LOVASUKU_SAME_PIECE;
+    }
+    if (present.fill[i] != 1 || present.fill[j] != 1) {
+        return LOVASUKU_ABSENT_DIRECTION;
+    }
+    if (!(measure(i, j) <= call->limit)) {
+        return LOVASUKU_NOT_QUALIFYING;
+    }
+    require(earliest < count, "a pair that was passed over has an end in a selected one");
+    return LOVASUKU_BLOCKED + (int64_t)earliest;
+}
+
+/* Asks about two ends, and requires the refusal or the reason, and the rooms as the plain route leaves them: `plain` is
+ * its answer, and `kept` are its pairs. */
+static void ask_why(const struct pairing *call, int64_t plain, const uint32_t *kept) {
+    uint32_t i = call->asked[0], j = call->asked[1];
+    bool none = i >= call->d || j >= call->d || i == j;
+    lend_rooms(call);
+    int64_t answer = lovasuku_why(present.lent, call->present, directions.lent, call->directions, pieces.lent, call->d,
+                                  call->limit, i, j, pairs.lent, call->pairs, workspace.lent, call->workspace);
+    if (plain < 0 || none) {
+        require(answer == (plain < 0 ? plain : -LOVASUKU_NO_TWO_ENDS), "the plain route's refusal, then 26");
+        require_refused();
+        return;
+    }
+    size_t count = (size_t)plain;
+    require(answer == reason(call, i, j, kept, count), "the first reason that applies is given");
+    require(memcmp(kept, pairs.fill, 8 * count) == 0, "the pairs are the plain route's");
+    require_accepted(call, count);
+    seen(160 + (unsigned)(answer < 32 ? answer : 32));
+}
+
 void fuzz_pairs(struct bytes *bytes) {
     static uint32_t kept[MEDIUM], partner[MEDIUM];
     make_slices();
@@ -207,6 +269,7 @@ void fuzz_pairs(struct bytes *bytes) {
     if (count < 0) {
         require(call_route(&call, lovasuku_pairs_indexed, true, call.limit) == count, "routes refuse alike");
         require(call_route(&call, lovasuku_pairs_chosen, false, call.limit) == count, "routes refuse alike");
+        ask_why(&call, count, kept);
         seen(16 + (unsigned)-count);
         return;
     }
@@ -215,6 +278,7 @@ void fuzz_pairs(struct bytes *bytes) {
         require_selected(kept, (size_t)count, call.d, call.limit, partner);
     }
     require_begins(kept, count, call_route(&call, lovasuku_pairs_chosen, false, call.limit), true);
+    ask_why(&call, count, kept);
     bool wild = any_wild(&call);
     int64_t indexed = call_route(&call, lovasuku_pairs_indexed, true, call.limit);
     if (!wild) {

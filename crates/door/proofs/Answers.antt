@@ -10,7 +10,9 @@ use Rattle.rules.specs.declared.Settings.{Settings}
 use Rattle.rules.specs.Layout.{Lines}
 use Rattle.rules.specs.Refusals.{Rooms, LentEnds, refusalOf, pairRefusalOf, chainRefusalOf}
 use Rattle.rules.specs.Calls.{unless, answerOf, asked, viewed, Built, builtOf, Paired, pairsOf, Numbered, numberOf}
+use Rattle.rules.specs.Reasons.{reasonNumber, reasonOf, whyRefusalOf, Why}
 use Rattle.pair_laws.proofs.Calls.{paired-once}
+use Rattle.pair_reasons.proofs.Calls.{why-once}
 use Rattle.build_chains.proofs.Built.{built-once}
 use Rattle.door.specs.Proper.{Proper}
 use lib.ListN.{length}
@@ -27,6 +29,9 @@ proper-asked r width input merged table k e = subst Proper (sym e) (proper-answe
 
 pub proper-paired : {alone : Bool} {i : LentEnds} {r : Answer} {pairs workspace : List ℕ} → Paired alone i r pairs workspace → Proper r
 proper-paired {alone} {i} p = subst Proper (sym (p .answer)) (proper-answer (pairRefusalOf alone i) (length (pairsOf i)))
+
+pub proper-why : {i : LentEnds} {a b : ℕ} {r : Answer} {pairs workspace : List ℕ} → Why i a b r pairs workspace → Proper r
+proper-why {i} {a} {b} w = subst Proper (sym (w .answer)) (proper-answer (whyRefusalOf i a b) (reasonNumber (reasonOf i a b)))
 
 pub proper-built : {l : Lines} {s : Settings} {o : Rooms} {r : Answer} {o′ : Rooms} → Built l s o r o′ → Proper r
 proper-built {l} {s} {o} b = subst Proper (sym (b .answer)) (proper-answer (refusalOf l s o) (builtOf l s .number))
@@ -47,6 +52,14 @@ pub one-pairing : (alone : Bool) (i : LentEnds) (r r′ : ℕ) (pairs pairs′ w
 one-pairing alone i r r′ pairs pairs′ workspace workspace′ a b =
     let same = paired-once alone i _ _ pairs pairs′ workspace workspace′ (a .determined) (b .determined) in
     (numbered-once (λ x y p q. paired-once alone i x y pairs pairs′ workspace workspace′ p q .0) a b, same .1, same .2)
+
+pub one-why : (i : LentEnds) (a b r r′ : ℕ) (pairs pairs′ workspace workspace′ : List ℕ)
+    → Numbered (λ s. Why i a b s pairs workspace) r
+    → Numbered (λ s. Why i a b s pairs′ workspace′) r′
+    → (r ≡ r′) × (pairs ≡ pairs′) × (workspace ≡ workspace′)
+one-why i a b r r′ pairs pairs′ workspace workspace′ x y =
+    let same = why-once i a b _ _ pairs pairs′ workspace workspace′ (x .determined) (y .determined) in
+    (numbered-once (λ s t p q. why-once i a b s t pairs pairs′ workspace workspace′ p q .0) x y, same .1, same .2)
 
 -- the chain question and the view are equations: one number, and one list of coordinates
 pub one-question : (w : ℕ) (input merged table : List ℕ) (k : ℕ) {r r′ : ℕ}

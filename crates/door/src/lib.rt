@@ -8,6 +8,7 @@ ghost use mathlib.Core.Bool.{true, false};
 ghost use Rattle.rules.specs.Layout.{lent};
 ghost use Rattle.rules.specs.Refusals.{rooms, lentEnds};
 ghost use Rattle.rules.specs.Calls.{numberOf, Numbered, Built, Paired, asked};
+ghost use Rattle.rules.specs.Reasons.{Why};
 ghost use Rattle.rules.specs.Wkb.{ReadPlain, Wrote, chainsAs};
 
 // An answer as a host sees it.
@@ -111,6 +112,25 @@ pub extern "C" fn lovasuku_pairs_chosen(
         a (now (pairs .exit)) (now (workspace .exit))) r ⌝ }
 {
     number(pair_calls::pairs_chosen(present, directions, pieces, limit, pairs, workspace))
+}
+
+// Why ends i and j are joined or not: 0 selected, 1 same piece, 2 a direction absent, 3 not qualifying, 4 + p blocked by selected pair p.
+#[no_mangle]
+pub extern "C" fn lovasuku_why(
+    present: &[u8],
+    directions: &[f64],
+    pieces: &[u32],
+    limit: f64,
+    i: u32,
+    j: u32,
+    pairs: &mut [u32],
+    workspace: &mut [u64],
+) -> u64
+    ensures { λ r. ⌜ Numbered (λ a. Why
+        (lentEnds (now (present .entry)) (now (directions .entry)) (now (pieces .entry)) limit (now (pairs .entry)) (now (workspace .entry)))
+        i j a (now (pairs .exit)) (now (workspace .exit))) r ⌝ }
+{
+    number(pair_why::why(present, directions, pieces, limit, i, j, pairs, workspace))
 }
 
 // The chain question: 0, or -10 where the table has no chain k in these coordinates.

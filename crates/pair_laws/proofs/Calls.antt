@@ -32,12 +32,12 @@ paired-once alone i r r′ pairs pairs′ workspace workspace′ a b =
 -- ---- an accepted call
 
 -- a call that answers with a result was not refused, and the result is that of its record
-accepted : (refusal result n : ℕ) → answerOf refusal result ≡ Accepted n → (refusal ≡ 0) × (n ≡ result)
+pub accepted : (refusal result n : ℕ) → answerOf refusal result ≡ Accepted n → (refusal ≡ 0) × (n ≡ result)
 unfolding answerOf unless
 accepted zero result n e = (refl, cc)
 accepted (suc k) result n e = (let z : _≡_ {A = ℕ} 0 1 = cc in absurd (omega arith))
 
-length-listed : (l : List Pair) → length (listed l) ≡ length l * 2
+pub length-listed : (l : List Pair) → length (listed l) ≡ length l * 2
 length-listed l = omega (arith, ap length (listed-keyed l), taking.length-listed (map keyed l), length-map l keyed)
 
 listed-append : (a b : List Pair) → listed (a ++ b) ≡ listed a ++ listed b

@@ -26,7 +26,7 @@ use Rattle.pair_laws.proofs.Keyed.{before-keyed, in-select, select-keye
 -- ---- a pair is known by its ends
 
 -- one name stands at one place
-one-place : (l : List End) → ByName l → (a b : ℕ) → a < length l → b < length l → nameAt l a ≡ nameAt l b → a ≡ b
+pub one-place : (l : List End) → ByName l → (a b : ℕ) → a < length l → b < length l → nameAt l a ≡ nameAt l b → a ≡ b
 one-place l n a b h k e = go (three a b)
   where
     go : (a < b) ⊎ ((a ≡ b) ⊎ (b < a)) → a ≡ b
@@ -60,7 +60,7 @@ module _ (limit : Float) (l : List End) (n : ByName l) where
       pair-once limit (endAt l (s .0)) (endAt l (s .1)) p q (s .4)
       (subst (λ (b : ℕ). In q (pair limit (endAt l (s .0)) (endAt l b))) y (subst (λ (a : ℕ). In q (pair limit (endAt l a) (endAt l (t .1)))) x (t .4)))
 
-  known-keyed : (p q : Pair) → In p (qualifying limit l) → In q (qualifying limit l) → keyed p ≡ keyed q → p ≡ q
+  pub known-keyed : (p q : Pair) → In p (qualifying limit l) → In q (qualifying limit l) → keyed p ≡ keyed q → p ≡ q
   known-keyed p q h k e = known p q h k (ap (λ (r : ranked.RankedPair). r .i) e) (ap (λ (r : ranked.RankedPair). r .j) e)
 
   -- ---- lists of qualifying pairs, with keys and with measures

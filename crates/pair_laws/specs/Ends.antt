@@ -3,7 +3,7 @@ use Prim.Native.Nat.{ℕ, suc, _<_}
 use mathlib.Core.Path.{_≡_}
 use mathlib.Core.Bool.{Bool, true, false, not, _&&_}
 use mathlib.Core.List.{List, [], _∷_}
-use lib.ListN.{length, getD}
+use lib.ListN.{length}
 use lib.Dec.{eqb}
 use Rattle.rules.specs.declared.Direction.{Direction}
 use Rattle.rules.specs.declared.Direction.the-variants.{Absent, Toward}
@@ -12,10 +12,8 @@ use Rattle.rules.specs.Selecting.{End, Pair}
 use Rattle.float_order.specs.Key.{key-nan, key}
 use Rattle.pair_laws.specs.Ranked.{Node}
 use Rattle.pair_laws.specs.Ranked as ranked
-
--- the end at a place of the list; beyond it there is none, and its direction is absent
-abbrev pub endAt : List End → ℕ → End
-endAt l e = getD l e (record { name = 0; piece = 0; direction = Absent })
+-- the end at a place of the list, as the book has it
+pub use Rattle.rules.specs.Reasons.{endOf as endAt}
 
 abbrev pub nameAt : List End → ℕ → ℕ
 nameAt l e = endAt l e .name

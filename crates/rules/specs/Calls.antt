@@ -1,7 +1,7 @@
 -- 01, How much a contract has to say: what each public call determines, its answer and every lent slice at return. A refused call stores nothing.
 -- In each record the plain names are what is lent, as it stands at entry, and the names with a prime what it is at return.
 use Rattle.rules.specs.Library.{ℕ, zero, suc, _-_, _*_, _^_, _≡_, Bool, List, [], _++_, length, take, drop, replicate, Answer, Accepted, Refused, Settings}
-use Rattle.rules.specs.Selecting.{Pair, select}
+use Rattle.rules.specs.Selecting.{End, Pair, select}
 use Rattle.rules.specs.Layout.{Lines, Laid, build, ends, listed}
 use Rattle.rules.specs.Refusals.{Rooms, LentEnds, refusalOf, pairRefusalOf, chainRefusalOf, sourceOf, entry, lineRoom, endRoom}
 
@@ -52,8 +52,11 @@ pub record Built (l : Lines) (s : Settings) (o : Rooms) (r : Answer) (o′ : Roo
   pub rooms : o′ ≡ unless (refusalOf l s o) o (filled l s o)
 
 -- ---- pairing, by whichever route; `alone` for the indexed one
+abbrev pub endsOf : LentEnds → List End
+endsOf i = ends 0 (i .present) (i .directions) (i .pieces)
+
 unfoldable pub pairsOf : LentEnds → List Pair
-pairsOf i = select (i .limit) (ends 0 (i .present) (i .directions) (i .pieces))
+pairsOf i = select (i .limit) (endsOf i)
 
 pub record Paired (alone : Bool) (i : LentEnds) (r : Answer) (pairs′ workspace′ : List ℕ) : Type 0 where
   pub answer : r ≡ answerOf (pairRefusalOf alone i) (length (pairsOf i))

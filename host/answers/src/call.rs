@@ -126,6 +126,15 @@ impl PairingCall {
     }
 }
 
+/// A question about two ends of a pairing call: why are they joined, or why not?
+#[derive(Clone, Debug, Default, PartialEq, Eq)]
+pub struct WhyCall {
+    /// The ends at the node, and the limit.
+    pub pairing: PairingCall,
+    /// The numbers of the two ends, in either order. Any number may be asked about.
+    pub ends: [u32; 2],
+}
+
 /// Two ends joined with one another, the lower one first.
 pub type Pair = [u32; 2];
 
@@ -183,6 +192,13 @@ impl fmt::Display for BuildCall {
             }
         }
         Ok(())
+    }
+}
+
+impl fmt::Display for WhyCall {
+    fn fmt(&self, f: &mut fmt::Formatter<'_>) -> fmt::Result {
+        let [i, j] = self.ends;
+        write!(f, "ends {i} and {j}, {}", self.pairing)
     }
 }
 

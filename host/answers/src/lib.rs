@@ -20,4 +20,4 @@ pub mod replay;
 pub mod styles;
 pub mod wkb;
 
-pub use call::{BuildCall, Built, Pair, PairingCall, Port, Refusal, Route, NO_PLACE};
+pub use call::{BuildCall, Built, Pair, PairingCall, Port, Refusal, Route, WhyCall, NO_PLACE};

@@ -3,7 +3,7 @@
 
 use answers::random::Random;
 use answers::styles::{junctions, pairing, wild, Style, BUILDING, PAIRING};
-use answers::{BuildCall, PairingCall};
+use answers::{BuildCall, PairingCall, WhyCall};
 use lovasuku_chains::size::{MOST_ENDS, MOST_LINES, MOST_POINTS};
 
 /// A call of either sort.
@@ -13,6 +13,8 @@ pub enum Call {
     Build(BuildCall),
     /// A pairing call.
     Pairs(PairingCall),
+    /// A question about two ends of one.
+    Why(WhyCall),
 }
 
 /// A call with the name of its style, and the seed of the rooms that are lent to it.
@@ -50,7 +52,11 @@ pub fn numbered(seed: u64, number: u64) -> Numbered {
         if !call.finite() {
             truncate(&mut call, MOST_WILD_ENDS);
         }
-        return Numbered { style, call: Call::Pairs(call), rooms };
+        let call = match random.one_in(2) {
+            true => Call::Why(WhyCall { ends: two_ends(&mut random, &call), pairing: call }),
+            false => Call::Pairs(call),
+        };
+        return Numbered { style, call, rooms };
     }
     let styles: Vec<Style<BuildCall>> = BUILDING.into_iter().chain(ADDED).collect();
     let (style, make) = random.pick(&styles);
@@ -91,6 +97,23 @@ fn truncate(call: &mut PairingCall, ends: usize) {
     call.present.truncate(ends);
     call.directions.truncate(2 * ends);
     call.pieces.truncate(ends);
+}
+
+/// Two ends of a call, in either order, now and then of one piece; or numbers that are not those of
+/// two ends.
+fn two_ends(random: &mut Random, call: &PairingCall) -> [u32; 2] {
+    let d = call.ends();
+    let one = random.below(d.max(1)) as u32;
+    let other = match random.below(8) {
+        0 => random.pick(&[d as u32, d as u32 + 1, u32::MAX, one]),
+        1 => {
+            let piece = call.pieces.get(one as usize);
+            let same = (0..d).find(|&end| call.pieces.get(end) == piece && end != one as usize);
+            same.unwrap_or(0) as u32
+        }
+        _ => random.below(d.max(1)) as u32,
+    };
+    random.pick(&[[one, other], [other, one]])
 }
 
 /// A real size, often the most, or a small one.

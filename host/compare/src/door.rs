@@ -2,7 +2,7 @@
 
 use crate::building::BuildRooms;
 use crate::pairing::PairRooms;
-use answers::{BuildCall, PairingCall, Route};
+use answers::{BuildCall, PairingCall, Route, WhyCall};
 use lovasuku_chains::door::{self, RawSettings};
 use lovasuku_chains::{Ends, Lines};
 
@@ -13,6 +13,9 @@ pub trait Door: Sync {
 
     /// Selects the pairs of a call by a route.
     fn pairs(&self, route: Route, call: &PairingCall, rooms: &mut PairRooms) -> i64;
+
+    /// Says why two ends are joined or not.
+    fn why(&self, call: &WhyCall, rooms: &mut PairRooms) -> i64;
 }
 
 /// The verified library.
@@ -46,14 +49,19 @@ impl Door for Library {
     fn pairs(&self, route: Route, call: &PairingCall, rooms: &mut PairRooms) -> i64 {
         let directions = floats(&call.directions);
         let ends = Ends { present: &call.present, directions: &directions, pieces: &call.pieces };
-        let rooms =
-            door::PairRooms { pairs: rooms.pairs.lent(), workspace: rooms.workspace.lent() };
         let route = match route {
             Route::Plain => lovasuku_chains::Route::Plain,
             Route::Indexed => lovasuku_chains::Route::Indexed,
             Route::Chosen => lovasuku_chains::Route::Chosen,
         };
-        door::pairs(route, ends, f64::from_bits(call.limit), rooms)
+        door::pairs(route, ends, f64::from_bits(call.limit), rooms.lent())
+    }
+
+    fn why(&self, call: &WhyCall, rooms: &mut PairRooms) -> i64 {
+        let WhyCall { pairing: call, ends: of } = call;
+        let directions = floats(&call.directions);
+        let ends = Ends { present: &call.present, directions: &directions, pieces: &call.pieces };
+        door::why(ends, f64::from_bits(call.limit), *of, rooms.lent())
     }
 }
 

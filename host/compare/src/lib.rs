@@ -9,7 +9,7 @@
 //! - [`calls`]: the calls of a run.
 //! - [`judge`]: who says what the answer is.
 //! - [`room`]: rooms that show what was written into them.
-//! - [`building`], [`pairing`]: one call, compared.
+//! - [`building`], [`pairing`], [`why`]: one call, compared.
 //! - [`shrink`]: a call that differs, made small.
 //! - [`run`]: a whole run, on all cores.
 
@@ -24,6 +24,7 @@ pub mod pairing;
 pub mod room;
 pub mod run;
 pub mod shrink;
+pub mod why;
 
 pub use door::{Door, Library};
 pub use judge::Judge;

@@ -4,6 +4,7 @@ use crate::room::{more, Dirt, Room};
 use crate::{Door, Judge};
 use answers::random::Random;
 use answers::{Pair, PairingCall, Route};
+use lovasuku_chains::door;
 use lovasuku_chains::size::END_WORKSPACE;
 
 /// All routes, whether they accept a call or not.
@@ -37,6 +38,11 @@ impl PairRooms {
     pub fn for_call(random: &mut Random, call: &PairingCall) -> Self {
         let lengths = Self::lengths(call).map(|length| length + more(random));
         Self::new(random, lengths)
+    }
+
+    /// The rooms as they are lent.
+    pub fn lent(&mut self) -> door::PairRooms<'_> {
+        door::PairRooms { pairs: self.pairs.lent(), workspace: self.workspace.lent() }
     }
 
     /// Tests that no room has changed.

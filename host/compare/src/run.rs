@@ -4,6 +4,7 @@ use crate::building::compare_build;
 use crate::calls::{numbered, Call, Numbered};
 use crate::pairing::compare_pairs;
 use crate::shrink::shrink;
+use crate::why::compare_why;
 use crate::{Door, Judge};
 use std::collections::BTreeMap;
 use std::fmt;
@@ -34,6 +35,10 @@ pub struct Tally {
     pub building: Styles,
     /// The pairing calls.
     pub pairing: Styles,
+    /// The questions about two ends.
+    pub why: Styles,
+    /// What these were answered with.
+    pub told: Styles,
     /// The most lines, points and ends of a call.
     pub most: [usize; 3],
 }
@@ -45,6 +50,7 @@ impl Tally {
                 (&mut self.building, [call.lines(), call.coordinates.len() / 2, 0])
             }
             Call::Pairs(call) => (&mut self.pairing, [0, 0, call.ends()]),
+            Call::Why(call) => (&mut self.why, [0, 0, call.pairing.ends()]),
         };
         *styles.entry(numbered.style).or_default() += 1;
         self.grow(sizes);
@@ -57,9 +63,12 @@ impl Tally {
     }
 
     fn merge(mut self, other: Tally) -> Self {
-        for (sum, styles) in
-            [(&mut self.building, other.building), (&mut self.pairing, other.pairing)]
-        {
+        for (sum, styles) in [
+            (&mut self.building, other.building),
+            (&mut self.pairing, other.pairing),
+            (&mut self.why, other.why),
+            (&mut self.told, other.told),
+        ] {
             for (style, calls) in styles {
                 *sum.entry(style).or_default() += calls;
             }
@@ -70,7 +79,7 @@ impl Tally {
 
     /// The number of calls.
     pub fn calls(&self) -> u64 {
-        self.building.values().chain(self.pairing.values()).sum()
+        [&self.building, &self.pairing, &self.why].iter().flat_map(|styles| styles.values()).sum()
     }
 }
 
@@ -82,7 +91,9 @@ impl fmt::Display for Tally {
             each.collect::<Vec<_>>().join(", ")
         };
         writeln!(f, "building, up to {lines} lines and {points} points: {}", list(&self.building))?;
-        write!(f, "pairing, up to {ends} ends: {}", list(&self.pairing))
+        writeln!(f, "pairing, up to {ends} ends: {}", list(&self.pairing))?;
+        writeln!(f, "two ends asked about: {}", list(&self.why))?;
+        write!(f, "answered with: {}", list(&self.told))
     }
 }
 
@@ -106,6 +117,7 @@ impl fmt::Display for Difference {
         match call {
             Call::Build(call) => write!(f, "{call}"),
             Call::Pairs(call) => write!(f, "{call}"),
+            Call::Why(call) => write!(f, "{call}"),
         }
     }
 }
@@ -129,8 +141,12 @@ pub fn run(
             }
             watch(number);
             let numbered = numbered(plan.seed, number);
-            if compare(door, judge, &numbered.call, numbered.rooms).is_err() {
-                end.fetch_min(number, Ordering::Relaxed);
+            match compare(door, judge, &numbered.call, numbered.rooms) {
+                Ok(Some(told)) => *tally.told.entry(told).or_default() += 1,
+                Ok(None) => (),
+                Err(_) => {
+                    end.fetch_min(number, Ordering::Relaxed);
+                }
             }
             tally.add(&numbered);
         }
@@ -147,11 +163,18 @@ pub fn run(
     (tally, (!whole).then(|| difference(door, judge, plan.seed, stopped)))
 }
 
-/// Compares a call. The error is a sentence about the first difference.
-pub fn compare(door: &dyn Door, judge: Judge, call: &Call, rooms: u64) -> Result<(), String> {
+/// Compares a call, and names what a question was answered with. The error is a sentence about the
+/// first difference.
+pub fn compare(
+    door: &dyn Door,
+    judge: Judge,
+    call: &Call,
+    rooms: u64,
+) -> Result<Option<&'static str>, String> {
     match call {
-        Call::Build(call) => compare_build(door, judge, call, rooms),
-        Call::Pairs(call) => compare_pairs(door, judge, call, rooms),
+        Call::Build(call) => compare_build(door, judge, call, rooms).map(|()| None),
+        Call::Pairs(call) => compare_pairs(door, judge, call, rooms).map(|()| None),
+        Call::Why(call) => compare_why(door, judge, call, rooms).map(|told| Some(told.name())),
     }
 }
 
@@ -164,6 +187,9 @@ fn difference(door: &dyn Door, judge: Judge, seed: u64, number: u64) -> Differen
         }
         Call::Pairs(call) => {
             Call::Pairs(shrink(call, |call| compare_pairs(door, judge, call, rooms).is_err()))
+        }
+        Call::Why(call) => {
+            Call::Why(shrink(call, |call| compare_why(door, judge, call, rooms).is_err()))
         }
     };
     let sentence = compare(door, judge, &call, rooms).err().unwrap_or_default();

@@ -38,6 +38,22 @@ extern "C" {
         k: u64,
     ) -> i64;
 
+    pub fn lovasuku_why(
+        present: *const u8,
+        present_length: usize,
+        directions: *const f64,
+        directions_length: usize,
+        pieces: *const u32,
+        pieces_length: usize,
+        limit: f64,
+        i: u32,
+        j: u32,
+        pairs: *mut u32,
+        pairs_length: usize,
+        workspace: *mut u64,
+        workspace_length: usize,
+    ) -> i64;
+
     pub fn lovasuku_read_wkb(
         run: *const u8,
         run_length: usize,

@@ -127,6 +127,28 @@ pub fn pairs(route: Route, ends: Ends<'_>, limit: f64, rooms: PairRooms<'_>) -> 
     }
 }
 
+/// Asks why two ends are joined or not, in rooms of a pairing call. The result is the number of a
+/// [`Reason`](crate::Reason): 4 + p where selected pair p blocks them.
+pub fn why(ends: Ends<'_>, limit: f64, [i, j]: [u32; 2], rooms: PairRooms<'_>) -> i64 {
+    unsafe {
+        declared::lovasuku_why(
+            ends.present.as_ptr(),
+            ends.present.len(),
+            ends.directions.as_ptr(),
+            ends.directions.len(),
+            ends.pieces.as_ptr(),
+            ends.pieces.len(),
+            limit,
+            i,
+            j,
+            rooms.pairs.as_mut_ptr(),
+            rooms.pairs.len(),
+            rooms.workspace.as_mut_ptr(),
+            rooms.workspace.len(),
+        )
+    }
+}
+
 /// Asks whether record k of a table names a chain. The result is 0.
 pub fn chain(coordinates: &[f64], merged: &[f64], table: &[u32], k: u64) -> i64 {
     unsafe {

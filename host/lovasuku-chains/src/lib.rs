@@ -29,6 +29,7 @@
 //! |---|---|
 //! | join lines | [`Rooms::build`], which gives [`Chains`] |
 //! | pair the ends at one node | [`Rooms::pairs`] |
+//! | ask why two ends are joined or not | [`Rooms::why`], which gives a [`Reason`] |
 //! | look up a chain in a stored table | [`chain_question`], [`chain_coordinates`] |
 //! | read lines from the records of a store | [`read_wkb`], which gives [`WkbLines`] |
 //! | write chains as records for a map | [`Chains::write_wkb`], which gives [`WkbRecords`] |
@@ -64,7 +65,7 @@ pub use chains::{Chain, Chains, Iter};
 pub use lines::{Lines, LinesBuf, PASSING, PLAIN};
 pub use nearest::Nearest;
 pub use owned::{build_chains, LineInput, OwnedChain};
-pub use pairing::{Ends, Route};
+pub use pairing::{Ends, Reason, Route};
 pub use question::{chain_coordinates, chain_question};
 pub use records::{ByteOrder, WkbBuf, WkbRecords, WkbRecordsIter};
 pub use refusal::Refusal;

@@ -57,6 +57,8 @@ pub enum Refusal {
     /// 16: the byte order to be written is neither 0 nor 1. [`ByteOrder`](crate::ByteOrder) has no
     /// other.
     UnknownOrder,
+    /// 26: an end number is not below the number of ends, or the two are equal.
+    NoTwoEnds,
     /// A number that this crate does not know: the library is of another version.
     Unknown(i64),
 }
@@ -81,6 +83,7 @@ impl Refusal {
             14 => Refusal::RecordRoomTooShort,
             15 => Refusal::NoPlace,
             16 => Refusal::UnknownOrder,
+            26 => Refusal::NoTwoEnds,
             unknown => Refusal::Unknown(unknown),
         }
     }
@@ -104,6 +107,7 @@ impl Refusal {
             Refusal::BadLength => 13,
             Refusal::RecordRoomTooShort => 14,
             Refusal::UnknownOrder => 16,
+            Refusal::NoTwoEnds => 26,
             Refusal::Unknown(unknown) => unknown,
         }
     }
@@ -133,6 +137,7 @@ impl Refusal {
             }
             Refusal::RecordRoomTooShort => "a room is too short for the records",
             Refusal::UnknownOrder => "the byte order to be written is neither 0 nor 1",
+            Refusal::NoTwoEnds => "the numbers are not those of two ends",
             Refusal::Unknown(_) => "the library refused the call for a reason unknown here",
         }
     }
@@ -155,7 +160,7 @@ mod tests {
         for number in 1..=30 {
             let refusal = Refusal::of_number(number);
             assert_eq!(refusal.number(), number);
-            let known = number <= 16;
+            let known = number <= 16 || number == 26;
             assert_eq!(!known, matches!(refusal, Refusal::Unknown(_)));
         }
     }

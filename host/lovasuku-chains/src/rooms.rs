@@ -6,7 +6,7 @@ use crate::size::{
     END_WORKSPACE, LINE_WORKSPACE, MOST_ENDS, MOST_LINES, MOST_POINTS, POINT, RECORD,
 };
 use crate::two::by_two;
-use crate::{Ends, Lines, Refusal, Route, Settings};
+use crate::{Ends, Lines, Reason, Refusal, Route, Settings};
 
 /// The rooms that are lent to every call, again and again.
 ///
@@ -140,6 +140,41 @@ impl Rooms {
         let rooms = PairRooms { pairs, workspace };
         let pairs = door::result(door::pairs(route, ends, limit, rooms))? as usize;
         Ok(first(by_two(&self.pairs), pairs))
+    }
+
+    /// Tells why two ends at one node are joined or not, under a limit; which of them comes first
+    /// does not matter.
+    ///
+    /// ```
+    /// use lovasuku_chains::{Ends, Reason, Rooms};
+    ///
+    /// # fn main() -> Result<(), lovasuku_chains::Refusal> {
+    /// let ends = Ends {
+    ///     present: &[1, 1, 1, 1],
+    ///     directions: &[1.0, 0.0, -1.0, 0.0, 0.0, 1.0, 1.0, 0.0],
+    ///     pieces: &[0, 1, 2, 3],
+    /// };
+    /// let mut rooms = Rooms::default();
+    /// assert_eq!(rooms.why(ends, 0.0, [2, 3])?, Reason::Selected);
+    /// assert_eq!(rooms.why(ends, -1.0, [2, 3])?, Reason::NotQualifying);
+    /// let blocked = Reason::Blocked { place: 0, pair: [0, 1] };
+    /// assert_eq!(rooms.why(ends, -1.0, [3, 1])?, blocked);
+    /// # Ok(())
+    /// # }
+    /// ```
+    ///
+    /// # Errors
+    ///
+    /// The first of these that applies: [`Refusal::TooMany`], [`Refusal::TablesDiffer`],
+    /// [`Refusal::MarkAboveOne`], [`Refusal::BadLimit`], [`Refusal::PieceTooOften`],
+    /// [`Refusal::NoTwoEnds`].
+    pub fn why(&mut self, ends: Ends<'_>, limit: f64, of: [u32; 2]) -> Result<Reason, Refusal> {
+        ends.test_lengths()?;
+        self.grow_for_pairing(ends.len());
+        let Rooms { pairs, workspace, .. } = self;
+        let rooms = PairRooms { pairs, workspace };
+        let number = door::result(door::why(ends, limit, of, rooms))?;
+        Reason::of_number(number, by_two(&self.pairs)).ok_or(Refusal::Unknown(number as i64))
     }
 
     fn grow_for_building(&mut self, lines: usize, numbers: usize) {

@@ -93,6 +93,10 @@ fn pairing_in_grown_rooms_allocates_nothing() {
         };
         assert_eq!(asked(pair), 0);
     }
+    let why = || {
+        assert!(rooms.why(ends, 0.5, [0, 63]).is_ok());
+    };
+    assert_eq!(asked(why), 0);
 }
 
 #[test]

@@ -5,7 +5,7 @@ use lovasuku_chains::large::{join, Capacity, Fault, Line};
 use lovasuku_chains::size::{MOST_ENDS, MOST_LINES, MOST_POINTS};
 use lovasuku_chains::{
     build_chains, chain_coordinates, chain_question, door, Chains, Ends, LineInput, Lines,
-    LinesBuf, OwnedChain, Refusal, Rooms, Route, Settings,
+    LinesBuf, OwnedChain, Reason, Refusal, Rooms, Route, Settings,
 };
 
 /// A line that joins the next but one, and between them one that passes through.
@@ -214,6 +214,72 @@ fn the_chain_question_is_about_the_named_slice() {
     assert_eq!(chain_coordinates(&input, &merged, &table, 0), Ok(&[0.0; 4][..]));
     assert_eq!(chain_coordinates(&input, &merged, &table, 1), Ok(&[1.0; 4][..]));
     assert_eq!(chain_coordinates(&input, &merged, &table, 4), Err(Refusal::NoSuchChain));
+}
+
+/// Two ends of piece 7 that point apart, an absent end of piece 8, and two that point as the first
+/// two do.
+fn bends() -> Ends<'static> {
+    Ends {
+        present: &[1, 1, 0, 1, 1],
+        directions: &[1.0, 0.0, -1.0, 0.0, f64::NAN, 0.0, 1.0, 0.0, -1.0, 0.0],
+        pieces: &[7, 7, 8, 8, 9],
+    }
+}
+
+#[test]
+fn every_reason_by_its_name_in_either_order_of_the_ends() {
+    let blocked = |place, pair| Reason::Blocked { place, pair };
+    let mut rooms = Rooms::default();
+    for (ends, reason) in [
+        ([0, 4], Reason::Selected),
+        ([1, 3], Reason::Selected),
+        ([0, 1], Reason::SamePiece),
+        ([2, 3], Reason::SamePiece),
+        ([0, 2], Reason::AbsentDirection),
+        ([0, 3], Reason::NotQualifying),
+        ([3, 4], blocked(0, [0, 4])),
+    ] {
+        let [i, j] = ends;
+        assert_eq!(rooms.why(bends(), -1.0, [i, j]), Ok(reason), "{i} {j}");
+        assert_eq!(rooms.why(bends(), -1.0, [j, i]), Ok(reason), "{j} {i}");
+    }
+    // Under a wider limit ends 0 and 3 qualify, and the later of two pairs has end 3.
+    assert_eq!(rooms.why(bends(), 1.0, [3, 0]), Ok(blocked(0, [0, 4])));
+    assert_eq!(rooms.pairs(Route::Chosen, bends(), 1.0), Ok(&[[0, 4], [1, 3]][..]));
+}
+
+#[test]
+fn a_blocking_pair_is_the_one_that_pairing_lists() {
+    let present = [1; 12];
+    let directions: Vec<f64> = (0..24).map(|k| f64::from(k * 7 % 11) - 5.0).collect();
+    let pieces: Vec<u32> = (0..12).collect();
+    let ends = Ends { present: &present, directions: &directions, pieces: &pieces };
+    let mut rooms = Rooms::default();
+    let pairs = rooms.pairs(Route::Plain, ends, 1.0).unwrap().to_vec();
+    let mut places = Vec::new();
+    for (i, j) in (0..12).flat_map(|i| (0..i).map(move |j| (i, j))) {
+        if let Reason::Blocked { place, pair } = rooms.why(ends, 1.0, [i, j]).unwrap() {
+            assert_eq!(pairs[place], pair);
+            assert!(pair.contains(&i) || pair.contains(&j));
+            places.push(place);
+        }
+    }
+    assert!(places.contains(&0) && places.contains(&(pairs.len() - 2)), "{places:?}");
+}
+
+#[test]
+fn why_names_its_refusals() {
+    let good = bends();
+    let mut rooms = Rooms::default();
+    let mut refused = |ends, limit, of| rooms.why(ends, limit, of).err();
+    for of in [[0, 5], [5, 0], [u32::MAX, 0], [3, 3]] {
+        assert_eq!(refused(good, 0.0, of), Some(Refusal::NoTwoEnds));
+        assert_eq!(refused(Ends { present: &[1], ..good }, 0.0, of), Some(Refusal::TablesDiffer));
+        assert_eq!(refused(good, f64::NAN, of), Some(Refusal::BadLimit));
+        let often = Ends { pieces: &[7, 7, 7, 8, 8], ..good };
+        assert_eq!(refused(often, 0.0, of), Some(Refusal::PieceTooOften));
+    }
+    assert_eq!(refused(good, 0.0, [0, 4]), None);
 }
 
 #[test]

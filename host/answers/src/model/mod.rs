@@ -1,12 +1,14 @@
 //! The rules in plain Rust, with no thought of speed.
 //!
 //! One file per heading of the rules: [`plane`] (keys, directions, the measure), [`selecting`],
-//! [`walking`] (joining and walks), [`layout`] (the answer's tables). This file has the two rounds.
-//! The model refuses coordinates that are no place and nothing else: it is put only to calls to
-//! which no other refusal applies.
+//! [`reasons`] (why two ends are joined or not), [`walking`] (joining and walks), [`layout`] (the
+//! answer's tables). This file has the two rounds. The model refuses coordinates that are no place
+//! and what the question adds, and nothing else: it is put only to calls to which no other refusal
+//! applies.
 
 pub mod layout;
 pub mod plane;
+pub mod reasons;
 pub mod selecting;
 pub mod walking;
 

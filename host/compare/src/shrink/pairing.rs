@@ -1,7 +1,7 @@
-//! Pairing calls, one step simpler.
+//! Pairing calls and questions about their ends, one step simpler.
 
 use super::{parts, simpler_lists, simpler_words, Shrink};
-use answers::PairingCall;
+use answers::{PairingCall, WhyCall};
 use std::collections::HashMap;
 use std::ops::Range;
 
@@ -15,6 +15,27 @@ impl Shrink for PairingCall {
             .map(|directions| PairingCall { directions, ..self.clone() });
         Box::new(ends.chain(renumbered(self)).chain(limits).chain(words))
     }
+}
+
+impl Shrink for WhyCall {
+    fn simpler(&self) -> Box<dyn Iterator<Item = Self> + '_> {
+        let d = self.pairing.ends();
+        let fewer = parts(d).filter_map(|part| without_others(self, part));
+        let same_ends = self.pairing.simpler().filter(move |simpler| simpler.ends() == d);
+        let simpler = same_ends.map(|pairing| WhyCall { pairing, ends: self.ends });
+        Box::new(fewer.chain(simpler))
+    }
+}
+
+/// The question without some ends that it is not about; those behind them move up.
+fn without_others(call: &WhyCall, part: Range<usize>) -> Option<WhyCall> {
+    let asked = call.ends.iter().any(|&end| part.contains(&(end as usize)));
+    let moved = |end: u32| match end as usize >= part.end {
+        true => end - part.len() as u32,
+        false => end,
+    };
+    let ends = call.ends.map(moved);
+    (!asked).then(|| WhyCall { pairing: without_ends(&call.pairing, part), ends })
 }
 
 fn without_ends(call: &PairingCall, part: Range<usize>) -> PairingCall {

@@ -7,6 +7,7 @@ mod building_damages;
 mod pairing;
 mod pairing_damages;
 mod question;
+mod why;
 
 use std::cmp::Reverse;
 

@@ -1,8 +1,9 @@
 //! Right answers, and wrong ones that a port could plausibly give.
 
 use answers::model::plane::measure;
+use answers::model::reasons::{told, Told};
 use answers::model::{built, Model};
-use answers::{BuildCall, Built, Pair, PairingCall, Port, Route};
+use answers::{BuildCall, Built, Pair, PairingCall, Port, Route, WhyCall};
 
 /// The right answer.
 pub fn right(call: &BuildCall) -> Built {
@@ -12,6 +13,54 @@ pub fn right(call: &BuildCall) -> Built {
 /// The right pairs.
 pub fn right_pairs(call: &PairingCall) -> Vec<Pair> {
     Model.pairs(Route::Plain, call).expect("the model refuses no pairing")
+}
+
+/// The right reason.
+pub fn right_reason(call: &WhyCall) -> i64 {
+    told(call, &right_pairs(&call.pairing)).answer()
+}
+
+/// Names the last selected pair that has one of two ends, not the first.
+pub fn last_that_blocks(call: &WhyCall) -> i64 {
+    let pairs = right_pairs(&call.pairing);
+    let blocks = |pair: &Pair| call.ends.iter().any(|end| pair.contains(end));
+    match told(call, &pairs) {
+        Told::Blocked(_) => 4 + pairs.iter().rposition(blocks).unwrap() as i64,
+        right => right.answer(),
+    }
+}
+
+/// Looks at the directions before it looks at the pieces.
+pub fn absent_before_same_piece(call: &WhyCall) -> i64 {
+    let absent = |&end: &u32| call.pairing.direction(end as usize).is_none();
+    match right_reason(call) {
+        1 if call.ends.iter().any(absent) => 2,
+        right => right,
+    }
+}
+
+/// Knows a selected pair only where the lower end is asked about first.
+pub fn order_minded(call: &WhyCall) -> i64 {
+    let [i, j] = call.ends;
+    match right_reason(call) {
+        0 if i > j => 4 + told_place(call),
+        right => right,
+    }
+}
+
+/// The place of the first selected pair that has one of the two ends.
+fn told_place(call: &WhyCall) -> i64 {
+    let blocks = |pair: &Pair| call.ends.iter().any(|end| pair.contains(end));
+    right_pairs(&call.pairing).iter().position(blocks).unwrap() as i64
+}
+
+/// Takes an end twice for two ends of one piece.
+pub fn one_end_taken_for_two(call: &WhyCall) -> i64 {
+    let [i, j] = call.ends;
+    match i == j && (i as usize) < call.pairing.ends() {
+        true => 1,
+        false => right_reason(call),
+    }
 }
 
 /// True where round two runs.

@@ -1,7 +1,7 @@
 //! The model behind a door, in whole or with something wrong.
 
 use crate::answers_of;
-use answers::{BuildCall, Built, Pair, PairingCall, Route};
+use answers::{BuildCall, Built, Pair, PairingCall, Route, WhyCall};
 use compare::building::BuildRooms;
 use compare::pairing::PairRooms;
 use compare::Door;
@@ -14,10 +14,14 @@ pub struct Pretended {
     pub build: fn(&BuildCall) -> Built,
     /// The pairs of a pairing call.
     pub pairs: fn(&PairingCall) -> Vec<Pair>,
+    /// What is told of two ends.
+    pub told: fn(&WhyCall) -> i64,
     /// What is done to the rooms behind a building call.
     pub after_build: fn(&mut BuildRooms, &BuildCall),
     /// What is done to the rooms behind a pairing call.
     pub after_pairs: fn(&mut PairRooms, &PairingCall),
+    /// What is done to the rooms behind a question about two ends, refused or not.
+    pub after_why: fn(&mut PairRooms, &WhyCall),
     /// The number with which every call is refused.
     pub refusal: Option<i64>,
 }
@@ -28,8 +32,10 @@ impl Default for Pretended {
             nowhere: BuildCall::nowhere,
             build: answers_of::right,
             pairs: answers_of::right_pairs,
+            told: answers_of::right_reason,
             after_build: |_, _| (),
             after_pairs: |_, _| (),
+            after_why: |_, _| (),
             refusal: None,
         }
     }
@@ -63,11 +69,28 @@ impl Door for Pretended {
             return -9;
         }
         let pairs = (self.pairs)(call);
-        write(rooms.pairs.lent(), &pairs.concat());
-        rooms.workspace.lent()[..64 * call.ends()].fill(0);
+        select(call, &pairs, rooms);
         (self.after_pairs)(rooms, call);
         pairs.len() as i64
     }
+
+    fn why(&self, call: &WhyCall, rooms: &mut PairRooms) -> i64 {
+        if let Some(number) = self.refusal {
+            return -number;
+        }
+        let told = (self.told)(call);
+        if told >= 0 {
+            select(&call.pairing, &answers_of::right_pairs(&call.pairing), rooms);
+        }
+        (self.after_why)(rooms, call);
+        told
+    }
+}
+
+/// Writes the pairs and clears the workspace.
+fn select(call: &PairingCall, pairs: &[Pair], rooms: &mut PairRooms) {
+    write(rooms.pairs.lent(), &pairs.concat());
+    rooms.workspace.lent()[..64 * call.ends()].fill(0);
 }
 
 /// Writes a list over the beginning of a room, as far as the room goes.

@@ -3,7 +3,8 @@
 mod answers_of;
 mod doors;
 
-use answers::{BuildCall, Built, PairingCall};
+use answers::{BuildCall, Built, PairingCall, WhyCall};
+use answers_of::{right_pairs, right_reason};
 use compare::calls::Call;
 use compare::run::{run, Difference, Plan};
 use compare::{Judge, Library};
@@ -19,7 +20,7 @@ fn first_difference(door: &Pretended) -> Difference {
 fn caught_building(door: Pretended) -> (BuildCall, String) {
     match first_difference(&door) {
         Difference { call: Call::Build(call), sentence, .. } => (call, sentence),
-        other => panic!("caught on a pairing call: {other}"),
+        other => panic!("caught on another call: {other}"),
     }
 }
 
@@ -27,8 +28,25 @@ fn caught_building(door: Pretended) -> (BuildCall, String) {
 fn caught_pairing(door: Pretended) -> (PairingCall, String) {
     match first_difference(&door) {
         Difference { call: Call::Pairs(call), sentence, .. } => (call, sentence),
-        other => panic!("caught on a building call: {other}"),
+        other => panic!("caught on another call: {other}"),
     }
+}
+
+/// The small question on which a wrong port is caught, and the sentence about it.
+fn caught_asking(door: Pretended) -> (WhyCall, String) {
+    match first_difference(&door) {
+        Difference { call: Call::Why(call), sentence, .. } => (call, sentence),
+        other => panic!("caught on another call: {other}"),
+    }
+}
+
+/// Tests that a port which tells wrong reasons is caught on a question of so many ends at most, by
+/// a sentence that ends as given.
+#[track_caller]
+fn assert_told_wrongly(told: fn(&WhyCall) -> i64, ends: usize, sentence_ends: &str) {
+    let (call, sentence) = caught_asking(Pretended { told, ..Pretended::default() });
+    assert!(call.pairing.ends() <= ends, "not small:\n{call}");
+    assert!(sentence.ends_with(sentence_ends), "{sentence}");
 }
 
 #[track_caller]
@@ -168,6 +186,65 @@ fn a_direction_of_zeros_taken_for_absent() {
     let wrong = Pretended { pairs: answers_of::zeros_absent, ..Pretended::default() };
     let (call, _) = caught_pairing(wrong);
     assert_eq!(call.ends(), 2, "not small:\n{call}");
+}
+
+#[test]
+fn every_reason_is_asked_for() {
+    let plan = Plan { first: 0, calls: 2_000, seed: 11, jobs: 2 };
+    let (tally, _) = run(&Pretended::default(), Judge::Model, plan, &|_| ());
+    let told: Vec<_> = tally.told.keys().copied().collect();
+    let all = ["absent direction", "blocked", "no two ends", "not qualifying", "same piece"];
+    assert_eq!(told, [&all[..], &["selected"]].concat());
+}
+
+#[test]
+fn the_last_pair_that_blocks() {
+    assert_told_wrongly(answers_of::last_that_blocks, 4, "not 4 (blocked)");
+}
+
+#[test]
+fn an_absent_direction_before_one_piece() {
+    assert_told_wrongly(answers_of::absent_before_same_piece, 2, "is 2, not 1 (same piece)");
+}
+
+#[test]
+fn the_order_of_the_ends_minded() {
+    assert_told_wrongly(answers_of::order_minded, 2, "is 4, not 0 (selected)");
+}
+
+#[test]
+fn one_end_taken_for_two() {
+    assert_told_wrongly(answers_of::one_end_taken_for_two, 1, "is 1, not -26 (no two ends)");
+}
+
+#[test]
+fn a_question_that_writes_no_pairs() {
+    let wrong = Pretended {
+        after_why: |rooms, call| {
+            if right_reason(call) >= 0 && !right_pairs(&call.pairing).is_empty() {
+                rooms.pairs.lent()[0] = u32::MAX;
+            }
+        },
+        ..Pretended::default()
+    };
+    let (call, sentence) = caught_asking(wrong);
+    assert_eq!(call.pairing.ends(), 2, "not small:\n{call}");
+    assert_eq!(sentence, "pairs[0] is 0xffffffff, not 0x0");
+}
+
+#[test]
+fn a_refused_question_that_stores() {
+    let wrong = Pretended {
+        after_why: |rooms, call| {
+            if right_reason(call) < 0 && call.pairing.ends() > 0 {
+                rooms.workspace.lent()[0] = 3;
+            }
+        },
+        ..Pretended::default()
+    };
+    let (call, sentence) = caught_asking(wrong);
+    assert_eq!(call.pairing.ends(), 1, "not small:\n{call}");
+    assert!(sentence.contains("workspace[0]"), "{sentence}");
 }
 
 #[test]
