@@ -35,6 +35,9 @@ extern "C" {
 #define LOVASUKU_MOST_POINTS 65536
 #define LOVASUKU_MOST_ENDS 8192
 
+/* The greatest offset, in millimetres per metre run. */
+#define LOVASUKU_MOST_OFFSET 1000
+
 /* Numbers of a chain's record; words of workspace for each line and for each end. */
 #define LOVASUKU_RECORD 5
 #define LOVASUKU_LINE_WORKSPACE 192
@@ -60,6 +63,7 @@ enum lovasuku_refusal {
     LOVASUKU_TOO_MANY_COORDINATES = 5, /* More than 65,536 coordinates, counted in pairs. */
     LOVASUKU_NO_PLACE = 15,            /* A coordinate is NaN or infinite. */
     LOVASUKU_BAD_LIMIT = 6,            /* The switch is above 1, or the limit is not a number from -1 to 1. */
+    LOVASUKU_BAD_OFFSET = 22,          /* The offset that stands in the limit's place is above 1,000. */
     LOVASUKU_ROOM_TOO_SHORT = 7,       /* A lent room is shorter than the call needs. */
     LOVASUKU_PIECE_TOO_OFTEN = 8,      /* A piece number occurs more than twice. */
     LOVASUKU_NOT_FINITE = 9,           /* The indexed route was given a present direction that is not finite. */
@@ -177,6 +181,58 @@ int64_t lovasuku_why(const uint8_t *present, size_t present_length,
                      double limit, uint32_t i, uint32_t j,
                      uint32_t *pairs, size_t pairs_length,
                      uint64_t *workspace, size_t workspace_length);
+
+/* The limit that an offset stands for: a bend of so many millimetres of offset per metre run, a whole number from 0
+ * (straight on, -1) to 1,000 (45 degrees, about -0.70711). The result is the limit's 64 bits.
+ *
+ * The limit is minus M / 2^53, where M is the largest whole number with M * M * (1,000,000 + offset * offset) at
+ * most 1,000,000 * 2^106: exactly this double. A greater offset never gives a lower limit.
+ *
+ * The bits of a number below 0 are themselves negative as an int64_t: compare the answer with -22 and with nothing
+ * else. No limit has these bits.
+ *
+ * Refusals: 22 offset is above 1,000. */
+int64_t lovasuku_offset_limit(uint32_t offset);
+
+/* The calls above with an offset in the limit's place. Each is the call with lovasuku_offset_limit's limit, and 22 is
+ * in place of the limit's part of 6.
+ *
+ * Of building: a switch_on above 1 is 6, whatever the offset is. Where it is 1, an offset above 1,000 is 22, where the
+ * limit would have been 6. Where it is 0 the offset is not looked at. */
+int64_t lovasuku_build_offset(const double *coordinates, size_t coordinates_length,
+                              const uint32_t *counts, size_t counts_length,
+                              const uint32_t *groups, size_t groups_length,
+                              const uint8_t *kinds, size_t kinds_length,
+                              double tolerance, uint8_t switch_on, uint32_t offset,
+                              uint32_t *table, size_t table_length,
+                              uint32_t *members, size_t members_length,
+                              uint8_t *marks, size_t marks_length,
+                              double *merged, size_t merged_length,
+                              double *spare, size_t spare_length,
+                              uint64_t *workspace, size_t workspace_length);
+
+/* Of pairing, by each route: an offset above 1,000 is 22, after 3 and before 7. The pairs under one offset are the
+ * beginning of those under a greater one. */
+int64_t lovasuku_pairs_plain_offset(const uint8_t *present, size_t present_length,
+                                    const double *directions, size_t directions_length,
+                                    const uint32_t *pieces, size_t pieces_length,
+                                    uint32_t offset,
+                                    uint32_t *pairs, size_t pairs_length,
+                                    uint64_t *workspace, size_t workspace_length);
+
+int64_t lovasuku_pairs_indexed_offset(const uint8_t *present, size_t present_length,
+                                      const double *directions, size_t directions_length,
+                                      const uint32_t *pieces, size_t pieces_length,
+                                      uint32_t offset,
+                                      uint32_t *pairs, size_t pairs_length,
+                                      uint64_t *workspace, size_t workspace_length);
+
+int64_t lovasuku_pairs_chosen_offset(const uint8_t *present, size_t present_length,
+                                     const double *directions, size_t directions_length,
+                                     const uint32_t *pieces, size_t pieces_length,
+                                     uint32_t offset,
+                                     uint32_t *pairs, size_t pairs_length,
+                                     uint64_t *workspace, size_t workspace_length);
 
 /* The chain question: does record k of a table name a chain? The result is 0, which says yes.
  *

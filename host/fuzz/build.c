@@ -1,4 +1,5 @@
 /* Building calls: made of bytes, with tables and rooms of any length, and put to the library twice. */
+#include <math.h>
 #include <string.h>
 
 #include "build.h"
@@ -100,6 +101,11 @@ static struct building next_building(struct bytes *bytes, struct lengths *length
     call.tolerance = double_of(next_word(bytes));
     call.switch_on = next_byte(bytes) % 2;
     call.limit = next_limit(bytes);
+    call.by_offset = next_byte(bytes) % 4 == 3;
+    if (call.by_offset) {
+        call.offset = next_offset(bytes);
+        call.limit = call.offset > LOVASUKU_MOST_OFFSET ? NAN : limit_of_offset(call.offset);
+    }
     size_t points = fill_lines(bytes, call.n, words, count, group, kind);
     call.c = damage_counts(bytes, call.n, points, words, count);
     lengths->numbers = next_length(bytes, 2 * call.c);
@@ -174,7 +180,7 @@ static int refusal(const struct building *call, const struct lengths *lengths) {
         return LOVASUKU_NO_PLACE;
     }
     if (call->switch_on > 1 || (call->switch_on == 1 && limit_is_bad(call->limit))) {
-        return LOVASUKU_BAD_LIMIT;
+        return call->by_offset && call->switch_on == 1 ? LOVASUKU_BAD_OFFSET : LOVASUKU_BAD_LIMIT;
     }
     wanted_rooms(call, lengths->numbers, wanted);
     for (int room = 0; room < ROOMS; room++) {
@@ -190,6 +196,13 @@ static int64_t make_call(const struct building *call, const struct lengths *leng
         lend_room(&rooms[room], width[room] * lengths->rooms[room], dirt);
     }
     const size_t *room = lengths->rooms;
+    if (call->by_offset) {
+        return lovasuku_build_offset(
+            coordinates.lent, lengths->numbers, counts.lent, call->n, groups.lent, lengths->groups, kinds.lent,
+            lengths->kinds, call->tolerance, call->switch_on, call->offset, rooms[TABLE].lent, room[TABLE],
+            rooms[MEMBERS].lent, room[MEMBERS], rooms[MARKS].lent, room[MARKS], rooms[MERGED].lent, room[MERGED],
+            rooms[SPARE].lent, room[SPARE], rooms[WORKSPACE].lent, room[WORKSPACE]);
+    }
     return lovasuku_build(coordinates.lent, lengths->numbers, counts.lent, call->n, groups.lent,
                           lengths->groups, kinds.lent, lengths->kinds, call->tolerance, call->switch_on,
                           call->limit, rooms[TABLE].lent, room[TABLE], rooms[MEMBERS].lent, room[MEMBERS],
@@ -258,6 +271,8 @@ void fuzz_build(struct bytes *bytes) {
     require_rooms(&call, &lengths, (size_t)answer);
     uint64_t sum = sum_of_answer(&call, (size_t)answer);
     seen(1024 + (unsigned)(sum % 1024));
+    /* With an offset it is the call with the offset's limit; above 1,000 the limit isn't looked at. */
+    call.by_offset = false;
     require(make_call(&call, &lengths, (unsigned char)~dirt) == answer, "the same call has the same answer");
     require_rooms(&call, &lengths, (size_t)answer);
     require(sum_of_answer(&call, (size_t)answer) == sum,

@@ -12,6 +12,9 @@ struct building {
     size_t n, c;
     double tolerance, limit;
     uint8_t switch_on;
+    /* Whether the offset stands in the limit's place; the limit is then the offset's, NaN above 1,000. */
+    bool by_offset;
+    uint32_t offset;
     /* The rooms as an accepted call has left them. */
     const uint32_t *table, *members;
     const uint8_t *marks;

@@ -47,6 +47,9 @@ uint64_t next_word(struct bytes *bytes);
 /* A limit: mostly from -1 to 1. */
 double next_limit(struct bytes *bytes);
 
+/* An offset: mostly up to 1,000. */
+uint32_t next_offset(struct bytes *bytes);
+
 double double_of(uint64_t bits);
 
 uint64_t bits_of(double number);
@@ -91,5 +94,8 @@ void fuzz_write_wkb(struct bytes *bytes);
 /* What the rules say of the chain question, and of a limit. */
 bool chain_is_there(size_t coordinates, size_t merged, const uint32_t *table, size_t numbers, uint64_t k);
 bool limit_is_bad(double limit);
+
+/* The limit of an offset up to 1,000, which is required to be the one that the rules define. */
+double limit_of_offset(uint32_t offset);
 
 #endif

@@ -13,10 +13,13 @@ static struct slice present, directions, pieces, pairs, workspace;
 struct pairing {
     size_t d, present, directions, pairs, workspace;
     double limit;
+    uint32_t offset;
     unsigned char dirt;
     uint32_t asked[2];
 };
 
+typedef int64_t offset_route(const uint8_t *, size_t, const double *, size_t, const uint32_t *, size_t, uint32_t,
+                             uint32_t *, size_t, uint64_t *, size_t);
 typedef int64_t route(const uint8_t *, size_t, const double *, size_t, const uint32_t *, size_t, double,
                       uint32_t *, size_t, uint64_t *, size_t);
 
@@ -35,6 +38,7 @@ static struct pairing next_pairing(struct bytes *bytes) {
     uint8_t size = next_byte(bytes);
     call.d = size < 0xfe ? size % SMALL : size == 0xfe ? next_below(bytes, MEDIUM) : LOVASUKU_MOST_ENDS + 1;
     call.limit = next_limit(bytes);
+    call.offset = next_offset(bytes);
     call.dirt = next_byte(bytes);
     for (int k = 0; k < 2; k++) {
         uint8_t end = next_byte(bytes);
@@ -106,8 +110,8 @@ static bool any_wild(const struct pairing *call) {
     return false;
 }
 
-/* The number of the first refusal that applies, or 0. */
-static int refusal(const struct pairing *call, bool alone) {
+/* The number of the first refusal that applies, or 0. `limit` is that of the limit or of the offset in its place. */
+static int refusal(const struct pairing *call, bool alone, int limit) {
     if (call->d > LOVASUKU_MOST_ENDS) {
         return LOVASUKU_TOO_MANY;
     }
@@ -117,8 +121,8 @@ static int refusal(const struct pairing *call, bool alone) {
     if (any_mark_above_one(call)) {
         return LOVASUKU_MARK_ABOVE_ONE;
     }
-    if (limit_is_bad(call->limit)) {
-        return LOVASUKU_BAD_LIMIT;
+    if (limit != 0) {
+        return limit;
     }
     if (call->pairs < call->d || call->workspace < LOVASUKU_END_WORKSPACE * call->d) {
         return LOVASUKU_ROOM_TOO_SHORT;
@@ -145,12 +149,8 @@ static void require_accepted(const struct pairing *call, size_t count) {
                     "workspace is zero and as before beyond");
 }
 
-/* Makes the call by a route, and requires the answer and the rooms to be what the form alone demands. */
-static int64_t call_route(const struct pairing *call, route *by, bool alone, double limit) {
-    lend_rooms(call);
-    int64_t answer = by(present.lent, call->present, directions.lent, call->directions, pieces.lent, call->d,
-                        limit, pairs.lent, call->pairs, workspace.lent, call->workspace);
-    int expected = refusal(call, alone);
+/* Requires the answer and the rooms to be what the form alone demands. */
+static int64_t require_form(const struct pairing *call, int64_t answer, int expected) {
     require(expected == 0 ? answer >= 0 : answer == -expected, "the first refusal that applies is given");
     if (answer < 0) {
         require_refused();
@@ -159,6 +159,23 @@ static int64_t call_route(const struct pairing *call, route *by, bool alone, dou
     require((size_t)answer <= call->d / 2, "no more pairs than ends");
     require_accepted(call, (size_t)answer);
     return answer;
+}
+
+/* Makes the call by a route. */
+static int64_t call_route(const struct pairing *call, route *by, bool alone, double limit) {
+    lend_rooms(call);
+    int64_t answer = by(present.lent, call->present, directions.lent, call->directions, pieces.lent, call->d,
+                        limit, pairs.lent, call->pairs, workspace.lent, call->workspace);
+    return require_form(call, answer, refusal(call, alone, limit_is_bad(limit) ? LOVASUKU_BAD_LIMIT : 0));
+}
+
+/* The same with the offset in the limit's place. */
+static int64_t call_by_offset(const struct pairing *call, offset_route *by, bool alone) {
+    lend_rooms(call);
+    int64_t answer = by(present.lent, call->present, directions.lent, call->directions, pieces.lent, call->d,
+                        call->offset, pairs.lent, call->pairs, workspace.lent, call->workspace);
+    int bad = call->offset > LOVASUKU_MOST_OFFSET ? LOVASUKU_BAD_OFFSET : 0;
+    return require_form(call, answer, refusal(call, alone, bad));
 }
 
 static double measure(size_t i, size_t j) {
@@ -260,11 +277,35 @@ static void ask_why(const struct pairing *call, int64_t plain, const uint32_t *k
     seen(160 + (unsigned)(answer < 32 ? answer : 32));
 }
 
+/* Requires the calls with the offset to select what the plain route does with the offset's limit. */
+static void require_by_offset(const struct pairing *call) {
+    static uint32_t kept[MEDIUM];
+    int64_t plain = call_by_offset(call, lovasuku_pairs_plain_offset, false);
+    if (plain < 0) {
+        require(call_by_offset(call, lovasuku_pairs_indexed_offset, true) == plain, "routes refuse alike");
+        require(call_by_offset(call, lovasuku_pairs_chosen_offset, false) == plain, "routes refuse alike");
+        seen(900 + (unsigned)-plain);
+        return;
+    }
+    memcpy(kept, pairs.fill, 8 * (size_t)plain);
+    double limit = limit_of_offset(call->offset);
+    require_begins(kept, plain, call_route(call, lovasuku_pairs_plain, false, limit), true);
+    require_begins(kept, plain, call_by_offset(call, lovasuku_pairs_chosen_offset, false), true);
+    int64_t indexed = call_by_offset(call, lovasuku_pairs_indexed_offset, true);
+    if (indexed >= 0) {
+        require_begins(kept, plain, indexed, true);
+    }
+    struct pairing wider = *call;
+    wider.offset = LOVASUKU_MOST_OFFSET;
+    require_begins(kept, plain, call_by_offset(&wider, lovasuku_pairs_chosen_offset, false), false);
+}
+
 void fuzz_pairs(struct bytes *bytes) {
     static uint32_t kept[MEDIUM], partner[MEDIUM];
     make_slices();
     struct pairing call = next_pairing(bytes);
     fill_ends(bytes, &call);
+    require_by_offset(&call);
     int64_t count = call_route(&call, lovasuku_pairs_plain, false, call.limit);
     if (count < 0) {
         require(call_route(&call, lovasuku_pairs_indexed, true, call.limit) == count, "routes refuse alike");

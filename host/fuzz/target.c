@@ -97,6 +97,26 @@ double next_limit(struct bytes *bytes) {
     return choice < 0xe0 ? limits[choice % COUNT(limits)] : double_of(next_word(bytes));
 }
 
+uint32_t next_offset(struct bytes *bytes) {
+    static const uint64_t offsets[] = {0, 1, 999, 1000, 1001, 0x7fffffff, 0xffffffff};
+    uint8_t choice = next_byte(bytes);
+    return choice < RARELY ? (uint32_t)next_below(bytes, LOVASUKU_MOST_OFFSET + 1)
+                           : (uint32_t)rare_number(bytes, choice, offsets, COUNT(offsets), 4);
+}
+
+double limit_of_offset(uint32_t offset) {
+    int64_t answer = lovasuku_offset_limit(offset);
+    double limit = double_of((uint64_t)answer);
+    require(answer != -LOVASUKU_BAD_OFFSET && limit >= -1.0 && limit < -0.5, "an offset has a limit");
+    uint64_t m = (uint64_t)(-limit * 0x1p53);
+    unsigned __int128 slope = 1000000 + (unsigned __int128)offset * offset;
+    unsigned __int128 whole = (unsigned __int128)1000000 << 106;
+    require(-limit * 0x1p53 == (double)m, "the limit of an offset is a number of 2^-53");
+    require((unsigned __int128)m * m * slope <= whole, "the limit of an offset is reached");
+    require((unsigned __int128)(m + 1) * (m + 1) * slope > whole, "no lower number is reached");
+    return limit;
+}
+
 bool limit_is_bad(double limit) {
     return !(limit >= -1.0 && limit <= 1.0);
 }

@@ -10,6 +10,7 @@ ghost use Rattle.rules.specs.Refusals.{rooms, lentEnds};
 ghost use Rattle.rules.specs.Calls.{numberOf, Numbered, Built, Paired, asked};
 ghost use Rattle.rules.specs.Reasons.{Why};
 ghost use Rattle.rules.specs.Wkb.{ReadPlain, Wrote, chainsAs};
+ghost use Rattle.rules.specs.Offset.{offsetAsked, BuiltOffset, PairedOffset, endsFor};
 
 // An answer as a host sees it.
 fn number(answer: Answer) -> u64
@@ -170,4 +171,109 @@ pub extern "C" fn lovasuku_write_wkb<'a>(
         (now (run .entry)) (now (lengths .entry))) a (now (run .exit)) (now (lengths .exit))) r ⌝ }
 {
     number(wkb_writing::write(2, coordinates, merged, table, k, order, run, lengths))
+}
+
+// The limit that an offset stands for: its 64 bits.
+#[no_mangle]
+pub extern "C" fn lovasuku_offset_limit(offset: u32) -> u64
+    ensures { λ r. ⌜ r ≡ numberOf (offsetAsked offset) ⌝ }
+{
+    number(float_offset::offset_limit(offset))
+}
+
+// Building with an offset in the limit's place: the number of chains.
+#[no_mangle]
+pub extern "C" fn lovasuku_build_offset(
+    coordinates: &[u64],
+    counts: &[u32],
+    groups: &[u32],
+    kinds: &[u8],
+    tolerance: f64,
+    switch: u8,
+    offset: u32,
+    table: &mut [u32],
+    members: &mut [u32],
+    marks: &mut [u8],
+    merged: &mut [u64],
+    spare: &mut [u64],
+    workspace: &mut [u64],
+) -> u64
+    ensures { λ r. ⌜ Numbered (λ a. BuiltOffset (lent (now (coordinates .entry)) (now (counts .entry)) (now (groups .entry)) (now (kinds .entry)))
+        tolerance switch offset
+        (rooms (now (table .entry)) (now (members .entry)) (now (marks .entry)) (now (merged .entry)) (now (spare .entry)) (now (workspace .entry)))
+        a (rooms (now (table .exit)) (now (members .exit)) (now (marks .exit)) (now (merged .exit)) (now (spare .exit)) (now (workspace .exit)))) r ⌝ }
+{
+    number(offset_calls::build_offset(
+        coordinates,
+        counts,
+        groups,
+        kinds,
+        tolerance,
+        switch,
+        offset,
+        table,
+        members,
+        marks,
+        merged,
+        spare,
+        workspace,
+    ))
+}
+
+// The plain route with an offset in the limit's place: the number of pairs.
+#[no_mangle]
+pub extern "C" fn lovasuku_pairs_plain_offset(
+    present: &[u8],
+    directions: &[f64],
+    pieces: &[u32],
+    offset: u32,
+    pairs: &mut [u32],
+    workspace: &mut [u64],
+) -> u64
+    ensures { λ r. ⌜ Numbered (λ a. PairedOffset false offset
+        (endsFor (now (present .entry)) (now (directions .entry)) (now (pieces .entry)) offset (now (pairs .entry)) (now (workspace .entry)))
+        a (now (pairs .exit)) (now (workspace .exit))) r ⌝ }
+{
+    number(offset_calls::pairs_plain_offset(present, directions, pieces, offset, pairs, workspace))
+}
+
+// The indexed route with an offset in the limit's place: the number of pairs.
+#[no_mangle]
+pub extern "C" fn lovasuku_pairs_indexed_offset(
+    present: &[u8],
+    directions: &[f64],
+    pieces: &[u32],
+    offset: u32,
+    pairs: &mut [u32],
+    workspace: &mut [u64],
+) -> u64
+    ensures { λ r. ⌜ Numbered (λ a. PairedOffset true offset
+        (endsFor (now (present .entry)) (now (directions .entry)) (now (pieces .entry)) offset (now (pairs .entry)) (now (workspace .entry)))
+        a (now (pairs .exit)) (now (workspace .exit))) r ⌝ }
+{
+    number(offset_calls::pairs_indexed_offset(
+        present,
+        directions,
+        pieces,
+        offset,
+        pairs,
+        workspace,
+    ))
+}
+
+// The chosen route with an offset in the limit's place: the number of pairs.
+#[no_mangle]
+pub extern "C" fn lovasuku_pairs_chosen_offset(
+    present: &[u8],
+    directions: &[f64],
+    pieces: &[u32],
+    offset: u32,
+    pairs: &mut [u32],
+    workspace: &mut [u64],
+) -> u64
+    ensures { λ r. ⌜ Numbered (λ a. PairedOffset false offset
+        (endsFor (now (present .entry)) (now (directions .entry)) (now (pieces .entry)) offset (now (pairs .entry)) (now (workspace .entry)))
+        a (now (pairs .exit)) (now (workspace .exit))) r ⌝ }
+{
+    number(offset_calls::pairs_chosen_offset(present, directions, pieces, offset, pairs, workspace))
 }

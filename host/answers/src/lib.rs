@@ -4,6 +4,7 @@
 //!   trait [`Port`] that everything which answers calls implements.
 //! - [`format`]: the recorded files, reading and writing.
 //! - [`model`]: the rules, written down in plain Rust.
+//! - [`offset`]: the limit of an offset, in whole numbers.
 //! - [`check`]: what holds of every recorded answer by its form alone.
 //! - [`replay`]: every recorded call, put to a [`Port`].
 //! - [`wkb`]: lines as WKB records, read as the standard says.
@@ -15,6 +16,7 @@ pub mod call;
 pub mod check;
 pub mod format;
 pub mod model;
+pub mod offset;
 pub mod random;
 pub mod replay;
 pub mod styles;

@@ -2,6 +2,7 @@
 
 use crate::room::{more, Dirt, Room};
 use crate::{Door, Judge};
+use answers::offset::of_limit;
 use answers::random::Random;
 use answers::{BuildCall, Built, Refusal};
 use lovasuku_chains::size::{LINE_WORKSPACE, RECORD};
@@ -71,14 +72,24 @@ impl BuildRooms {
 }
 
 /// Puts the call to the door, in rooms that the seed determines, and holds it to the judge's
-/// answer. The error is a sentence about the first difference.
+/// answer; once more with an offset in the limit's place, where the limit is of one. The error is a sentence about the first difference.
 pub fn compare_build(
     door: &dyn Door,
     judge: Judge,
     call: &BuildCall,
     seed: u64,
 ) -> Result<(), String> {
-    hold_build(door, call, &judge.build(call), seed)
+    let wanted = judge.build(call);
+    hold_build(door, call, &wanted, seed)?;
+    match door.by_offset().filter(|_| of_limit(call.limit).is_some()) {
+        Some(door) => hold_build(door, call, &wanted, seed).map_err(by_offset),
+        None => Ok(()),
+    }
+}
+
+/// A difference of the call with an offset in the limit's place.
+pub(crate) fn by_offset(difference: String) -> String {
+    format!("with an offset in the limit's place: {difference}")
 }
 
 /// The same with an answer or a refusal that is known already.

@@ -3,7 +3,7 @@
 
 use answers::random::Random;
 use answers::styles::{junctions, pairing, wild, Style, BUILDING, PAIRING};
-use answers::{BuildCall, PairingCall, WhyCall};
+use answers::{offset, BuildCall, PairingCall, WhyCall};
 use lovasuku_chains::size::{MOST_ENDS, MOST_LINES, MOST_POINTS};
 
 /// A call of either sort.
@@ -33,6 +33,9 @@ const REAL: u64 = 2_000;
 /// One building call in so many has a coordinate that is no place, beside those whose style has.
 const LOST: usize = 16;
 
+/// One call in so many has the limit of an offset.
+const OFFSETS: usize = 4;
+
 /// The bits of the exponent, which are all set in a NaN and in an infinity.
 const EXPONENT: u64 = 0x7ff0_0000_0000_0000;
 
@@ -52,6 +55,7 @@ pub fn numbered(seed: u64, number: u64) -> Numbered {
         if !call.finite() {
             truncate(&mut call, MOST_WILD_ENDS);
         }
+        bend(&mut random, &mut call.limit);
         let call = match random.one_in(2) {
             true => Call::Why(WhyCall { ends: two_ends(&mut random, &call), pairing: call }),
             false => Call::Pairs(call),
@@ -70,7 +74,17 @@ pub fn numbered(seed: u64, number: u64) -> Numbered {
     if random.one_in(LOST) {
         lose(&mut random, &mut call);
     }
+    bend(&mut random, &mut call.limit);
     Numbered { style, call: Call::Build(call), rooms }
+}
+
+/// Makes the limit that of an offset, once in so many calls: often the least or the greatest.
+fn bend(random: &mut Random, limit: &mut u64) {
+    if random.one_in(OFFSETS) {
+        let some = random.below(offset::MOST as usize + 1) as u32;
+        let chosen = random.pick(&[some, some, some, 0, 1, offset::MOST]);
+        *limit = offset::limit(chosen).map_or(*limit, f64::to_bits);
+    }
 }
 
 /// Puts a NaN or an infinity somewhere into a line, which passes through once in two.

@@ -2,8 +2,8 @@
 
 use crate::building::BuildRooms;
 use crate::pairing::PairRooms;
-use answers::{BuildCall, PairingCall, Route, WhyCall};
-use lovasuku_chains::door::{self, RawSettings};
+use answers::{offset, BuildCall, PairingCall, Route, WhyCall};
+use lovasuku_chains::door::{self, RawOffset, RawSettings};
 use lovasuku_chains::{Ends, Lines};
 
 /// Whatever takes calls in the form of the door: rooms are lent, the answer is a number.
@@ -16,6 +16,11 @@ pub trait Door: Sync {
 
     /// Says why two ends are joined or not.
     fn why(&self, call: &WhyCall, rooms: &mut PairRooms) -> i64;
+
+    /// The same with an offset in the limit's place, where there are such calls.
+    fn by_offset(&self) -> Option<&dyn Door> {
+        None
+    }
 }
 
 /// The verified library.
@@ -23,45 +28,89 @@ pub struct Library;
 
 impl Door for Library {
     fn build(&self, call: &BuildCall, rooms: &mut BuildRooms) -> i64 {
-        let coordinates = floats(&call.coordinates);
-        let lines = Lines {
-            coordinates: &coordinates,
-            counts: &call.counts,
-            groups: &call.groups,
-            kinds: &call.kinds,
-        };
         let settings = RawSettings {
             tolerance: f64::from_bits(call.tolerance),
             switch: call.switch,
             limit: f64::from_bits(call.limit),
         };
-        let rooms = door::BuildRooms {
-            table: rooms.table.lent(),
-            members: rooms.members.lent(),
-            marks: rooms.marks.lent(),
-            merged: rooms.merged.lent(),
-            spare: rooms.spare.lent(),
-            workspace: rooms.workspace.lent(),
-        };
-        door::build(lines, settings, rooms)
+        door::build(lines(call, &floats(&call.coordinates)), settings, lent(rooms))
     }
 
     fn pairs(&self, route: Route, call: &PairingCall, rooms: &mut PairRooms) -> i64 {
-        let directions = floats(&call.directions);
-        let ends = Ends { present: &call.present, directions: &directions, pieces: &call.pieces };
-        let route = match route {
-            Route::Plain => lovasuku_chains::Route::Plain,
-            Route::Indexed => lovasuku_chains::Route::Indexed,
-            Route::Chosen => lovasuku_chains::Route::Chosen,
-        };
-        door::pairs(route, ends, f64::from_bits(call.limit), rooms.lent())
+        let (limit, rooms) = (f64::from_bits(call.limit), lent_pairs(rooms));
+        door::pairs(by(route), ends(call, &floats(&call.directions)), limit, rooms)
     }
 
     fn why(&self, call: &WhyCall, rooms: &mut PairRooms) -> i64 {
         let WhyCall { pairing: call, ends: of } = call;
-        let directions = floats(&call.directions);
-        let ends = Ends { present: &call.present, directions: &directions, pieces: &call.pieces };
-        door::why(ends, f64::from_bits(call.limit), *of, rooms.lent())
+        let (limit, rooms) = (f64::from_bits(call.limit), lent_pairs(rooms));
+        door::why(ends(call, &floats(&call.directions)), limit, *of, rooms)
+    }
+
+    fn by_offset(&self) -> Option<&dyn Door> {
+        Some(&ByOffset)
+    }
+}
+
+/// The library's calls with an offset in the limit's place: the one that the call's limit is of, or
+/// one above 1,000 where it is of none.
+pub struct ByOffset;
+
+impl Door for ByOffset {
+    fn build(&self, call: &BuildCall, rooms: &mut BuildRooms) -> i64 {
+        let settings = RawOffset {
+            tolerance: f64::from_bits(call.tolerance),
+            switch: call.switch,
+            offset: offset_of(call.limit),
+        };
+        door::build_offset(lines(call, &floats(&call.coordinates)), settings, lent(rooms))
+    }
+
+    fn pairs(&self, route: Route, call: &PairingCall, rooms: &mut PairRooms) -> i64 {
+        let (offset, rooms) = (offset_of(call.limit), lent_pairs(rooms));
+        door::pairs_offset(by(route), ends(call, &floats(&call.directions)), offset, rooms)
+    }
+
+    /// The question has no call with an offset: it is asked with the limit.
+    fn why(&self, call: &WhyCall, rooms: &mut PairRooms) -> i64 {
+        Library.why(call, rooms)
+    }
+}
+
+/// The offset of a limit; where it is the limit of none, one above 1,000 that its bits determine.
+pub fn offset_of(limit: u64) -> u32 {
+    let above = || ((limit >> 32) as u32 ^ limit as u32).max(offset::MOST + 1);
+    offset::of_limit(limit).unwrap_or_else(above)
+}
+
+fn lines<'a>(call: &'a BuildCall, coordinates: &'a [f64]) -> Lines<'a> {
+    Lines { coordinates, counts: &call.counts, groups: &call.groups, kinds: &call.kinds }
+}
+
+fn lent(rooms: &mut BuildRooms) -> door::BuildRooms<'_> {
+    door::BuildRooms {
+        table: rooms.table.lent(),
+        members: rooms.members.lent(),
+        marks: rooms.marks.lent(),
+        merged: rooms.merged.lent(),
+        spare: rooms.spare.lent(),
+        workspace: rooms.workspace.lent(),
+    }
+}
+
+fn ends<'a>(call: &'a PairingCall, directions: &'a [f64]) -> Ends<'a> {
+    Ends { present: &call.present, directions, pieces: &call.pieces }
+}
+
+fn lent_pairs(rooms: &mut PairRooms) -> door::PairRooms<'_> {
+    door::PairRooms { pairs: rooms.pairs.lent(), workspace: rooms.workspace.lent() }
+}
+
+fn by(route: Route) -> lovasuku_chains::Route {
+    match route {
+        Route::Plain => lovasuku_chains::Route::Plain,
+        Route::Indexed => lovasuku_chains::Route::Indexed,
+        Route::Chosen => lovasuku_chains::Route::Chosen,
     }
 }
 

@@ -2,7 +2,8 @@
 //!
 //! `cargo run --release -p compare -- --calls N --seed S` makes N calls of every style, from empty
 //! ones to 4,096 lines, 65,536 points and 8,192 ends, and holds the library to the live oracle, or
-//! to the model where the original is not at hand. Compared are the answer and every lent room:
+//! to the model where the original is not at hand. A call whose limit is that of an offset is put to
+//! the calls with an offset too. Compared are the answer and every lent room:
 //! what is written, what is cleared, and that all else is as before, guards beyond the rooms
 //! included. Rooms are dirty before the call. A difference is made small and printed as bits.
 //!
@@ -26,5 +27,5 @@ pub mod run;
 pub mod shrink;
 pub mod why;
 
-pub use door::{Door, Library};
+pub use door::{ByOffset, Door, Library};
 pub use judge::Judge;

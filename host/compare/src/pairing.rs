@@ -1,7 +1,9 @@
 //! A pairing call, put to every route of the library and held to the judge's answer.
 
+use crate::building::by_offset;
 use crate::room::{more, Dirt, Room};
 use crate::{Door, Judge};
+use answers::offset::of_limit;
 use answers::random::Random;
 use answers::{Pair, PairingCall, Route};
 use lovasuku_chains::door;
@@ -59,7 +61,8 @@ impl PairRooms {
 }
 
 /// Puts the call to the door by every route, in rooms that the seed determines, and holds it to
-/// the judge's answer. The error is a sentence about the first difference.
+/// the judge's answer; once more with an offset in the limit's place, where the limit is of one. The
+/// error is a sentence about the first difference.
 pub fn compare_pairs(
     door: &dyn Door,
     judge: Judge,
@@ -67,7 +70,11 @@ pub fn compare_pairs(
     seed: u64,
 ) -> Result<(), String> {
     let wanted = judge.pairs(call);
-    hold_pairs(door, call, |route| wanted.by(route), seed)
+    hold_pairs(door, call, |route| wanted.by(route), seed)?;
+    match door.by_offset().filter(|_| of_limit(call.limit).is_some()) {
+        Some(door) => hold_pairs(door, call, |route| wanted.by(route), seed).map_err(by_offset),
+        None => Ok(()),
+    }
 }
 
 /// The same with answers that are known already. A route without one refuses the call.

@@ -6,6 +6,7 @@ use crate::pairing::compare_pairs;
 use crate::shrink::shrink;
 use crate::why::compare_why;
 use crate::{Door, Judge};
+use answers::offset::of_limit;
 use std::collections::BTreeMap;
 use std::fmt;
 use std::panic::resume_unwind;
@@ -39,19 +40,22 @@ pub struct Tally {
     pub why: Styles,
     /// What these were answered with.
     pub told: Styles,
+    /// The calls whose limit is that of an offset.
+    pub offsets: u64,
     /// The most lines, points and ends of a call.
     pub most: [usize; 3],
 }
 
 impl Tally {
     fn add(&mut self, numbered: &Numbered) {
-        let (styles, sizes) = match &numbered.call {
+        let (styles, sizes, limit) = match &numbered.call {
             Call::Build(call) => {
-                (&mut self.building, [call.lines(), call.coordinates.len() / 2, 0])
+                (&mut self.building, [call.lines(), call.coordinates.len() / 2, 0], call.limit)
             }
-            Call::Pairs(call) => (&mut self.pairing, [0, 0, call.ends()]),
-            Call::Why(call) => (&mut self.why, [0, 0, call.pairing.ends()]),
+            Call::Pairs(call) => (&mut self.pairing, [0, 0, call.ends()], call.limit),
+            Call::Why(call) => (&mut self.why, [0, 0, call.pairing.ends()], call.pairing.limit),
         };
+        self.offsets += u64::from(of_limit(limit).is_some());
         *styles.entry(numbered.style).or_default() += 1;
         self.grow(sizes);
     }
@@ -73,6 +77,7 @@ impl Tally {
                 *sum.entry(style).or_default() += calls;
             }
         }
+        self.offsets += other.offsets;
         self.grow(other.most);
         self
     }
@@ -91,7 +96,8 @@ impl fmt::Display for Tally {
             each.collect::<Vec<_>>().join(", ")
         };
         writeln!(f, "building, up to {lines} lines and {points} points: {}", list(&self.building))?;
-        writeln!(f, "pairing, up to {ends} ends: {}", list(&self.pairing))?;
+        write!(f, "pairing, up to {ends} ends: {}", list(&self.pairing))?;
+        writeln!(f, "; {} of all with an offset in the limit's place too", self.offsets)?;
         writeln!(f, "two ends asked about: {}", list(&self.why))?;
         write!(f, "answered with: {}", list(&self.told))
     }

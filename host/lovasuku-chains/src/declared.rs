@@ -28,6 +28,34 @@ extern "C" {
         workspace_length: usize,
     ) -> i64;
 
+    pub fn lovasuku_offset_limit(offset: u32) -> i64;
+
+    pub fn lovasuku_build_offset(
+        coordinates: *const f64,
+        coordinates_length: usize,
+        counts: *const u32,
+        counts_length: usize,
+        groups: *const u32,
+        groups_length: usize,
+        kinds: *const u8,
+        kinds_length: usize,
+        tolerance: f64,
+        switch: u8,
+        offset: u32,
+        table: *mut u32,
+        table_length: usize,
+        members: *mut u32,
+        members_length: usize,
+        marks: *mut u8,
+        marks_length: usize,
+        merged: *mut f64,
+        merged_length: usize,
+        spare: *mut f64,
+        spare_length: usize,
+        workspace: *mut u64,
+        workspace_length: usize,
+    ) -> i64;
+
     pub fn lovasuku_chain(
         coordinates: *const f64,
         coordinates_length: usize,
@@ -105,3 +133,17 @@ functions!((
     workspace: *mut u64,
     workspace_length: usize,
 ), PairsFunction: lovasuku_pairs_plain lovasuku_pairs_indexed lovasuku_pairs_chosen);
+
+functions!((
+    present: *const u8,
+    present_length: usize,
+    directions: *const f64,
+    directions_length: usize,
+    pieces: *const u32,
+    pieces_length: usize,
+    offset: u32,
+    pairs: *mut u32,
+    pairs_length: usize,
+    workspace: *mut u64,
+    workspace_length: usize,
+), PairsOffsetFunction: lovasuku_pairs_plain_offset lovasuku_pairs_indexed_offset lovasuku_pairs_chosen_offset);

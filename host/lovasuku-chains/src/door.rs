@@ -9,7 +9,7 @@
 //! from all others, so the library may read and write all that it is told of.
 #![allow(unsafe_code)]
 
-use crate::declared::{self, PairsFunction};
+use crate::declared::{self, PairsFunction, PairsOffsetFunction};
 use crate::{Ends, Lines, Refusal, Route};
 
 /// Tolerance, switch and limit as they are lent, unchecked.
@@ -21,6 +21,18 @@ pub struct RawSettings {
     pub switch: u8,
     /// The limit; not looked at where the switch is 0.
     pub limit: f64,
+}
+
+/// Tolerance, switch and offset as they are lent, unchecked.
+#[derive(Clone, Copy, Debug, PartialEq)]
+pub struct RawOffset {
+    /// The snap tolerance.
+    pub tolerance: f64,
+    /// 1 where junctions are paired, 0 where they are not.
+    pub switch: u8,
+    /// The offset in the limit's place, in millimetres per metre run; not looked at where the
+    /// switch is 0.
+    pub offset: u32,
 }
 
 /// The rooms of a building call, for n lines and c coordinates (pairs of x and y).
@@ -141,6 +153,70 @@ pub fn why(ends: Ends<'_>, limit: f64, [i, j]: [u32; 2], rooms: PairRooms<'_>) -
             limit,
             i,
             j,
+            rooms.pairs.as_mut_ptr(),
+            rooms.pairs.len(),
+            rooms.workspace.as_mut_ptr(),
+            rooms.workspace.len(),
+        )
+    }
+}
+
+/// The limit that an offset stands for. The answer is its 64 bits, or -22.
+///
+/// Bits are negative, as those of every number below 0: no answer but -22 is a refusal, and
+/// [`result`] is not for this call.
+pub fn offset_limit(offset: u32) -> i64 {
+    unsafe { declared::lovasuku_offset_limit(offset) }
+}
+
+/// Builds the chains with an offset in the limit's place. The result is their number.
+pub fn build_offset(lines: Lines<'_>, settings: RawOffset, rooms: BuildRooms<'_>) -> i64 {
+    unsafe {
+        declared::lovasuku_build_offset(
+            lines.coordinates.as_ptr(),
+            lines.coordinates.len(),
+            lines.counts.as_ptr(),
+            lines.counts.len(),
+            lines.groups.as_ptr(),
+            lines.groups.len(),
+            lines.kinds.as_ptr(),
+            lines.kinds.len(),
+            settings.tolerance,
+            settings.switch,
+            settings.offset,
+            rooms.table.as_mut_ptr(),
+            rooms.table.len(),
+            rooms.members.as_mut_ptr(),
+            rooms.members.len(),
+            rooms.marks.as_mut_ptr(),
+            rooms.marks.len(),
+            rooms.merged.as_mut_ptr(),
+            rooms.merged.len(),
+            rooms.spare.as_mut_ptr(),
+            rooms.spare.len(),
+            rooms.workspace.as_mut_ptr(),
+            rooms.workspace.len(),
+        )
+    }
+}
+
+/// Selects pairs of ends by a route, with an offset in the limit's place. The result is their
+/// number.
+pub fn pairs_offset(route: Route, ends: Ends<'_>, offset: u32, rooms: PairRooms<'_>) -> i64 {
+    let function: PairsOffsetFunction = match route {
+        Route::Plain => declared::lovasuku_pairs_plain_offset,
+        Route::Indexed => declared::lovasuku_pairs_indexed_offset,
+        Route::Chosen => declared::lovasuku_pairs_chosen_offset,
+    };
+    unsafe {
+        function(
+            ends.present.as_ptr(),
+            ends.present.len(),
+            ends.directions.as_ptr(),
+            ends.directions.len(),
+            ends.pieces.as_ptr(),
+            ends.pieces.len(),
+            offset,
             rooms.pairs.as_mut_ptr(),
             rooms.pairs.len(),
             rooms.workspace.as_mut_ptr(),

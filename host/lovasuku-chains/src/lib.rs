@@ -30,6 +30,7 @@
 //! | join lines | [`Rooms::build`], which gives [`Chains`] |
 //! | pair the ends at one node | [`Rooms::pairs`] |
 //! | ask why two ends are joined or not | [`Rooms::why`], which gives a [`Reason`] |
+//! | state a bend as an offset per metre | [`Offset`], whose limit any call takes |
 //! | look up a chain in a stored table | [`chain_question`], [`chain_coordinates`] |
 //! | read lines from the records of a store | [`read_wkb`], which gives [`WkbLines`] |
 //! | write chains as records for a map | [`Chains::write_wkb`], which gives [`WkbRecords`] |
@@ -50,6 +51,7 @@ pub mod door;
 pub mod large;
 mod lines;
 mod nearest;
+mod offset;
 mod owned;
 mod pairing;
 mod question;
@@ -64,6 +66,7 @@ mod wkb;
 pub use chains::{Chain, Chains, Iter};
 pub use lines::{Lines, LinesBuf, PASSING, PLAIN};
 pub use nearest::Nearest;
+pub use offset::Offset;
 pub use owned::{build_chains, LineInput, OwnedChain};
 pub use pairing::{Ends, Reason, Route};
 pub use question::{chain_coordinates, chain_question};

@@ -35,6 +35,8 @@ pub enum Refusal {
     /// 6: the limit is NaN, below -1 or above 1. At the [`door`](crate::door) also: the switch is
     /// above 1.
     BadLimit,
+    /// 22: the offset that stands in the limit's place is above 1,000 millimetres per metre run.
+    BadOffset,
     /// 7: a room is too short. [`Rooms`](crate::Rooms) never lends one that is.
     RoomTooShort,
     /// 8: a piece number occurs more than twice.
@@ -83,6 +85,7 @@ impl Refusal {
             14 => Refusal::RecordRoomTooShort,
             15 => Refusal::NoPlace,
             16 => Refusal::UnknownOrder,
+            22 => Refusal::BadOffset,
             26 => Refusal::NoTwoEnds,
             unknown => Refusal::Unknown(unknown),
         }
@@ -98,6 +101,7 @@ impl Refusal {
             Refusal::TooManyCoordinates => 5,
             Refusal::NoPlace => 15,
             Refusal::BadLimit => 6,
+            Refusal::BadOffset => 22,
             Refusal::RoomTooShort => 7,
             Refusal::PieceTooOften => 8,
             Refusal::NotFinite => 9,
@@ -124,6 +128,7 @@ impl Refusal {
             Refusal::TooManyCoordinates => "there are more than 65,536 coordinates",
             Refusal::NoPlace => "a coordinate is not finite, so that it is no place",
             Refusal::BadLimit => "the limit is not a number from -1 to 1",
+            Refusal::BadOffset => "the offset is above 1,000 millimetres per metre run",
             Refusal::RoomTooShort => "a room is too short",
             Refusal::PieceTooOften => "a piece number occurs more than twice",
             Refusal::NotFinite => {
@@ -160,7 +165,7 @@ mod tests {
         for number in 1..=30 {
             let refusal = Refusal::of_number(number);
             assert_eq!(refusal.number(), number);
-            let known = number <= 16 || number == 26;
+            let known = number <= 16 || number == 22 || number == 26;
             assert_eq!(!known, matches!(refusal, Refusal::Unknown(_)));
         }
     }

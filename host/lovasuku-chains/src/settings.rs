@@ -1,5 +1,7 @@
 //! What a building call is asked for beside its lines.
 
+use crate::Offset;
+
 /// The snap tolerance, and whether and how far junctions are paired.
 ///
 /// ```
@@ -35,6 +37,11 @@ impl Settings {
     /// The same with junctions paired up to a bend in degrees, by [`limit_of_bend`].
     pub fn with_bend(self, degrees: f64) -> Self {
         Settings { limit: limit_of_bend(degrees), ..self }
+    }
+
+    /// The same with junctions paired up to an offset, by its limit.
+    pub fn with_offset(self, offset: Offset) -> Self {
+        self.with_limit(offset.limit())
     }
 
     /// The switch and the limit as the door takes them.

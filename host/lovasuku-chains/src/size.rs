@@ -9,6 +9,9 @@ pub const MOST_POINTS: usize = 65_536;
 /// The most ends of a pairing call.
 pub const MOST_ENDS: usize = 8_192;
 
+/// The greatest offset, in millimetres per metre run.
+pub const MOST_OFFSET: u32 = 1_000;
+
 /// The numbers of a chain's record: first member, member count, source, first coordinate,
 /// coordinate count.
 pub const RECORD: usize = 5;

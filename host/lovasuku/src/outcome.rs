@@ -7,7 +7,7 @@ use crate::delivery::{Delivery, Heights};
 use crate::joining::Chain;
 use crate::map::{map, Sheet};
 use crate::measure::Measure;
-use crate::numbers::count;
+use crate::numbers::{count, short};
 use crate::progress::Progress;
 use crate::tally::Tally;
 use crate::writing::{own_names, Bridges, Chains, Format, Output, Target};
@@ -124,10 +124,14 @@ impl Outcome<'_> {
 /// The settings of a run in words.
 fn settings_in_words(request: &Request, measure: &Measure) -> String {
     let mut words = format!("tolerance {}", request.settings.tolerance);
-    words += &match (request.bend, request.settings.limit) {
-        (Some(bend), Some(_)) => format!(" · junctions paired up to a bend of {bend}°"),
-        (None, Some(limit)) => format!(" · junctions paired up to limit {limit}"),
-        (_, None) => " · junctions not paired".into(),
+    words += &match (request.bend, request.offset, request.settings.limit) {
+        (_, Some(offset), Some(limit)) => format!(
+            " · junctions paired up to an offset of {offset} (limit {limit}, {}°)",
+            short(offset.degrees())
+        ),
+        (Some(bend), None, Some(_)) => format!(" · junctions paired up to a bend of {bend}°"),
+        (None, None, Some(limit)) => format!(" · junctions paired up to limit {limit}"),
+        (_, _, None) => " · junctions not paired".into(),
     };
     if let Some(name) = &request.class {
         words += &format!(" · classes by {name}");

@@ -176,12 +176,17 @@ impl Summary<'_> {
     }
 
     fn limit(&self) -> Option<String> {
-        match (self.request.bend, self.request.settings.limit) {
-            (Some(bend), Some(limit)) => {
+        let Request { bend, offset, settings, .. } = self.request;
+        match (bend, offset, settings.limit) {
+            (_, Some(offset), Some(limit)) => Some(format!(
+                "{limit}, which an offset of {offset} stands for, a bend of {} degrees",
+                rounded(offset.degrees())
+            )),
+            (Some(bend), _, Some(limit)) => {
                 Some(format!("{limit}, which a bend of {bend} degrees stands for"))
             }
-            (Some(bend), None) => Some(format!("a bend of {bend} degrees pairs no junction")),
-            (None, _) => None,
+            (Some(bend), _, None) => Some(format!("a bend of {bend} degrees pairs no junction")),
+            (None, _, _) => None,
         }
     }
 

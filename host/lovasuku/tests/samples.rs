@@ -128,3 +128,27 @@ fn the_limit_of_a_bend_is_the_limit() {
     assert_eq!(joined(&yard, &["--bend", "0"]), joined(&yard, &[]));
     assert_ne!(joined(&yard, &["--bend", "180"]), joined(&yard, &[]));
 }
+
+#[test]
+fn the_limit_of_an_offset_is_the_limit() {
+    let yard = sample_text("yard.geojson");
+    let by = |word: &str, value: &str| joined(&yard, &[word, value]);
+    assert_eq!(by("--offset", "0"), by("--limit", "-1"));
+    assert_eq!(by("--offset", "577"), by("--limit", "-0.86615674475890528"));
+    assert_eq!(by("--offset", "1000"), by("--limit", "-0.70710678118654746"));
+    assert_ne!(by("--offset", "1000"), by("--offset", "0"));
+}
+
+#[test]
+fn an_offset_is_told_with_its_limit_and_degrees() {
+    let folder = Folder::new("offset");
+    let map = folder.path("map.svg");
+    let args = ["join", "-", "-o", "-", "--offset", "577", "--map", &map];
+    let told = run(&args, &sample_text("yard.geojson"));
+    let row = "    limit  -0.8661567447589053, which an offset of 577 mm per metre stands for, \
+               a bend of 29.9849 degrees";
+    assert!(told.err.lines().any(|line| line == row), "{}", told.err);
+    let words =
+        "junctions paired up to an offset of 577 mm per metre (limit -0.8661567447589053, 30°)";
+    assert!(folder.text("map.svg").contains(words));
+}

@@ -1,11 +1,11 @@
 //! Damaged building calls.
 
 use crate::building_damages::{accepted, damages, lengths, LentLines};
-use crate::{damaged, IN_ORDER};
+use crate::{bent, damaged, IN_ORDER};
 use answers::random::Random;
 use answers::BuildCall;
-use compare::building::{compare_build, BuildRooms};
-use compare::{Door, Judge, Library};
+use compare::building::{compare_build, hold_build, BuildRooms};
+use compare::{ByOffset, Door, Judge, Library};
 
 /// Puts a damaged call to the library: the answer is the refusal, and the rooms are as before.
 fn expect(refusal: i64, lent: &LentLines, name: &str) {
@@ -13,13 +13,29 @@ fn expect(refusal: i64, lent: &LentLines, name: &str) {
     let answer = Library.build(&lent.call, &mut rooms);
     assert_eq!(answer, -refusal, "{name}");
     rooms.untouched().unwrap_or_else(|fault| panic!("{name}: {fault}"));
+    expect_by_offset(refusal, lent, name);
+}
+
+/// Puts it to the library with an offset in the limit's place: 22 is in place of the limit's part
+/// of 6.
+fn expect_by_offset(refusal: i64, lent: &LentLines, name: &str) {
+    let mut lent = lent.clone();
+    lent.call.limit = bent(lent.call.limit);
+    let refusal = if refusal == 6 && lent.call.switch == 1 { 22 } else { refusal };
+    let mut rooms = BuildRooms::new(&mut Random::new(refusal as u64), lengths(&lent));
+    let answer = ByOffset.build(&lent.call, &mut rooms);
+    assert_eq!(answer, -refusal, "by an offset, {name}");
+    rooms.untouched().unwrap_or_else(|fault| panic!("by an offset, {name}: {fault}"));
 }
 
 #[test]
 fn undamaged_calls_are_accepted() {
-    for (name, call) in accepted() {
+    for (name, mut call) in accepted() {
         let compared = compare_build(&Library, Judge::Model, &call, 1);
         assert_eq!(compared, Ok(()), "{name}");
+        call.limit = bent(call.limit);
+        let wanted = Judge::Model.build(&call);
+        assert_eq!(hold_build(&ByOffset, &call, &wanted, 1), Ok(()), "by an offset, {name}");
     }
 }
 

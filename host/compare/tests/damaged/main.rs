@@ -9,6 +9,7 @@ mod pairing_damages;
 mod question;
 mod why;
 
+use answers::offset;
 use std::cmp::Reverse;
 
 /// Whether a lent room is shorter than it must be.
@@ -126,6 +127,14 @@ pub const NO_PLACES: [u64; 6] = [
     0xfff4_0000_0000_0000,
     0xffff_ffff_ffff_ffff,
 ];
+
+/// The limit of the greatest offset where there is a limit; no limit, and so no offset, stays.
+pub fn bent(limit: u64) -> u64 {
+    match (-1.0..=1.0).contains(&f64::from_bits(limit)) {
+        true => offset::limit(offset::MOST).map_or(limit, f64::to_bits),
+        false => limit,
+    }
+}
 
 /// Takes the last number out of a table.
 pub fn shorter<T>(table: &mut Vec<T>) {

@@ -1,11 +1,11 @@
 //! Damaged pairing calls.
 
-use crate::damaged;
 use crate::pairing_damages::{accepted, damages, lengths, LentEnds};
+use crate::{bent, damaged};
 use answers::random::Random;
 use answers::{PairingCall, Route};
 use compare::pairing::{compare_pairs, PairRooms, ROUTES};
-use compare::{Door, Judge, Library};
+use compare::{ByOffset, Door, Judge, Library};
 
 /// Puts a damaged call to the library: the answer is the refusal, and the rooms are as before.
 fn expect(refusal: i64, route: Route, lent: &LentEnds, name: &str) {
@@ -13,12 +13,26 @@ fn expect(refusal: i64, route: Route, lent: &LentEnds, name: &str) {
     let answer = Library.pairs(route, &lent.call, &mut rooms);
     assert_eq!(answer, -refusal, "{route:?}, {name}");
     rooms.untouched().unwrap_or_else(|fault| panic!("{route:?}, {name}: {fault}"));
+    expect_by_offset(refusal, route, lent, name);
+}
+
+/// Puts it to the library with an offset in the limit's place: 22 is in place of 6.
+fn expect_by_offset(refusal: i64, route: Route, lent: &LentEnds, name: &str) {
+    let mut lent = lent.clone();
+    lent.call.limit = bent(lent.call.limit);
+    let refusal = if refusal == 6 { 22 } else { refusal };
+    let mut rooms = PairRooms::new(&mut Random::new(refusal as u64), lengths(&lent));
+    let answer = ByOffset.pairs(route, &lent.call, &mut rooms);
+    assert_eq!(answer, -refusal, "{route:?} by an offset, {name}");
+    rooms.untouched().unwrap_or_else(|fault| panic!("{route:?} by an offset, {name}: {fault}"));
 }
 
 #[test]
 fn undamaged_calls_are_accepted() {
-    for (name, call) in accepted() {
+    for (name, mut call) in accepted() {
         assert_eq!(compare_pairs(&Library, Judge::Model, &call, 1), Ok(()), "{name}");
+        call.limit = bent(call.limit);
+        assert_eq!(compare_pairs(&Library, Judge::Model, &call, 1), Ok(()), "{name}, bent");
     }
 }
 

@@ -93,6 +93,52 @@ fn select(call: &PairingCall, pairs: &[Pair], rooms: &mut PairRooms) {
     rooms.workspace.lent()[..64 * call.ends()].fill(0);
 }
 
+/// A right port whose calls with an offset are put by another door.
+pub struct WithOffsets<D>(pub Pretended, pub D);
+
+impl<D: Door> Door for WithOffsets<D> {
+    fn build(&self, call: &BuildCall, rooms: &mut BuildRooms) -> i64 {
+        self.0.build(call, rooms)
+    }
+
+    fn pairs(&self, route: Route, call: &PairingCall, rooms: &mut PairRooms) -> i64 {
+        self.0.pairs(route, call, rooms)
+    }
+
+    fn why(&self, call: &WhyCall, rooms: &mut PairRooms) -> i64 {
+        self.0.why(call, rooms)
+    }
+
+    fn by_offset(&self) -> Option<&dyn Door> {
+        Some(&self.1)
+    }
+}
+
+/// Calls with an offset that take another limit than the offset's.
+pub struct OtherLimit(pub fn(f64) -> f64);
+
+impl OtherLimit {
+    fn other(&self, limit: u64) -> u64 {
+        (self.0)(f64::from_bits(limit)).to_bits()
+    }
+}
+
+impl Door for OtherLimit {
+    fn build(&self, call: &BuildCall, rooms: &mut BuildRooms) -> i64 {
+        let call = BuildCall { limit: self.other(call.limit), ..call.clone() };
+        Pretended::default().build(&call, rooms)
+    }
+
+    fn pairs(&self, route: Route, call: &PairingCall, rooms: &mut PairRooms) -> i64 {
+        let call = PairingCall { limit: self.other(call.limit), ..call.clone() };
+        Pretended::default().pairs(route, &call, rooms)
+    }
+
+    fn why(&self, call: &WhyCall, rooms: &mut PairRooms) -> i64 {
+        Pretended::default().why(call, rooms)
+    }
+}
+
 /// Writes a list over the beginning of a room, as far as the room goes.
 fn write<T: Copy>(room: &mut [T], list: &[T]) {
     room.iter_mut().zip(list).for_each(|(number, &written)| *number = written);

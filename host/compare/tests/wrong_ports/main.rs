@@ -7,10 +7,10 @@ use answers::{BuildCall, Built, PairingCall, WhyCall};
 use answers_of::{right_pairs, right_reason};
 use compare::calls::Call;
 use compare::run::{run, Difference, Plan};
-use compare::{Judge, Library};
-use doors::Pretended;
+use compare::{Door, Judge, Library};
+use doors::{OtherLimit, Pretended, WithOffsets};
 
-fn first_difference(door: &Pretended) -> Difference {
+fn first_difference(door: &dyn Door) -> Difference {
     let plan = Plan { first: 0, calls: 2_000, seed: 11, jobs: 2 };
     let (_, difference) = run(door, Judge::Model, plan, &|_| ());
     difference.expect("the wrong port is caught")
@@ -338,4 +338,17 @@ fn a_difference_is_printed_as_bits() {
     let text = first_difference(&wrong).to_string();
     assert!(text.contains("made small: marks["), "{text}");
     assert!(text.contains("3ff0000000000000 (1.0)"), "{text}");
+}
+
+/// The limit of an offset without its sign, and the limit of the least offset for all.
+#[test]
+fn other_limits_of_offsets() {
+    for other in [|limit: f64| -limit, |_| -1.0] {
+        let port = WithOffsets(Pretended::default(), OtherLimit(other));
+        let Difference { sentence, .. } = first_difference(&port);
+        assert!(sentence.starts_with("with an offset in the limit's place: "), "{sentence}");
+    }
+    let right = WithOffsets(Pretended::default(), OtherLimit(|limit| limit));
+    let plan = Plan { first: 0, calls: 500, seed: 11, jobs: 2 };
+    assert!(run(&right, Judge::Model, plan, &|_| ()).1.is_none());
 }

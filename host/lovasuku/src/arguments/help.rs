@@ -24,6 +24,8 @@ Examples:
       closes gaps within cells of 2 units too, and lists every segment made that way
   lovasuku join roads.geojson -o chains.geojsonl --bend 40 --class surface --keep longest
       goes straight on at junctions, up to a bend of 40 degrees, within each class; a feature a line
+  lovasuku join roads.geojson -o chains.geojson --offset 268
+      goes straight on at junctions, up to 268 millimetres of offset per metre run, some 15 degrees
   ogr2ogr -f GeoJSON -lco RFC7946=NO -lco SIGNIFICANT_FIGURES=17 /vsistdout/ roads.gpkg |
       lovasuku join - -o chains.geojson
       reads any format of GDAL with its coordinates as they are. GeoJSONSeq and RFC7946=YES are not
@@ -51,6 +53,11 @@ because each end lies in exactly one, so that which ends meet never depends on t
 The summary counts bridges longer than T and gaps below T that stayed open, and --bridges lists them
 with their places.
 Degrees are units too: for 2 metres at the equator T is about 0.00002.";
+
+pub const OFFSET: &str = "\
+The same by a bend as road crews state it: so many millimetres of offset per metre run, a whole number
+from 0, straight on, to 1000, which is 45 degrees. The limit that it stands for is worked out by the
+verified library and is the same double on every machine; the summary shows it with the degrees.";
 
 pub const EXPLODE: &str = "\
 Join the parts of MultiLineStrings like lines of their own. A member is then named by its feature, and

@@ -7,7 +7,7 @@ use crate::delivery::{Heights, Reading};
 use crate::writing::{apart, Format, Keep};
 use clap::error::ErrorKind;
 use clap::{ArgMatches, Command};
-use lovasuku_chains::{limit_of_bend, Settings};
+use lovasuku_chains::{limit_of_bend, Offset, Settings};
 use std::path::{Path, PathBuf};
 
 /// What a run of `lovasuku join` is asked for.
@@ -22,6 +22,8 @@ pub struct Request {
     pub settings: Settings,
     /// The bend in degrees where the limit was given by one.
     pub bend: Option<f64>,
+    /// The offset where the limit was given by one.
+    pub offset: Option<Offset>,
     pub class: Option<String>,
     pub reading: Reading,
     pub keep: Keep,
@@ -88,6 +90,8 @@ fn of_join(matches: &ArgMatches) -> Result<Request, String> {
     let number = |name: &str| matches.get_one::<f64>(name).copied();
     let text = |name: &str| matches.get_one::<String>(name).cloned();
     let bend = number("bend");
+    let offset = matches.get_one::<Offset>("offset").copied();
+    let limit = number("limit").or_else(|| offset.map(Offset::limit));
     let request = Request {
         input: path("input").unwrap_or_default(),
         output: path("output").unwrap_or_default(),
@@ -96,9 +100,10 @@ fn of_join(matches: &ArgMatches) -> Result<Request, String> {
         format: text("format").and_then(|name| Format::of(&name)),
         settings: Settings {
             tolerance: number("tolerance").unwrap_or_default(),
-            limit: number("limit").or_else(|| bend.and_then(limit_of_bend)),
+            limit: limit.or_else(|| bend.and_then(limit_of_bend)),
         },
         bend,
+        offset,
         class: text("class"),
         reading: reading(matches),
         keep: text("keep").and_then(|name| Keep::of(&name)).unwrap_or_default(),

@@ -3,6 +3,7 @@
 use super::help;
 use crate::writing::{Format, Keep};
 use clap::{value_parser, Arg, ArgAction, Command};
+use lovasuku_chains::Offset;
 use std::path::PathBuf;
 
 pub fn join() -> Command {
@@ -64,7 +65,7 @@ fn outputs() -> [Arg; 5] {
     ]
 }
 
-fn settings() -> [Arg; 4] {
+fn settings() -> [Arg; 5] {
     [
         Arg::new("tolerance")
             .long("tolerance")
@@ -87,6 +88,14 @@ fn settings() -> [Arg; 4] {
             .allow_negative_numbers(true)
             .value_parser(|text: &str| within(text, 0.0, 180.0))
             .help("The same by a bend in degrees: 0 none, 90 up to a right angle, 180 any"),
+        Arg::new("offset")
+            .long("offset")
+            .value_name("MM")
+            .allow_negative_numbers(true)
+            .value_parser(offset)
+            .conflicts_with_all(["limit", "bend"])
+            .help("The same by millimetres of offset per metre run: 0 straight on, 1000 a bend of 45 degrees")
+            .long_help(help::OFFSET),
         named("class")
             .value_name("PROPERTY")
             .help("Join only lines that have the same value of this property"),
@@ -150,4 +159,10 @@ fn within(text: &str, lowest: f64, highest: f64) -> Result<f64, String> {
         _ if highest == f64::MAX => Err(format!("not a number from {lowest} up")),
         _ => Err(format!("not a number from {lowest} to {highest}")),
     }
+}
+
+/// A whole number of millimetres per metre run that is an offset.
+fn offset(text: &str) -> Result<Offset, String> {
+    let offset = text.parse().ok().and_then(|millimetres| Offset::new(millimetres).ok());
+    offset.ok_or_else(|| "not a whole number from 0 to 1000".into())
 }

@@ -1,0 +1,4 @@
+mod Numbers
+pub mod Ladders
+pub mod Calls
+pub mod Demand
