@@ -10,7 +10,12 @@
  * call spare and workspace are 0 over the length named below, each output begins with what was written, and
  * whatever lies beyond is as before.
  *
- * Coordinates are lent and come back bit for bit. Building takes any finite double and refuses the others.
+ * Coordinates are lent and come back bit for bit. Every call that has to do with them holds one type of OGC 06-103r4,
+ * which is given first: LOVASUKU_XY, or one with extras, a height (Z), a measure (M) or both (ZM). A coordinate is
+ * then two numbers, three or four: x, y, and the extras in that order. x and y alone decide what is joined, and
+ * building takes any finite double for them and refuses the others. Extras may be any double, NaN included. They are
+ * never looked at and ride along with their x and y, bit for bit; of coordinates that repeat one another's x and y the
+ * earlier one stays, with its extras.
  *
  * Link libdoor.a, which `rt staticlib door` writes for x86-64 Linux.
  */
@@ -38,30 +43,44 @@ extern "C" {
 /* The greatest offset, in millimetres per metre run. */
 #define LOVASUKU_MOST_OFFSET 1000
 
+/* The types of lines, by the numbers of ISO's WKB: x and y; with a height; with a measure; with both. What is none of
+ * these is refused by 12, first of all. */
+#define LOVASUKU_XY 2
+#define LOVASUKU_XYZ 1002
+#define LOVASUKU_XYM 2002
+#define LOVASUKU_XYZM 3002
+
+/* Numbers of a coordinate of a type, and 0 for a number that is none. */
+#define lovasuku_stride(wkb_type)                                                                                     \
+    ((size_t)((wkb_type) == LOVASUKU_XY ? 2                                                                           \
+              : (wkb_type) == LOVASUKU_XYZ || (wkb_type) == LOVASUKU_XYM ? 3                                          \
+              : (wkb_type) == LOVASUKU_XYZM ? 4 : 0))
+
 /* Numbers of a chain's record; words of workspace for each line and for each end. */
 #define LOVASUKU_RECORD 5
 #define LOVASUKU_LINE_WORKSPACE 192
 #define LOVASUKU_END_WORKSPACE 64
 
-/* The rooms of a call in elements: of building for n lines and c coordinates, counted in pairs of x and y; of
- * pairing for d ends. */
+/* The rooms of a call in elements: of building for n lines and c coordinates of a type, each counted once whatever it
+ * has; of pairing for d ends. */
 #define lovasuku_table_room(n) ((size_t)LOVASUKU_RECORD * (size_t)(n))
 #define lovasuku_members_room(n) ((size_t)(n))
 #define lovasuku_marks_room(n) ((size_t)(n))
-#define lovasuku_merged_room(c) ((size_t)2 * (size_t)(c))
-#define lovasuku_spare_room(c) ((size_t)2 * (size_t)(c))
+#define lovasuku_merged_room(wkb_type, c) (lovasuku_stride(wkb_type) * (size_t)(c))
+#define lovasuku_spare_room(wkb_type, c) (lovasuku_stride(wkb_type) * (size_t)(c))
 #define lovasuku_workspace_room(n) ((size_t)LOVASUKU_LINE_WORKSPACE * (size_t)(n))
 #define lovasuku_pairs_room(d) ((size_t)(d))
 #define lovasuku_pairs_workspace_room(d) ((size_t)LOVASUKU_END_WORKSPACE * (size_t)(d))
 
-/* The refusals, in order of checking. An answer is minus one of these, and the first that applies is given. */
+/* The refusals, in order of checking. An answer is minus one of these, and the first that applies is given. Where a
+ * type is given, 12 is the first of all. */
 enum lovasuku_refusal {
     LOVASUKU_TOO_MANY = 1,             /* More than 4,096 lines, or for pairing more than 8,192 ends. */
     LOVASUKU_TABLES_DIFFER = 2,        /* The tables of the lines, or of the ends, differ in length. */
     LOVASUKU_MARK_ABOVE_ONE = 3,       /* A kind or a presence mark is above 1. */
-    LOVASUKU_COUNTS_DO_NOT_ADD_UP = 4, /* The counts do not add up to half the coordinates' length. */
-    LOVASUKU_TOO_MANY_COORDINATES = 5, /* More than 65,536 coordinates, counted in pairs. */
-    LOVASUKU_NO_PLACE = 15,            /* A coordinate is NaN or infinite. */
+    LOVASUKU_COUNTS_DO_NOT_ADD_UP = 4, /* The counts, by the numbers of a coordinate, do not add up to the length. */
+    LOVASUKU_TOO_MANY_COORDINATES = 5, /* More than 65,536 coordinates. */
+    LOVASUKU_NO_PLACE = 15,            /* An x or a y is NaN or infinite. */
     LOVASUKU_BAD_LIMIT = 6,            /* The switch is above 1, or the limit is not a number from -1 to 1. */
     LOVASUKU_BAD_OFFSET = 22,          /* The offset that stands in the limit's place is above 1,000. */
     LOVASUKU_ROOM_TOO_SHORT = 7,       /* A lent room is shorter than the call needs. */
@@ -69,7 +88,8 @@ enum lovasuku_refusal {
     LOVASUKU_NOT_FINITE = 9,           /* The indexed route was given a present direction that is not finite. */
     LOVASUKU_NO_SUCH_CHAIN = 10,       /* The table has no such chain. */
     LOVASUKU_BAD_BYTE_ORDER = 11,      /* A WKB record's byte order is neither 0 nor 1. */
-    LOVASUKU_BAD_TYPE = 12,            /* A WKB record's type is not 2. */
+    LOVASUKU_BAD_TYPE = 12,            /* A type, given or a WKB record's, is none of 2, 1002, 2002 and 3002. */
+    LOVASUKU_MIXED_TYPES = 25,         /* A WKB record's type differs from the first record's. */
     LOVASUKU_BAD_LENGTH = 13,          /* The lengths do not add up, or a WKB record's count and length disagree. */
     LOVASUKU_RECORD_ROOM_TOO_SHORT = 14, /* A room is shorter than the WKB records need. */
     LOVASUKU_UNKNOWN_ORDER = 16,       /* The byte order to be written is neither 0 nor 1. */
@@ -87,29 +107,30 @@ enum lovasuku_reason {
 
 /* Joins lines into chains. The result is the number of chains.
  *
- * Lent are, for n lines of c coordinates in all: coordinates, 2c numbers x, y, x, y .., one line behind
- * another; counts, groups and kinds, n numbers each: how many coordinates a line has, its group (lines of
- * different groups are never joined) and its kind (0 plain, 1 passes through unjoined; a line of fewer than two
- * coordinates passes through as well). Round one joins ends that agree bit for bit in x and y; round two, which
- * runs where tolerance is above 0, joins the ends of what round one left that lie in one cell of that size. Two
- * ends that meet with no third are joined at any angle, unless they are the two ends of one piece. Of three or
+ * Lent are the type of all lines and, for n lines of c coordinates in all: coordinates, 2c numbers x, y, x, y .. (3c
+ * or 4c with extras), one line behind another; counts, groups and kinds, n numbers each: how many coordinates a line
+ * has, its group (lines of different groups are never joined) and its kind (0 plain, 1 passes through unjoined; a line
+ * of fewer than two coordinates passes through as well). Round one joins ends that agree bit for bit in x and y; round
+ * two, which runs where tolerance is above 0, joins the ends of what round one left that lie in one cell of that size.
+ * Two ends that meet with no third are joined at any angle, unless they are the two ends of one piece. Of three or
  * more the straightest pairs are joined if switch_on is 1, as long as the dot product of their directions is at or
  * below limit (-1 straight on, 0 a right angle, 1 any turn); with switch_on 0 none are, and limit is not looked at.
  *
- * Written are, with k chains: table, 5k numbers, for each chain its first member, its number of members, its source
- * (0 the caller's coordinates, 1 merged), its first coordinate and its number of coordinates, both counted in
- * pairs; members, n positions of lines, chain by chain; marks, n bytes in the members' order, 1 where the piece
- * that held the line was entered at its last coordinate in the last round that ran; merged, the coordinates of
- * the chains of several lines, one chain behind another, without repeats. A chain of one line names the line's
- * own coordinates and is not copied. Chains come in the order of their starts, lines that pass through last.
+ * Written are, with k chains: table, 5k numbers, for each chain its first member, its number of members, its source (0
+ * the caller's coordinates, 1 merged), its first coordinate and its number of coordinates, each coordinate counted
+ * once; members, n positions of lines, chain by chain; marks, n bytes in the members' order, 1 where the piece that
+ * held the line was entered at its last coordinate in the last round that ran; merged, the coordinates of the chains
+ * of several lines with their extras, one chain behind another, without repeats of x and y. A chain of one line names
+ * the line's own coordinates and is not copied. Chains come in the order of their starts, lines that pass through
+ * last.
  *
- * Rooms: table 5n, members n, marks n, merged 2c, spare 2c, workspace 192n.
+ * Rooms: table 5n, members n, marks n, merged and spare 2c (3c or 4c with extras), workspace 192n.
  *
- * Refusals: 1 n is above 4,096. 2 groups or kinds are not n numbers. 3 a kind is above 1. 4 the counts do not
- * add up to half the coordinates' length. 5 c is above 65,536. 15 a coordinate of any line is NaN or infinite. 6
- * switch_on is above 1, or it is 1 and limit is NaN, below -1 or above 1. 7 a room is too short. No tolerance is
- * refused. */
-int64_t lovasuku_build(const double *coordinates, size_t coordinates_length,
+ * Refusals: 12 wkb_type is none of the four. 1 n is above 4,096. 2 groups or kinds are not n numbers. 3 a kind is
+ * above 1. 4 the counts do not add up to the coordinates' length, by the numbers of a coordinate. 5 c is above 65,536.
+ * 15 an x or a y of any line is NaN or infinite. 6 switch_on is above 1, or it is 1 and limit is NaN, below -1 or
+ * above 1. 7 a room is too short. No tolerance is refused. */
+int64_t lovasuku_build(uint32_t wkb_type, const double *coordinates, size_t coordinates_length,
                        const uint32_t *counts, size_t counts_length,
                        const uint32_t *groups, size_t groups_length,
                        const uint8_t *kinds, size_t kinds_length,
@@ -167,9 +188,9 @@ int64_t lovasuku_pairs_chosen(const uint8_t *present, size_t present_length,
 
 /* Why wasn't this bend joined? The result is the reason of ends i and j, which may come in either order, as a number
  * of enum lovasuku_reason. The first that applies: 0 their pair is selected. 1 they are of the same piece. 2 one of
- * them has no direction. 3 their measure is not at or below limit. 4 + p their pair qualifies, but selected pair p comes
- * before it and has one of its ends, and no earlier selected pair has one. Selected pairs are counted from 0 in the
- * order of selection: pair p is pairs[2p] and pairs[2p + 1].
+ * them has no direction. 3 their measure is not at or below limit. 4 + p their pair qualifies, but selected pair p
+ * comes before it and has one of its ends, and no earlier selected pair has one. Selected pairs are counted from 0 in
+ * the order of selection: pair p is pairs[2p] and pairs[2p + 1].
  *
  * Lent, written and rooms are those of the plain route, whatever the reason. How many pairs were written, the plain
  * route tells.
@@ -199,7 +220,7 @@ int64_t lovasuku_offset_limit(uint32_t offset);
  *
  * Of building: a switch_on above 1 is 6, whatever the offset is. Where it is 1, an offset above 1,000 is 22, where the
  * limit would have been 6. Where it is 0 the offset is not looked at. */
-int64_t lovasuku_build_offset(const double *coordinates, size_t coordinates_length,
+int64_t lovasuku_build_offset(uint32_t wkb_type, const double *coordinates, size_t coordinates_length,
                               const uint32_t *counts, size_t counts_length,
                               const uint32_t *groups, size_t groups_length,
                               const uint8_t *kinds, size_t kinds_length,
@@ -236,12 +257,13 @@ int64_t lovasuku_pairs_chosen_offset(const uint8_t *present, size_t present_leng
 
 /* The chain question: does record k of a table name a chain? The result is 0, which says yes.
  *
- * Lent are the coordinates and the merged coordinates that the table speaks of, and the table, of which any may
- * come from anywhere. Nothing is written and no room is needed.
+ * Lent are the type of the chains, the coordinates and the merged coordinates that the table speaks of, and the table,
+ * of which any may come from anywhere. Nothing is written and no room is needed.
  *
- * Refusals: 10 record k is not wholly in the table, its source is above 1, or twice the sum of its first coordinate and
- * its number of coordinates is above the length of the slice that its source names. */
-int64_t lovasuku_chain(const double *coordinates, size_t coordinates_length,
+ * Refusals: 12 wkb_type is none of the four. 10 record k is not wholly in the table, its source is above 1, or the sum
+ * of its first coordinate and its number of coordinates, times the numbers of a coordinate, is above the length of the
+ * slice that its source names. */
+int64_t lovasuku_chain(uint32_t wkb_type, const double *coordinates, size_t coordinates_length,
                        const double *merged, size_t merged_length,
                        const uint32_t *table, size_t table_length,
                        uint64_t k);
@@ -249,45 +271,50 @@ int64_t lovasuku_chain(const double *coordinates, size_t coordinates_length,
 /* WKB in: reads lines from records of OGC 06-103r4. The result is the number of records.
  *
  * Lent are run, bytes, record behind record; and lengths, the length in bytes of each record. A record is a byte order
- * (0 the greatest byte first, 1 the least), a type and a count of coordinates, four bytes each, and two doubles
- * for each coordinate, x and y. Each record may have either byte order. There is no limit on the number of records, and
- * a line of no coordinates or of one is a line.
+ * (0 the greatest byte first, 1 the least), a type and a count of coordinates, four bytes each, and for each
+ * coordinate its doubles: x, y, and the extras of its type. All records have one type; each may have either byte
+ * order. There is no limit on the number of records, and a line of no coordinates or of one is a line.
  *
- * Written are coordinates, x, y, x, y .., one line behind another, every bit of a double kept, those of a NaN too; and
- * counts, how many coordinates each line has. Both go into lovasuku_build as they are, which refuses a NaN (15).
+ * Written are coordinates, one line behind another, every bit of a double kept, those of a NaN too; counts, how many
+ * coordinates each line has; and wkb_type, one number, the type of the records, which is 2 where there are none. All
+ * three go into lovasuku_build as they are, which refuses an x or a y that is NaN (15).
  *
- * Rooms: coordinates, two numbers for each coordinate of all records; counts, a number for each record. For n
- * records in a run of b bytes that is (b - 9n) / 8 numbers and n.
+ * Rooms: coordinates, two numbers, three or four for each coordinate of all records; counts, a number for each record;
+ * wkb_type, one number. For n records in a run of b bytes that is (b - 9n) / 8 numbers, n and 1, of whichever type.
  *
- * Refusals, before any record: 13 the lengths do not add up to the run's. Then record by record, and the first bad
- * one decides: 13 it is shorter than a header of 9 bytes. 11 its byte order is neither 0 nor 1. 12 its type is not 2.
- * 13 it is not 9 bytes long and 16 for each coordinate of its count. After all records: 14 a room is too short.
+ * Refusals, before any record: 13 the lengths do not add up to the run's. Then record by record, and the first bad one
+ * decides: 13 it is shorter than a header of 9 bytes. 11 its byte order is neither 0 nor 1. 12 its type is none of 2,
+ * 1002, 2002 and 3002. 25 its type differs from the first record's. 13 it is not 9 bytes long and 8 for each number of
+ * the coordinates of its count. After all records: 14 a room is too short, for no records too.
  *
- * What others write that is refused by 12: heights and measures (1002, 2002, 3002 and, by Shapely and by GDAL's
- * ExportToWkb, 0x80000002, which is not ISO); what PostGIS's ST_AsEWKB marks with an SRID (0x20000002; ST_AsBinary
- * writes none); every other geometry; and Shapely 1.8's empty LineString(), which it writes as a collection. */
+ * What others write that is refused by 12: what Shapely and GDAL's ExportToWkb write by default for heights
+ * (0x80000002, which is not ISO: GEOS's writer with the flavour ISO, ExportToIsoWkb or PostGIS's ST_AsBinary write
+ * 1002); what PostGIS's ST_AsEWKB marks with an SRID (0x20000002; ST_AsBinary writes none); every other geometry; and
+ * Shapely 1.8's empty LineString(), which it writes as a collection. */
 int64_t lovasuku_read_wkb(const uint8_t *run, size_t run_length,
                           const uint64_t *lengths, size_t lengths_length,
                           double *coordinates, size_t coordinates_length,
-                          uint32_t *counts, size_t counts_length);
+                          uint32_t *counts, size_t counts_length,
+                          uint32_t *wkb_type, size_t wkb_type_length);
 
 /* WKB out: writes the first k chains of a table, each as one record. The result is the number of bytes.
  *
- * Lent are the coordinates and the merged coordinates that the table speaks of, the table, and the byte order of all
- * records, 0 the greatest byte first, 1 the least. Any of them may come from anywhere, and k may be any number.
+ * Lent are the type of all records, the coordinates and the merged coordinates that the table speaks of, the table,
+ * and the byte order of all records, 0 the greatest byte first, 1 the least. Any of them may come from anywhere, and k
+ * may be any number.
  *
- * Written are run, record behind record, each of type 2 with the chain's coordinates, every bit of a double kept; and
- * lengths, the length in bytes of each record. lovasuku_read_wkb reads from these the chains' coordinates and
+ * Written are run, record behind record, each of that type with the chain's coordinates, every bit of a double kept;
+ * and lengths, the length in bytes of each record. lovasuku_read_wkb reads from these the chains' coordinates and
  * counts again; and where all lines of a run were in one byte order, writing them in it gives the run.
  *
- * Rooms: run, 9 bytes for each chain and 16 for each of its coordinates; lengths, k numbers.
+ * Rooms: run, 9 bytes for each chain and 8 for each number of its coordinates; lengths, k numbers.
  *
- * Refusals: 16 order is neither 0 nor 1. 10 one of the records 0 to k - 1 is none that lovasuku_chain answers with 0
- * for. 14 a room is too short. With k = 0 nothing is written and no room is needed.
+ * Refusals: 12 wkb_type is none of the four. 16 order is neither 0 nor 1. 10 one of the records 0 to k - 1 is none
+ * that lovasuku_chain answers with 0 for. 14 a room is too short. With k = 0 nothing is written and no room is needed.
  *
  * A line of one coordinate is written where the input had one, or where two lines merged into one: GEOS and PostGIS
- * do not take it, GDAL does. */
-int64_t lovasuku_write_wkb(const double *coordinates, size_t coordinates_length,
+ * refuse to read it, GDAL does not. */
+int64_t lovasuku_write_wkb(uint32_t wkb_type, const double *coordinates, size_t coordinates_length,
                            const double *merged, size_t merged_length,
                            const uint32_t *table, size_t table_length,
                            uint64_t k, uint8_t order,

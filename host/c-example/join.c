@@ -35,7 +35,7 @@ static void print_chain(const uint32_t *record) {
 
 int main(void) {
     int64_t chains =
-        lovasuku_build(coordinates, 2 * POINTS, counts, LINES, groups, LINES, kinds, LINES, 1.0, 0, 0.0,
+        lovasuku_build(LOVASUKU_XY, coordinates, 2 * POINTS, counts, LINES, groups, LINES, kinds, LINES, 1.0, 0, 0.0,
                        table, LOVASUKU_RECORD * LINES, members, LINES, marks, LINES, merged, 2 * POINTS,
                        spare, 2 * POINTS, workspace, LOVASUKU_LINE_WORKSPACE * LINES);
     if (chains < 0) {
@@ -44,7 +44,7 @@ int main(void) {
     }
     printf("chains %" PRId64 "\n", chains);
     for (int64_t k = 0; k < chains; k++) {
-        if (lovasuku_chain(coordinates, 2 * POINTS, merged, 2 * POINTS, table, LOVASUKU_RECORD * LINES,
+        if (lovasuku_chain(LOVASUKU_XY, coordinates, 2 * POINTS, merged, 2 * POINTS, table, LOVASUKU_RECORD * LINES,
                            (uint64_t)k) != 0) {
             fprintf(stderr, "chain %" PRId64 " is not there\n", k);
             return 1;

@@ -18,6 +18,7 @@ static const uint64_t store_lengths[LINES] = {41, 41, 41};
 
 static double coordinates[2 * POINTS];
 static uint32_t counts[LINES];
+static uint32_t wkb_type;
 static const uint32_t groups[LINES] = {0, 0, 0};
 static const uint8_t kinds[LINES] = {0, 0, 0};
 
@@ -41,18 +42,18 @@ static int64_t accepted(const char *call, int64_t answer) {
 
 int main(void) {
     int64_t lines = accepted("read", lovasuku_read_wkb(store, BYTES, store_lengths, LINES, coordinates, 2 * POINTS,
-                                                       counts, LINES));
+                                                       counts, LINES, &wkb_type, 1));
     if (lines < 0) {
         return 1;
     }
     int64_t chains = accepted(
-        "build", lovasuku_build(coordinates, 2 * POINTS, counts, LINES, groups, LINES, kinds, LINES, 0.0, 0, 0.0,
+        "build", lovasuku_build(wkb_type, coordinates, 2 * POINTS, counts, LINES, groups, LINES, kinds, LINES, 0.0, 0, 0.0,
                                 table, LOVASUKU_RECORD * LINES, members, LINES, marks, LINES, merged, 2 * POINTS,
                                 spare, 2 * POINTS, workspace, LOVASUKU_LINE_WORKSPACE * LINES));
     if (chains < 0) {
         return 1;
     }
-    int64_t bytes = accepted("write", lovasuku_write_wkb(coordinates, 2 * POINTS, merged, 2 * POINTS, table,
+    int64_t bytes = accepted("write", lovasuku_write_wkb(wkb_type, coordinates, 2 * POINTS, merged, 2 * POINTS, table,
                                                          LOVASUKU_RECORD * LINES, (uint64_t)chains, 1, run, BYTES,
                                                          lengths, LINES));
     if (bytes < 0) {

@@ -7,8 +7,16 @@ use std::time::SystemTime;
 use std::{env, fs};
 
 /// The crates whose code the archive holds.
-const LEAVES: [&str; 8] =
-    ["rules", "float_bits", "float_whole_root", "float_root", "float_order", "float_cell", "point_direction", "float_probe"];
+const LEAVES: [&str; 8] = [
+    "rules",
+    "float_bits",
+    "float_whole_root",
+    "float_root",
+    "float_order",
+    "float_cell",
+    "point_direction",
+    "float_probe",
+];
 
 fn main() {
     println!("cargo:rerun-if-env-changed=LOVASUKU_ROOT");
@@ -25,8 +33,12 @@ fn main() {
         println!("cargo:rerun-if-changed={}", path.display());
     }
     if sources.iter().any(|source| written(&archive) < written(source)) {
-        let made = Command::new("rt").args(["staticlib", "float_probe"]).current_dir(&root).status();
-        assert!(matches!(made, Ok(status) if status.success()), "`rt staticlib float_probe` failed");
+        let made =
+            Command::new("rt").args(["staticlib", "float_probe"]).current_dir(&root).status();
+        assert!(
+            matches!(made, Ok(status) if status.success()),
+            "`rt staticlib float_probe` failed"
+        );
     }
     println!("cargo:rustc-link-search=native={}", folder.display());
     println!("cargo:rustc-link-lib=static=float_probe");

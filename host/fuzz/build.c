@@ -4,7 +4,7 @@
 
 #include "build.h"
 
-enum { MOST_LINES = LOVASUKU_MOST_LINES + 2, MOST_POINTS = LOVASUKU_MOST_POINTS + 2, FEW = 48, MEDIUM = 300 };
+enum { MOST_LINES = LOVASUKU_MOST_LINES + 2, MOST_POINTS = LOVASUKU_MOST_POINTS + 2, FEW = 48, MEDIUM = 300, WIDEST = 4 };
 enum { TABLE, MEMBERS, MARKS, MERGED, SPARE, WORKSPACE, ROOMS };
 
 static const size_t width[ROOMS] = {4, 4, 1, 8, 8, 8};
@@ -20,8 +20,8 @@ static void make_slices(void) {
         return;
     }
     const size_t most[ROOMS] = {LOVASUKU_RECORD * MEDIUM, MEDIUM,          MEDIUM,
-                                2 * MOST_POINTS,          2 * MOST_POINTS, LOVASUKU_LINE_WORKSPACE * MEDIUM};
-    make_input(&coordinates, 2 * MOST_POINTS * sizeof(double));
+                                WIDEST * MOST_POINTS,     WIDEST * MOST_POINTS, LOVASUKU_LINE_WORKSPACE * MEDIUM};
+    make_input(&coordinates, WIDEST * MOST_POINTS * sizeof(double));
     make_input(&counts, MOST_LINES * sizeof(uint32_t));
     make_input(&groups, MOST_LINES * sizeof(uint32_t));
     make_input(&kinds, MOST_LINES);
@@ -51,9 +51,10 @@ static uint64_t next_coordinate(struct bytes *bytes, bool anything) {
     return is_nowhere(word) && !anything ? word ^ 0x0010000000000000 : word;
 }
 
-/* Writes the lines of the bytes, and beyond them a row of lines end to end. Gives the number of points. */
-static size_t fill_lines(struct bytes *bytes, size_t n, uint64_t *words, uint32_t *count, uint32_t *group,
-                         uint8_t *kind) {
+/* Writes the lines of the bytes, of coordinates of so many numbers, and beyond them a row of lines end to end. Extras are
+ * any words. Gives the number of points. */
+static size_t fill_lines(struct bytes *bytes, size_t n, size_t numbers, uint64_t *words, uint32_t *count,
+                         uint32_t *group, uint8_t *kind) {
     static const uint8_t sizes[] = {2, 2, 2, 3, 3, 4, 1, 0};
     size_t points = 0;
     bool anything = next_byte(bytes) >= 0xe0;
@@ -64,8 +65,12 @@ static size_t fill_lines(struct bytes *bytes, size_t n, uint64_t *words, uint32_
         group[line] = flags >> 3 & 1;
         kind[line] = flags < 0xe0 ? 0 : flags < 0xff ? 1 : 2;
         for (size_t k = 0; k < count[line]; k++) {
-            words[2 * points] = made ? next_coordinate(bytes, anything) : bits_of((double)(line + k));
-            words[2 * points + 1] = made ? next_coordinate(bytes, anything) : 0;
+            uint64_t *at = words + numbers * points;
+            at[0] = made ? next_coordinate(bytes, anything) : bits_of((double)(line + k));
+            at[1] = made ? next_coordinate(bytes, anything) : 0;
+            for (size_t extra = 2; extra < numbers; extra++) {
+                at[extra] = made ? next_word(bytes) : bits_of((double)(points + extra));
+            }
             points++;
         }
     }
@@ -74,7 +79,8 @@ static size_t fill_lines(struct bytes *bytes, size_t n, uint64_t *words, uint32_
 
 /* Counts that do not add up, or a line of too many points, if the bytes say so. Gives the number of points.
  */
-static size_t damage_counts(struct bytes *bytes, size_t n, size_t points, uint64_t *words, uint32_t *count) {
+static size_t damage_counts(struct bytes *bytes, size_t n, size_t numbers, size_t points, uint64_t *words,
+                            uint32_t *count) {
     uint8_t flags = next_byte(bytes);
     if (n == 0) {
         return points;
@@ -84,7 +90,7 @@ static size_t damage_counts(struct bytes *bytes, size_t n, size_t points, uint64
         count[next_below(bytes, n)] += next_below(bytes, 4) * 0x40000000u + next_below(bytes, 2);
     } else if (flags == 0xfe && next_byte(bytes) == 0xff) {
         size_t wanted = LOVASUKU_MOST_POINTS + next_below(bytes, 2);
-        memset(words + 2 * points, 0, 16 * (wanted - points));
+        memset(words + numbers * points, 0, 8 * numbers * (wanted - points));
         count[n - 1] += (uint32_t)(wanted - points);
         return wanted;
     }
@@ -93,7 +99,7 @@ static size_t damage_counts(struct bytes *bytes, size_t n, size_t points, uint64
 
 /* Makes a call of bytes and lends its input. */
 static struct building next_building(struct bytes *bytes, struct lengths *lengths) {
-    static uint64_t words[2 * MOST_POINTS + 2];
+    static uint64_t words[WIDEST * MOST_POINTS + 2];
     static uint32_t count[MOST_LINES + 1], group[MOST_LINES + 1];
     static uint8_t kind[MOST_LINES + 1];
     struct building call = {0};
@@ -106,9 +112,12 @@ static struct building next_building(struct bytes *bytes, struct lengths *length
         call.offset = next_offset(bytes);
         call.limit = call.offset > LOVASUKU_MOST_OFFSET ? NAN : limit_of_offset(call.offset);
     }
-    size_t points = fill_lines(bytes, call.n, words, count, group, kind);
-    call.c = damage_counts(bytes, call.n, points, words, count);
-    lengths->numbers = next_length(bytes, 2 * call.c);
+    call.wkb_type = next_type(bytes);
+    call.width = width_of(call.wkb_type);
+    size_t numbers = call.width == 0 ? 2 : call.width;
+    size_t points = fill_lines(bytes, call.n, numbers, words, count, group, kind);
+    call.c = damage_counts(bytes, call.n, numbers, points, words, count);
+    lengths->numbers = next_length(bytes, numbers * call.c);
     lengths->groups = next_length(bytes, call.n);
     lengths->kinds = next_length(bytes, call.n);
     if (next_byte(bytes) == 0xff) {
@@ -146,12 +155,14 @@ static bool counts_add_up(const struct building *call, size_t numbers) {
     for (size_t i = 0; i < call->n; i++) {
         sum += ((const uint32_t *)counts.fill)[i];
     }
-    return 2 * sum == numbers;
+    return call->width * sum == numbers;
 }
 
-static bool any_coordinate_nowhere(size_t numbers) {
-    for (size_t i = 0; i < numbers; i++) {
-        if (is_nowhere(((const uint64_t *)coordinates.fill)[i])) {
+/* True where an x or a y is no place. */
+static bool any_coordinate_nowhere(const struct building *call, size_t numbers) {
+    const uint64_t *words = (const uint64_t *)coordinates.fill;
+    for (size_t i = 0; i < numbers; i += call->width) {
+        if (is_nowhere(words[i]) || is_nowhere(words[i + 1])) {
             return true;
         }
     }
@@ -161,6 +172,9 @@ static bool any_coordinate_nowhere(size_t numbers) {
 /* The number of the first refusal that applies, or 0. */
 static int refusal(const struct building *call, const struct lengths *lengths) {
     size_t wanted[ROOMS];
+    if (call->width == 0) {
+        return LOVASUKU_BAD_TYPE;
+    }
     if (call->n > LOVASUKU_MOST_LINES) {
         return LOVASUKU_TOO_MANY;
     }
@@ -173,10 +187,10 @@ static int refusal(const struct building *call, const struct lengths *lengths) {
     if (!counts_add_up(call, lengths->numbers)) {
         return LOVASUKU_COUNTS_DO_NOT_ADD_UP;
     }
-    if (lengths->numbers > 2 * LOVASUKU_MOST_POINTS) {
+    if (lengths->numbers > call->width * LOVASUKU_MOST_POINTS) {
         return LOVASUKU_TOO_MANY_COORDINATES;
     }
-    if (any_coordinate_nowhere(lengths->numbers)) {
+    if (any_coordinate_nowhere(call, lengths->numbers)) {
         return LOVASUKU_NO_PLACE;
     }
     if (call->switch_on > 1 || (call->switch_on == 1 && limit_is_bad(call->limit))) {
@@ -198,12 +212,12 @@ static int64_t make_call(const struct building *call, const struct lengths *leng
     const size_t *room = lengths->rooms;
     if (call->by_offset) {
         return lovasuku_build_offset(
-            coordinates.lent, lengths->numbers, counts.lent, call->n, groups.lent, lengths->groups, kinds.lent,
-            lengths->kinds, call->tolerance, call->switch_on, call->offset, rooms[TABLE].lent, room[TABLE],
+            call->wkb_type, coordinates.lent, lengths->numbers, counts.lent, call->n, groups.lent, lengths->groups,
+            kinds.lent, lengths->kinds, call->tolerance, call->switch_on, call->offset, rooms[TABLE].lent, room[TABLE],
             rooms[MEMBERS].lent, room[MEMBERS], rooms[MARKS].lent, room[MARKS], rooms[MERGED].lent, room[MERGED],
             rooms[SPARE].lent, room[SPARE], rooms[WORKSPACE].lent, room[WORKSPACE]);
     }
-    return lovasuku_build(coordinates.lent, lengths->numbers, counts.lent, call->n, groups.lent,
+    return lovasuku_build(call->wkb_type, coordinates.lent, lengths->numbers, counts.lent, call->n, groups.lent,
                           lengths->groups, kinds.lent, lengths->kinds, call->tolerance, call->switch_on,
                           call->limit, rooms[TABLE].lent, room[TABLE], rooms[MEMBERS].lent, room[MEMBERS],
                           rooms[MARKS].lent, room[MARKS], rooms[MERGED].lent, room[MERGED], rooms[SPARE].lent,
@@ -231,9 +245,47 @@ static void require_rooms(struct building *call, const struct lengths *lengths, 
                     "workspace is zero and as before beyond");
     for (size_t k = 0; k <= chains; k++) {
         size_t numbers = LOVASUKU_RECORD * chains;
-        int64_t answer = lovasuku_chain(coordinates.lent, lengths->numbers, rooms[MERGED].lent, merged,
+        int64_t answer = lovasuku_chain(call->wkb_type, coordinates.lent, lengths->numbers, rooms[MERGED].lent, merged,
                                         rooms[TABLE].lent, numbers, k);
         require(answer == (k < chains ? 0 : -LOVASUKU_NO_SUCH_CHAIN), "the chain question knows every chain");
+    }
+}
+
+/* The same lines without extras have the same table, members and marks, and x and y. */
+static void require_alike_without_extras(const struct building *call, struct lengths lengths, unsigned char dirt,
+                                         size_t chains) {
+    static uint64_t merged_before[WIDEST * MOST_POINTS];
+    static unsigned char before[3][LOVASUKU_RECORD * MEDIUM * 4];
+    size_t written[] = {4 * LOVASUKU_RECORD * chains, 4 * call->n, call->n};
+    size_t merged = 0;
+    for (size_t k = 0; k < chains; k++) {
+        const uint32_t *record = call->table + LOVASUKU_RECORD * k;
+        merged += record[2] == 1 ? record[4] : 0;
+    }
+    for (int room = TABLE; room <= MARKS; room++) {
+        memcpy(before[room], rooms[room].fill, written[room]);
+    }
+    memcpy(merged_before, rooms[MERGED].fill, 8 * call->width * merged);
+    uint64_t *words = (uint64_t *)coordinates.fill;
+    static uint64_t flat_words[2 * MOST_POINTS];
+    for (size_t i = 0; i < call->c; i++) {
+        memcpy(flat_words + 2 * i, words + call->width * i, 16);
+    }
+    lend_input(&coordinates, 16 * call->c);
+    memcpy(coordinates.fill, flat_words, 16 * call->c);
+    struct building flat = *call;
+    flat.wkb_type = LOVASUKU_XY;
+    flat.width = 2;
+    lengths.numbers = 2 * call->c;
+    require(make_call(&flat, &lengths, dirt) == (int64_t)chains, "without extras there are as many chains");
+    for (int room = TABLE; room <= MARKS; room++) {
+        require(memcmp(before[room], rooms[room].fill, written[room]) == 0,
+                "without extras table, members and marks are the same");
+    }
+    const uint64_t *points = (const uint64_t *)rooms[MERGED].fill;
+    for (size_t i = 0; i < merged; i++) {
+        require(memcmp(points + 2 * i, merged_before + call->width * i, 16) == 0,
+                "without extras x and y are the same");
     }
 }
 
@@ -277,4 +329,7 @@ void fuzz_build(struct bytes *bytes) {
     require_rooms(&call, &lengths, (size_t)answer);
     require(sum_of_answer(&call, (size_t)answer) == sum,
             "the same call has the same answer, whatever stood in its rooms");
+    if (call.width > 2 && call.n <= FEW) {
+        require_alike_without_extras(&call, lengths, dirt, (size_t)answer);
+    }
 }

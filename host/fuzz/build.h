@@ -9,6 +9,9 @@ struct building {
     const uint64_t *coordinates;
     const uint32_t *counts, *groups;
     const uint8_t *kinds;
+    uint32_t wkb_type;
+    /* The numbers of a coordinate. */
+    size_t width;
     size_t n, c;
     double tolerance, limit;
     uint8_t switch_on;

@@ -7,7 +7,7 @@ enum { MOST = LOVASUKU_MOST_LINES, FEW = 64 };
 
 static size_t first_of[MOST + 1];
 
-/* First coordinates of the lines, counted in pairs. */
+/* First coordinates of the lines. */
 static void find_firsts(const struct building *call) {
     first_of[0] = 0;
     for (size_t line = 0; line < call->n; line++) {
@@ -40,12 +40,12 @@ static void require_members(const struct building *call) {
     }
 }
 
-/* The coordinate is one of the lines' of a chain, bit for bit. */
+/* The coordinate is, with its extras, one of the lines' of a chain, bit for bit. */
 static bool is_of_a_member(const struct building *call, const uint32_t *record, const uint64_t *point) {
     for (uint32_t i = record[0]; i < record[0] + record[1]; i++) {
         uint32_t line = call->members[i];
         for (size_t k = first_of[line]; k < first_of[line + 1]; k++) {
-            if (memcmp(call->coordinates + 2 * k, point, 16) == 0) {
+            if (memcmp(call->coordinates + call->width * k, point, 8 * call->width) == 0) {
                 return true;
             }
         }
@@ -69,8 +69,8 @@ static void require_merged(const struct building *call, const uint32_t *record) 
     }
     require(record[4] >= 1 && record[4] <= points, "a chain has no more coordinates than its lines");
     for (uint32_t k = record[3]; k < record[3] + record[4]; k++) {
-        const uint64_t *point = call->merged + 2 * k;
-        require(k == record[3] || !same(point - 2, point),
+        const uint64_t *point = call->merged + call->width * k;
+        require(k == record[3] || !same(point - call->width, point),
                 "no coordinate of a merged chain repeats the last");
         if (call->n <= FEW) {
             require(is_of_a_member(call, record, point),
@@ -79,19 +79,20 @@ static void require_merged(const struct building *call, const uint32_t *record) 
     }
 }
 
-/* After round one alone the members stand in the order of travel: laid end to end they are the chain. */
+/* After round one alone the members stand in the order of travel: laid end to end they are the chain, and of coordinates
+ * that repeat one another's x and y the earlier one stays, with its extras. */
 static void require_laid_end_to_end(const struct building *call, const uint32_t *record) {
-    const uint64_t *chain = call->merged + 2 * (size_t)record[3];
-    size_t written = 0;
+    size_t width = call->width, written = 0;
+    const uint64_t *chain = call->merged + width * record[3];
     for (uint32_t i = record[0]; i < record[0] + record[1]; i++) {
         uint32_t line = call->members[i];
         for (size_t k = 0; k < call->counts[line]; k++) {
             size_t place = call->marks[i] ? first_of[line + 1] - 1 - k : first_of[line] + k;
-            const uint64_t *point = call->coordinates + 2 * place;
-            if (written > 0 && same(chain + 2 * (written - 1), point)) {
+            const uint64_t *point = call->coordinates + width * place;
+            if (written > 0 && same(chain + width * (written - 1), point)) {
                 continue;
             }
-            require(written < record[4] && memcmp(chain + 2 * written, point, 16) == 0,
+            require(written < record[4] && memcmp(chain + width * written, point, 8 * width) == 0,
                     "the lines laid end to end are the chain");
             written++;
         }
@@ -101,7 +102,7 @@ static void require_laid_end_to_end(const struct building *call, const uint32_t 
 
 static const uint64_t *end_of(const struct building *call, size_t end) {
     size_t line = end / 2;
-    return call->coordinates + 2 * (end % 2 == 0 ? first_of[line] : first_of[line + 1] - 1);
+    return call->coordinates + call->width * (end % 2 == 0 ? first_of[line] : first_of[line + 1] - 1);
 }
 
 static bool meet(const struct building *call, size_t a, size_t b) {
@@ -192,5 +193,5 @@ size_t require_built(const struct building *call, size_t chains) {
     if (call->n <= FEW && call->switch_on == 0 && !(call->tolerance > 0)) {
         require_components(call, chains);
     }
-    return 2 * merged;
+    return call->width * merged;
 }

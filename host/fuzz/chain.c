@@ -5,16 +5,16 @@
 
 enum { MOST_NUMBERS = 64, MOST_COORDINATES = 64 };
 
-bool chain_is_there(size_t coordinates, size_t merged, const uint32_t *table, size_t numbers, uint64_t k) {
+bool chain_is_there(size_t width, size_t coordinates, size_t merged, const uint32_t *table, size_t numbers, uint64_t k) {
     if (k >= numbers / LOVASUKU_RECORD) {
         return false;
     }
     const uint32_t *record = table + LOVASUKU_RECORD * k;
     size_t length = record[2] == 0 ? coordinates : merged;
-    return record[2] <= 1 && 2 * ((uint64_t)record[3] + record[4]) <= length;
+    return record[2] <= 1 && width * ((uint64_t)record[3] + record[4]) <= length;
 }
 
-/* Mostly a small number, at times one whose double or sum goes beyond 32 bits, at times any. */
+/* Mostly a small number, at times one whose fourfold or sum goes beyond 32 bits, at times any. */
 static uint32_t next_number(struct bytes *bytes) {
     static const uint64_t edges[] = {0x7fffffff, 0x80000000, 0x80000001, 0xffffffff, 0xfffffffe, 0x40000000};
     uint8_t choice = next_byte(bytes);
@@ -47,9 +47,11 @@ void fuzz_chain(struct bytes *bytes) {
         memcpy(table.fill + i * sizeof number, &number, sizeof number);
     }
     uint64_t k = next_k(bytes);
-    int64_t answer = lovasuku_chain(coordinates.lent, c, merged.lent, m, table.lent, numbers, k);
-    bool there = chain_is_there(c, m, (const uint32_t *)table.fill, numbers, k);
-    require(answer == (there ? 0 : -LOVASUKU_NO_SUCH_CHAIN),
+    uint32_t wkb_type = next_type(bytes);
+    size_t width = width_of(wkb_type);
+    int64_t answer = lovasuku_chain(wkb_type, coordinates.lent, c, merged.lent, m, table.lent, numbers, k);
+    bool there = chain_is_there(width, c, m, (const uint32_t *)table.fill, numbers, k);
+    require(answer == (width == 0 ? -LOVASUKU_BAD_TYPE : there ? 0 : -LOVASUKU_NO_SUCH_CHAIN),
             "the chain question is answered as the rules say");
-    seen(there);
+    seen((unsigned)(2 * width) + there);
 }

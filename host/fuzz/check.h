@@ -44,6 +44,12 @@ uint64_t rare_number(struct bytes *bytes, uint8_t choice, const uint64_t *edges,
 /* The bits of a double: mostly one of a few, so that ends meet, and at times any. */
 uint64_t next_word(struct bytes *bytes);
 
+/* A type: mostly one of the four. */
+uint32_t next_type(struct bytes *bytes);
+
+/* The numbers of a coordinate of a type, and 0 for a number that is none. */
+size_t width_of(uint64_t wkb_type);
+
 /* A limit: mostly from -1 to 1. */
 double next_limit(struct bytes *bytes);
 
@@ -91,8 +97,8 @@ void fuzz_chain(struct bytes *bytes);
 void fuzz_read_wkb(struct bytes *bytes);
 void fuzz_write_wkb(struct bytes *bytes);
 
-/* What the rules say of the chain question, and of a limit. */
-bool chain_is_there(size_t coordinates, size_t merged, const uint32_t *table, size_t numbers, uint64_t k);
+/* What the rules say of the chain question on coordinates of so many numbers, and of a limit. */
+bool chain_is_there(size_t width, size_t coordinates, size_t merged, const uint32_t *table, size_t numbers, uint64_t k);
 bool limit_is_bad(double limit);
 
 /* The limit of an offset up to 1,000, which is required to be the one that the rules define. */

@@ -91,6 +91,30 @@ uint64_t next_word(struct bytes *bytes) {
                            : rare_number(bytes, choice, edges, COUNT(edges), 8);
 }
 
+uint32_t next_type(struct bytes *bytes) {
+    static const uint32_t types[] = {LOVASUKU_XY, LOVASUKU_XYZ, LOVASUKU_XYM, LOVASUKU_XYZM};
+    static const uint64_t edges[] = {0, 1, 3, 1001, 1003, 2003, 3003, 4002, 0x80000002, 0x20000002};
+    uint8_t choice = next_byte(bytes);
+    if (choice < 0xf8) {
+        return types[choice % COUNT(types)];
+    }
+    return (uint32_t)rare_number(bytes, choice == 0xff ? RARELY_ANY : next_byte(bytes) % 16, edges, COUNT(edges), 4);
+}
+
+size_t width_of(uint64_t wkb_type) {
+    switch (wkb_type) {
+    case 2:
+        return 2;
+    case 1002:
+    case 2002:
+        return 3;
+    case 3002:
+        return 4;
+    default:
+        return 0;
+    }
+}
+
 double next_limit(struct bytes *bytes) {
     static const double limits[] = {-1.0, -0.5, -0.0, 0.0, 0.5, 1.0, -0.70710678118654752, -0.9};
     uint8_t choice = next_byte(bytes);

@@ -5,7 +5,7 @@
 
 enum { MOST_RECORDS = 8, MOST_BYTES = 1024, HEADER = 9 };
 
-static struct slice run, lengths, coordinates, counts;
+static struct slice run, lengths, coordinates, counts, type_read;
 
 /* The number that bytes stand for, the greatest or the least first. */
 static uint64_t number_of(const uint8_t *bytes, size_t width, bool big) {
@@ -16,18 +16,23 @@ static uint64_t number_of(const uint8_t *bytes, size_t width, bool big) {
     return number;
 }
 
-/* The refusal of one record, or 0. */
-static int64_t record_refusal(const uint8_t *record, size_t bytes) {
+/* The refusal of one record, or 0. The first one's type is kept. */
+static int64_t record_refusal(const uint8_t *record, size_t bytes, bool first, uint64_t *wkb_type) {
     if (bytes < HEADER) {
         return LOVASUKU_BAD_LENGTH;
     }
     if (record[0] > 1) {
         return LOVASUKU_BAD_BYTE_ORDER;
     }
-    if (number_of(record + 1, 4, record[0] == 0) != 2) {
+    uint64_t own = number_of(record + 1, 4, record[0] == 0);
+    if (width_of(own) == 0) {
         return LOVASUKU_BAD_TYPE;
     }
-    return bytes == HEADER + 16 * number_of(record + 5, 4, record[0] == 0) ? 0 : LOVASUKU_BAD_LENGTH;
+    *wkb_type = first ? own : *wkb_type;
+    if (own != *wkb_type) {
+        return LOVASUKU_MIXED_TYPES;
+    }
+    return bytes == HEADER + 8 * width_of(own) * number_of(record + 5, 4, record[0] == 0) ? 0 : LOVASUKU_BAD_LENGTH;
 }
 
 /* True where the lengths add up to the run's; what is left of it never wraps. */
@@ -42,26 +47,28 @@ static bool adds_up(const uint64_t *sizes, size_t n, size_t bytes) {
     return left == 0;
 }
 
-/* The refusal of the call, or 0. */
-static int64_t refusal_of(const uint64_t *sizes, size_t n, size_t numbers, size_t rows) {
+/* The refusal of the call, or 0, and the type of its records. */
+static int64_t refusal_of(const uint64_t *sizes, size_t n, size_t numbers, size_t rows, size_t types,
+                          uint64_t *wkb_type) {
+    *wkb_type = LOVASUKU_XY;
     if (!adds_up(sizes, n, run.bytes)) {
         return LOVASUKU_BAD_LENGTH;
     }
     const uint8_t *at = run.fill;
     size_t needed = 0;
     for (size_t i = 0; i < n; i++) {
-        int64_t refusal = record_refusal(at, sizes[i]);
+        int64_t refusal = record_refusal(at, sizes[i], i == 0, wkb_type);
         if (refusal != 0) {
             return refusal;
         }
         needed += (sizes[i] - HEADER) / 8;
         at += sizes[i];
     }
-    return needed > numbers || n > rows ? LOVASUKU_RECORD_ROOM_TOO_SHORT : 0;
+    return needed > numbers || n > rows || types == 0 ? LOVASUKU_RECORD_ROOM_TOO_SHORT : 0;
 }
 
-/* Requires the rooms to have the records' numbers and counts, and to be as before beyond them. */
-static void require_read(const uint64_t *sizes, size_t n) {
+/* Requires the rooms to have the records' numbers, counts and type, and to be as before beyond them. */
+static void require_read(const uint64_t *sizes, size_t n, uint64_t wkb_type) {
     const uint8_t *at = run.fill;
     const uint64_t *number = coordinates.lent;
     const uint32_t *count = counts.lent;
@@ -76,25 +83,33 @@ static void require_read(const uint64_t *sizes, size_t n) {
     }
     require_untouched_from(&coordinates, 8 * read, "beyond the coordinates nothing is written");
     require_untouched_from(&counts, 4 * n, "beyond the counts nothing is written");
+    require(*(const uint32_t *)type_read.lent == wkb_type, "the type is the first record's, or 2");
+    require_untouched_from(&type_read, 4, "beyond the type nothing is written");
 }
 
-/* A record of a few coordinates, at times with a byte of its header changed; how many bytes it has. */
-static size_t next_record(struct bytes *bytes, uint8_t *record) {
-    size_t points = next_below(bytes, 5);
+/* A record of a few coordinates, mostly of the given type, at times with a byte of its header changed; how many bytes it
+ * has. */
+static size_t next_record(struct bytes *bytes, uint32_t wkb_type, uint8_t *record) {
+    size_t points = next_below(bytes, 4);
     uint8_t shape = next_byte(bytes);
     bool big = shape % 2 == 0;
-    memset(record, 0, HEADER);
+    if (shape % 16 == 7) {
+        wkb_type = next_type(bytes);
+    }
+    size_t width = width_of(wkb_type) == 0 ? 2 : width_of(wkb_type);
     record[0] = big ? 0 : 1;
-    record[big ? 4 : 1] = 2;
-    record[big ? 8 : 5] = (uint8_t)points;
+    for (size_t i = 0; i < 4; i++) {
+        record[1 + (big ? 3 - i : i)] = (uint8_t)(wkb_type >> 8 * i);
+        record[5 + (big ? 3 - i : i)] = i == 0 ? (uint8_t)points : 0;
+    }
     if (shape >= RARELY) {
         record[next_below(bytes, HEADER)] = next_byte(bytes);
     }
-    for (size_t k = 0; k < 2 * points; k++) {
+    for (size_t k = 0; k < width * points; k++) {
         uint64_t number = next_word(bytes);
         memcpy(record + HEADER + 8 * k, &number, sizeof number);
     }
-    return HEADER + 16 * points;
+    return HEADER + 8 * width * points;
 }
 
 /* Mostly the record's own length, at times one at an edge or any. */
@@ -110,34 +125,41 @@ void fuzz_read_wkb(struct bytes *bytes) {
         make_input(&lengths, MOST_RECORDS * sizeof(uint64_t));
         make_room(&coordinates, MOST_BYTES);
         make_room(&counts, (MOST_RECORDS + 1) * sizeof(uint32_t));
+        make_room(&type_read, 2 * sizeof(uint32_t));
     }
     static uint8_t made[MOST_BYTES];
     uint64_t sizes[MOST_RECORDS];
-    size_t n = next_below(bytes, MOST_RECORDS + 1), used = 0, points = 0;
+    size_t n = next_below(bytes, MOST_RECORDS + 1), used = 0, doubles = 0;
+    uint32_t of_most = next_type(bytes);
     for (size_t i = 0; i < n; i++) {
-        size_t own = next_record(bytes, made + used);
+        size_t own = next_record(bytes, of_most, made + used);
         sizes[i] = next_size(bytes, own);
         used += own;
-        points += (own - HEADER) / 16;
+        doubles += (own - HEADER) / 8;
     }
     lend_input(&run, next_length(bytes, used));
     memcpy(run.fill, made, run.bytes);
     lend_input(&lengths, n * sizeof(uint64_t));
     memcpy(lengths.fill, sizes, n * sizeof(uint64_t));
-    size_t numbers = next_length(bytes, 2 * points), rows = next_length(bytes, n);
+    size_t numbers = next_length(bytes, doubles), rows = next_length(bytes, n), types = next_length(bytes, 1);
     uint8_t dirt = next_byte(bytes);
     lend_room(&coordinates, 8 * numbers, dirt);
     lend_room(&counts, 4 * rows, dirt);
-    int64_t answer = lovasuku_read_wkb(run.lent, run.bytes, lengths.lent, n, coordinates.lent, numbers, counts.lent, rows);
-    int64_t refusal = refusal_of(sizes, n, numbers, rows);
+    lend_room(&type_read, 4 * types, dirt);
+    int64_t answer = lovasuku_read_wkb(run.lent, run.bytes, lengths.lent, n, coordinates.lent, numbers, counts.lent, rows,
+                                       type_read.lent, types);
+    uint64_t wkb_type;
+    int64_t refusal = refusal_of(sizes, n, numbers, rows, types, &wkb_type);
     require(answer == (refusal != 0 ? -refusal : (int64_t)n), "the records are counted or refused as the rules say");
     if (refusal != 0) {
         require_untouched_from(&coordinates, 0, "a refused call stores no coordinate");
         require_untouched_from(&counts, 0, "a refused call stores no count");
+        require_untouched_from(&type_read, 0, "a refused call stores no type");
     } else {
-        require_read(sizes, n);
+        require_read(sizes, n, wkb_type);
     }
     seen(512 + (unsigned)refusal);
+    seen(640 + (unsigned)width_of(wkb_type));
 }
 
 /* ---- writing */
@@ -146,42 +168,46 @@ enum { MOST_ROWS = 8, MOST_NUMBERS = 64, MOST_WRITTEN = 4096 };
 
 static struct slice input, merged, table, written, sizes_written;
 
-/* The bytes of the first k chains, as a whole number; the rows are there. */
-static uint64_t bytes_of(const uint32_t *rows, uint64_t k) {
+/* The bytes of the first k chains of coordinates of so many numbers, as a whole number; the rows are there. */
+static uint64_t bytes_of(size_t width, const uint32_t *rows, uint64_t k) {
     uint64_t bytes = 0;
     for (uint64_t i = 0; i < k; i++) {
-        bytes += HEADER + 16 * (uint64_t)rows[LOVASUKU_RECORD * i + 4];
+        bytes += HEADER + 8 * width * (uint64_t)rows[LOVASUKU_RECORD * i + 4];
     }
     return bytes;
 }
 
 /* The refusal of a writing call, or 0. */
-static int64_t write_refusal(size_t numbers, uint64_t k, uint8_t order, size_t room, size_t lengths_room) {
+static int64_t write_refusal(size_t width, size_t numbers, uint64_t k, uint8_t order, size_t room, size_t lengths_room) {
     const uint32_t *rows = (const uint32_t *)table.fill;
+    if (width == 0) {
+        return LOVASUKU_BAD_TYPE;
+    }
     if (order > 1) {
         return LOVASUKU_UNKNOWN_ORDER;
     }
     for (uint64_t i = 0; i < k; i++) {
-        if (!chain_is_there(input.bytes / 8, merged.bytes / 8, rows, numbers, i)) {
+        if (!chain_is_there(width, input.bytes / 8, merged.bytes / 8, rows, numbers, i)) {
             return LOVASUKU_NO_SUCH_CHAIN;
         }
     }
-    return bytes_of(rows, k) > room || k > lengths_room ? LOVASUKU_RECORD_ROOM_TOO_SHORT : 0;
+    return bytes_of(width, rows, k) > room || k > lengths_room ? LOVASUKU_RECORD_ROOM_TOO_SHORT : 0;
 }
 
 /* Requires the rooms to have the chains' records, byte by byte, and to be as before beyond them. */
-static void require_written(uint64_t k, bool big) {
+static void require_written(uint32_t wkb_type, uint64_t k, bool big) {
+    size_t width = width_of(wkb_type);
     const uint32_t *rows = (const uint32_t *)table.fill;
     const uint8_t *at = written.fill;
     for (uint64_t i = 0; i < k; i++) {
         const uint32_t *row = rows + LOVASUKU_RECORD * i;
-        const unsigned char *from = (row[2] == 0 ? input.fill : merged.fill) + 16 * (size_t)row[3];
+        const unsigned char *from = (row[2] == 0 ? input.fill : merged.fill) + 8 * width * row[3];
         uint64_t length;
         memcpy(&length, sizes_written.fill + 8 * i, sizeof length);
-        require(length == HEADER + 16 * (uint64_t)row[4], "a length is the record's");
-        require(at[0] == (big ? 0 : 1) && number_of(at + 1, 4, big) == 2 && number_of(at + 5, 4, big) == row[4],
-                "a header has the order, type 2 and the count");
-        for (size_t n = 0; n < 2 * (size_t)row[4]; n++) {
+        require(length == HEADER + 8 * width * (uint64_t)row[4], "a length is the record's");
+        require(at[0] == (big ? 0 : 1) && number_of(at + 1, 4, big) == wkb_type && number_of(at + 5, 4, big) == row[4],
+                "a header has the order, the type and the count");
+        for (size_t n = 0; n < width * row[4]; n++) {
             uint64_t number;
             memcpy(&number, from + 8 * n, sizeof number);
             require(number_of(at + HEADER + 8 * n, 8, big) == number, "a number is the chain's, bit for bit");
@@ -229,23 +255,25 @@ void fuzz_write_wkb(struct bytes *bytes) {
     choice = next_byte(bytes);
     uint64_t k = choice < 0xf0 ? numbers / LOVASUKU_RECORD - (choice % 3 == 0 && numbers >= LOVASUKU_RECORD)
                                : rare_number(bytes, choice, edges, COUNT(edges), 8);
+    uint32_t wkb_type = next_type(bytes);
+    size_t width = width_of(wkb_type);
     /* Rooms for the chains that are there, and a little more or less. */
-    int64_t refusal = write_refusal(numbers, k, order, SIZE_MAX, SIZE_MAX);
-    uint64_t needed = refusal == 0 ? bytes_of((const uint32_t *)table.fill, k) : 0;
+    int64_t refusal = write_refusal(width, numbers, k, order, SIZE_MAX, SIZE_MAX);
+    uint64_t needed = refusal == 0 ? bytes_of(width, (const uint32_t *)table.fill, k) : 0;
     size_t room = next_length(bytes, needed < MOST_WRITTEN ? (size_t)needed : MOST_WRITTEN);
     size_t rows = next_length(bytes, k < MOST_ROWS ? (size_t)k : MOST_ROWS);
     uint8_t dirt = next_byte(bytes);
     lend_room(&written, room, dirt);
     lend_room(&sizes_written, 8 * rows, dirt);
-    refusal = write_refusal(numbers, k, order, room, rows);
-    int64_t answer = lovasuku_write_wkb(input.lent, input.bytes / 8, merged.lent, merged.bytes / 8, table.lent, numbers, k,
+    refusal = write_refusal(width, numbers, k, order, room, rows);
+    int64_t answer = lovasuku_write_wkb(wkb_type, input.lent, input.bytes / 8, merged.lent, merged.bytes / 8, table.lent, numbers, k,
                                         order, written.lent, room, sizes_written.lent, rows);
     require(answer == (refusal != 0 ? -refusal : (int64_t)needed), "the bytes are counted or refused as the rules say");
     if (refusal != 0) {
         require_untouched_from(&written, 0, "a refused call stores no byte");
         require_untouched_from(&sizes_written, 0, "a refused call stores no length");
     } else {
-        require_written(k, order == 0);
+        require_written(wkb_type, k, order == 0);
     }
     seen(576 + (unsigned)refusal);
 }

@@ -1,6 +1,6 @@
 -- From what the rounds leave to the book's record of a building call: what each step asks of a call that no refusal meets, and what a refused one answers.
 use Prim.Native.Nat.{ℕ, zero, suc, _*_, _≤_}
-use mathlib.Core.Path.{_≡_, refl, sym, _∙_, ap}
+use mathlib.Core.Path.{_≡_, refl, sym, _∙_, ap, subst}
 use mathlib.Core.List.{List}
 use native.Mathlib.Omega.{arith}
 use lib.ListN.{length}
@@ -8,6 +8,7 @@ use Rattle.rules.specs.declared.Settings.{Settings}
 use Rattle.rules.specs.declared.Answer.{Answer}
 use Rattle.rules.specs.declared.Answer.the-variants.{Accepted, Refused}
 use Rattle.rules.specs.Layout.{Lines, build}
+use Rattle.rules.specs.Types.{widthOf}
 use Rattle.rules.specs.Refusals.{Rooms, rooms, lineRoom, refusalOf}
 use Rattle.rules.specs.Calls.{unless, answerOf, written, cleared, builtOf, filled, Built}
 use Rattle.build_refusals.specs.Admitted.{Admitted}
@@ -35,24 +36,24 @@ accepted-is : (refusal k result : ℕ) → k ≡ result → refusal ≡ 0 → Ac
 unfolding answerOf
 accepted-is refusal k result e z = ap Accepted e ∙ unless-fine refusal (Refused refusal) (Accepted result) z
 
-module _ (l : Lines) (s : Settings) (o : Rooms) where
+module _ (t : ℕ) (l : Lines) (s : Settings) (o : Rooms) where
   -- a refused call answers with its number and stores nothing
-  pub refused : (k : ℕ) → k ≡ refusalOf l s o → (k ≡ 0 → ⊥) → Built l s o (Refused k) o
+  pub refused : (k : ℕ) → k ≡ refusalOf t l s o → (k ≡ 0 → ⊥) → Built t l s o (Refused k) o
   refused k e d =
       record {
-        answer = refused-is (refusalOf l s o) k (builtOf l s .number) e d;
-        rooms = unless-refused (refusalOf l s o) o (filled l s o) (λ z. d (e ∙ z));
+        answer = refused-is (refusalOf t l s o) k (builtOf t l s .number) e d;
+        rooms = unless-refused (refusalOf t l s o) o (filled t l s o) (λ z. d (e ∙ z));
       }
 
-  module _ (z : refusalOf l s o ≡ 0) where
-    abbrev a : Admitted l s o
-    a = admitted l s o z
+  module _ (z : refusalOf t l s o ≡ 0) where
+    abbrev a : Admitted t l s o
+    a = admitted t l s o z
 
-    abbrev adds : Adds 2 (l .counts) (l .coordinates)
-    adds = record { two = omega arith; sum = a .adds }
+    abbrev adds : Adds (widthOf t) (l .counts) (l .coordinates)
+    adds = record { two = a .two; sum = a .adds }
 
     -- one that isn't has its lines joined
-    pub joinable : Buildable 2 l s (o .merged) (o .workspace)
+    pub joinable : Buildable (widthOf t) l s (o .merged) (o .workspace)
     joinable = record {
       few = a .few;
       groups-long = a .groups-long;
@@ -63,17 +64,27 @@ module _ (l : Lines) (s : Settings) (o : Rooms) where
       workspace-long = a .workspace-long;
     }
 
+    -- by the width that is at hand
+    pub joinable-by : {w : ℕ} → w ≡ widthOf t → Buildable w l s (o .merged) (o .workspace)
+    joinable-by e = subst (λ (v : ℕ). Buildable v l s (o .merged) (o .workspace)) (sym e) joinable
+
+    pub left-by : {w at number lines : ℕ} {merged′ spare₁ workspace₁ : List ℕ} → w ≡ widthOf t
+        → AllLeft w l s at number lines merged′ (o .merged) spare₁ (o .spare) workspace₁ (o .workspace)
+        → AllLeft (widthOf t) l s at number lines merged′ (o .merged) spare₁ (o .spare) workspace₁ (o .workspace)
+    left-by {w} {at} {number} {lines} {merged′} {spare₁} {workspace₁} e L =
+        subst (λ (v : ℕ). AllLeft v l s at number lines merged′ (o .merged) spare₁ (o .spare) workspace₁ (o .workspace)) e L
+
     pub spare-long : length (l .coordinates) ≤ length (o .spare)
     spare-long = a .spare-long
 
     module _
         {at number lines : ℕ}
         {merged′ spare₁ workspace₁ : List ℕ}
-        (L : AllLeft 2 l s at number lines merged′ (o .merged) spare₁ (o .spare) workspace₁ (o .workspace)) where
+        (L : AllLeft (widthOf t) l s at number lines merged′ (o .merged) spare₁ (o .spare) workspace₁ (o .workspace)) where
       -- has the pieces laid out that the rounds leave
       unfoldable pub layable : Layable (partFrom (length (l .counts)) at workspace₁) (length (l .counts)) number lines (l .counts) (l .kinds) (o .table) (o .members) (o .marks)
       layable = record {
-        width = 2;
+        width = widthOf t;
         coordinates = l .coordinates;
         groups = l .groups;
         settings = s;
@@ -86,7 +97,7 @@ module _ (l : Lines) (s : Settings) (o : Rooms) where
         counts-long = refl;
         kinds-long = a .kinds-long;
         adds = adds;
-        small = omega (arith, a .adds, a .small);
+        small = a .small;
         table-long = a .table-long;
         members-long = a .members-long;
         marks-long = a .marks-long;
@@ -94,26 +105,26 @@ module _ (l : Lines) (s : Settings) (o : Rooms) where
 
       -- and clears what it used
       pub accepted : {table′ members′ marks′ spare′ workspace′ : List ℕ} {r : ℕ}
-          → Outputs (build 2 s l) table′ (o .table) members′ (o .members) marks′ (o .marks) r
+          → Outputs (build (widthOf t) s l) table′ (o .table) members′ (o .members) marks′ (o .marks) r
           → spare′ ≡ cleared (length (l .coordinates)) spare₁
           → workspace′ ≡ cleared (length (l .counts) * lineRoom) workspace₁
-          → Built l s o (Accepted r) (rooms table′ members′ marks′ merged′ spare′ workspace′)
+          → Built t l s o (Accepted r) (rooms table′ members′ marks′ merged′ spare′ workspace′)
       unfolding filled
       accepted u p w = record {
-        answer = accepted-is (refusalOf l s o) _ (builtOf l s .number) (u .number) z;
+        answer = accepted-is (refusalOf t l s o) _ (builtOf t l s .number) (u .number) z;
         rooms =
             (λ i. rooms
             (u .records i)
             (u .listed i)
             (u .turned i)
-            ((L .left .copied-is ∙ ap (λ (m : List ℕ). written m (o .merged)) (sym (merged-left 2 s (l .coordinates) (l .counts) (l .groups) (l .kinds)))) i)
+            ((L .left .copied-is ∙ ap (λ (m : List ℕ). written m (o .merged)) (sym (merged-left (widthOf t) s (l .coordinates) (l .counts) (l .groups) (l .kinds)))) i)
             ((p ∙ cleared-same (length (l .coordinates)) spare₁ (o .spare) (L .spare-rest)) i)
             ((w ∙ cleared-same (length (l .counts) * lineRoom) workspace₁ (o .workspace) (L .left .rest)) i))
-            ∙ unless-fine (refusalOf l s o) o (filled l s o) z;
+            ∙ unless-fine (refusalOf t l s o) o (filled t l s o) z;
       }
 
 -- ---- one record, one answer
 
 -- two results that the record of a building call allows are equal, each room too
-pub built-once : {l : Lines} {s : Settings} {o : Rooms} {r r′ : Answer} {o₁ o₂ : Rooms} → Built l s o r o₁ → Built l s o r′ o₂ → (r ≡ r′) × (o₁ ≡ o₂)
+pub built-once : {t : ℕ} {l : Lines} {s : Settings} {o : Rooms} {r r′ : Answer} {o₁ o₂ : Rooms} → Built t l s o r o₁ → Built t l s o r′ o₂ → (r ≡ r′) × (o₁ ≡ o₂)
 built-once a b = (a .answer ∙ sym (b .answer), a .rooms ∙ sym (b .rooms))

@@ -16,9 +16,6 @@ ghost use Rattle.chain_pieces.specs.Map.{takenBlock};
 ghost use Rattle.build_lines.specs.Taken.{plainOf};
 ghost use Rattle.build_chains.specs.Building.{Buildable, Left, Second, AllLeft};
 
-// The numbers of a point: its x and its y.
-const WIDTH: usize = 2;
-
 // Where the pieces that the rounds leave stand in the workspace, how many there are, and how many lines they have.
 pub struct Pieces {
     pub at: usize,
@@ -158,6 +155,7 @@ fn join_lines(
 
 // A call that is not refused: the rounds, the layout, and the zeros that are left.
 fn build_admitted(
+    wkb_type: u32,
     coordinates: &[u64],
     counts: &[u32],
     groups: &[u32],
@@ -170,16 +168,17 @@ fn build_admitted(
     spare: &mut [u64],
     workspace: &mut [u64],
 ) -> Answer
-    requires { ⌜ refusalOf (lent (now coordinates) (now counts) (now groups) (now kinds)) settings
+    requires { ⌜ refusalOf «wkb_type» (lent (now coordinates) (now counts) (now groups) (now kinds)) settings
         (rooms (now table) (now members) (now marks) (now merged) (now spare) (now workspace)) ≡ 0 ⌝ }
-    ensures { λ r. ⌜ Built (lent (now (coordinates .entry)) (now (counts .entry)) (now (groups .entry)) (now (kinds .entry))) settings
+    ensures { λ r. ⌜ Built «wkb_type» (lent (now (coordinates .entry)) (now (counts .entry)) (now (groups .entry)) (now (kinds .entry))) settings
         (rooms (now (table .entry)) (now (members .entry)) (now (marks .entry)) (now (merged .entry)) (now (spare .entry)) (now (workspace .entry)))
         r (rooms (now (table .exit)) (now (members .exit)) (now (marks .exit)) (now (merged .exit)) (now (spare .exit)) (now (workspace .exit))) ⌝ }
 {
     let n = counts.len();
+    let width = point_numbers::width_of(wkb_type);
     let left = join_lines(
         coordinates,
-        WIDTH,
+        width,
         counts,
         groups,
         kinds,
@@ -206,9 +205,10 @@ fn build_admitted(
     Answer::Accepted(number as u64)
 }
 
-// Builds the chains of a call: table, members, marks and merged coordinates. A refused call changes no slice; an accepted one leaves spare and
+// Builds the chains of a call, of lines of a type: table, members, marks and merged coordinates. A refused call changes no slice; an accepted one leaves spare and
 // workspace zero over their named length, whatever they held.
 pub fn build(
+    wkb_type: u32,
     coordinates: &[u64],
     counts: &[u32],
     groups: &[u32],
@@ -221,11 +221,12 @@ pub fn build(
     spare: &mut [u64],
     workspace: &mut [u64],
 ) -> Answer
-    ensures { λ r. ⌜ Built (lent (now (coordinates .entry)) (now (counts .entry)) (now (groups .entry)) (now (kinds .entry))) settings
+    ensures { λ r. ⌜ Built «wkb_type» (lent (now (coordinates .entry)) (now (counts .entry)) (now (groups .entry)) (now (kinds .entry))) settings
         (rooms (now (table .entry)) (now (members .entry)) (now (marks .entry)) (now (merged .entry)) (now (spare .entry)) (now (workspace .entry)))
         r (rooms (now (table .exit)) (now (members .exit)) (now (marks .exit)) (now (merged .exit)) (now (spare .exit)) (now (workspace .exit))) ⌝ }
 {
     let refused = build_refusals::refusal(
+        wkb_type,
         coordinates,
         counts,
         groups,
@@ -242,6 +243,7 @@ pub fn build(
         return Answer::Refused(refused);
     }
     build_admitted(
+        wkb_type,
         coordinates,
         counts,
         groups,

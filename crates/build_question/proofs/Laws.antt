@@ -1,16 +1,18 @@
 -- The test of a record, arm by arm, and what a chain that stands gives: its record is in the table, and its coordinates in the slice of its source.
 use Prim.Native.Nat.{ℕ, _+_, _-_, _*_, _/_, _^_, _≤_, _<_}
-use mathlib.Core.Path.{_≡_, refl}
+use mathlib.Core.Path.{_≡_, refl, sym, ap, _∙_}
 use mathlib.Core.Bool.{Bool, true, false, _||_}
 use mathlib.Core.List.{List, []}
 use native.Mathlib.Omega.{arith}
 use native.Mathlib.Nat.{mul-le-mul-right}
-use borrow.Author.Tests.{lt-ltb, le-ltb, ltb-false}
-use lib.Dec.{ltb}
+use borrow.Author.Tests.{lt-ltb, le-ltb, ltb-false, eq-eqb, ne-eqb, eqb-true, eqb-false}
+use lib.Dec.{ltb, eqb}
 use lib.ListN.{length, take, drop}
 use Rattle.rules.specs.Refusals.{noChain, sourceOf, entry, chainRefusalOf, firstOf, recordSize}
 use Rattle.rules.specs.declared.Answer.the-variants.{Accepted, Refused}
+use Rattle.rules.specs.Types.{widthOf}
 use Rattle.rules.specs.Calls.{asked, viewed, answerOf, unless}
+use Rattle.build_question.specs.Parts.{partOf}
 
 module _ (width : ℕ) (input merged table : List ℕ) (k : ℕ) where
   pub no-record : length table / 5 ≤ k → noChain width input merged table k ≡ true
@@ -60,35 +62,24 @@ module _ (width : ℕ) (input merged table : List ℕ) (k : ℕ) where
         part = ltb-false _ _ (q .1);
       }
 
-  pub refused : noChain width input merged table k ≡ true → chainRefusalOf width input merged table k ≡ 10
-  unfolding chainRefusalOf firstOf
-  refused e = rw (e, firstOf)
+  pub part-none : noChain width input merged table k ≡ true → [] ≡ partOf width input merged table k
+  unfolding partOf
+  part-none e = rw (e, partOf)
 
-  pub accepted : noChain width input merged table k ≡ false → chainRefusalOf width input merged table k ≡ 0
-  unfolding chainRefusalOf firstOf
-  accepted e = rw (e, firstOf)
+  pub part-there : noChain width input merged table k ≡ false
+      → partOf width input merged table k ≡ take (entry table k 4 * width) (drop (entry table k 3 * width) (sourceOf (entry table k 2) input merged))
+  unfolding partOf
+  part-there e = rw (e, partOf)
 
-  pub view-none : noChain width input merged table k ≡ true → [] ≡ viewed width input merged table k
-  unfolding viewed unless
-  view-none e = rw (refused e)
+  pub part-input : noChain width input merged table k ≡ false → entry table k 2 ≡ 0
+      → take (entry table k 3 * width + entry table k 4 * width - entry table k 3 * width) (drop (entry table k 3 * width) input) ≡ partOf width input merged table k
+  unfolding sourceOf
+  part-input e s = rw (part-there e, s, part-is)
 
-  pub view-input : noChain width input merged table k ≡ false → entry table k 2 ≡ 0
-      → take (entry table k 3 * width + entry table k 4 * width - entry table k 3 * width) (drop (entry table k 3 * width) input) ≡ viewed width input merged table k
-  unfolding viewed unless sourceOf
-  view-input e s = rw (accepted e, s, part-is)
-
-  pub view-merged : noChain width input merged table k ≡ false → entry table k 2 ≡ 1
-      → take (entry table k 3 * width + entry table k 4 * width - entry table k 3 * width) (drop (entry table k 3 * width) merged) ≡ viewed width input merged table k
-  unfolding viewed unless sourceOf
-  view-merged e s = rw (accepted e, s, part-is)
-
-  pub asked-none : noChain width input merged table k ≡ true → Refused 10 ≡ asked width input merged table k
-  unfolding asked answerOf unless
-  asked-none e = rw (refused e)
-
-  pub asked-there : noChain width input merged table k ≡ false → Accepted 0 ≡ asked width input merged table k
-  unfolding asked answerOf unless
-  asked-there e = rw (accepted e)
+  pub part-merged : noChain width input merged table k ≡ false → entry table k 2 ≡ 1
+      → take (entry table k 3 * width + entry table k 4 * width - entry table k 3 * width) (drop (entry table k 3 * width) merged) ≡ partOf width input merged table k
+  unfolding sourceOf
+  part-merged e s = rw (part-there e, s, part-is)
 
   pub inside-input : Stands width input merged table k → entry table k 2 ≡ 0 → (entry table k 3 + entry table k 4) * width ≤ length input
   unfolding sourceOf
@@ -105,3 +96,50 @@ few-numbers c width h b = omega (arith, mul-le-mul-right width h)
 -- a source that isn't 0 is 1
 pub one : {width : ℕ} {input merged table : List ℕ} {k : ℕ} → Stands width input merged table k → (entry table k 2 ≡ 0 → ⊥) → entry table k 2 ≡ 1
 one s z = let h = s .source in omega arith
+
+-- ---- by the type
+
+module _ (t : ℕ) (input merged table : List ℕ) (k : ℕ) where
+  pub untyped : widthOf t ≡ 0 → chainRefusalOf t input merged table k ≡ 12
+  unfolding chainRefusalOf firstOf
+  untyped e = rw (eq-eqb (widthOf t) 0 e, firstOf)
+
+  pub refused : (widthOf t ≡ 0 → ⊥) → noChain (widthOf t) input merged table k ≡ true → chainRefusalOf t input merged table k ≡ 10
+  unfolding chainRefusalOf firstOf
+  refused n e = rw (ne-eqb (widthOf t) 0 n, e, firstOf)
+
+  pub accepted : (widthOf t ≡ 0 → ⊥) → noChain (widthOf t) input merged table k ≡ false → chainRefusalOf t input merged table k ≡ 0
+  unfolding chainRefusalOf firstOf
+  accepted n e = rw (ne-eqb (widthOf t) 0 n, e, firstOf)
+
+  pub asked-untyped : {w : ℕ} → w ≡ widthOf t → w ≡ 0 → Refused 12 ≡ asked t input merged table k
+  unfolding asked answerOf unless
+  asked-untyped f e = rw (untyped (sym f ∙ e))
+
+  pub asked-none : {w : ℕ} → w ≡ widthOf t → (w ≡ 0 → ⊥) → noChain w input merged table k ≡ true → Refused 10 ≡ asked t input merged table k
+  unfolding asked answerOf unless
+  asked-none f n e = rw (refused (λ z. n (f ∙ z)) (ap (λ (v : ℕ). noChain v input merged table k) (sym f) ∙ e))
+
+  pub asked-there : {w : ℕ} → w ≡ widthOf t → (w ≡ 0 → ⊥) → noChain w input merged table k ≡ false → Accepted 0 ≡ asked t input merged table k
+  unfolding asked answerOf unless
+  asked-there f n e = rw (accepted (λ z. n (f ∙ z)) (ap (λ (v : ℕ). noChain v input merged table k) (sym f) ∙ e))
+
+  -- the view is the part by the type's width; of width 0 it is nothing
+  pub viewed-part : viewed t input merged table k ≡ partOf (widthOf t) input merged table k
+  unfolding viewed unless
+  viewed-part = go (eqb (widthOf t) 0) (noChain (widthOf t) input merged table k) refl refl
+    where
+      go : (a b : Bool) → eqb (widthOf t) 0 ≡ a → noChain (widthOf t) input merged table k ≡ b → viewed t input merged table k ≡ partOf (widthOf t) input merged table k
+      go true true e f = rw (untyped (eqb-true _ _ e)) (part-none (widthOf t) input merged table k f)
+      go true false e f = rw (untyped (eqb-true _ _ e)) (sym (part-there (widthOf t) input merged table k f ∙ nothing (eqb-true _ _ e)))
+        where
+          nothing : widthOf t ≡ 0 → take (entry table k 4 * widthOf t) (drop (entry table k 3 * widthOf t) (sourceOf (entry table k 2) input merged)) ≡ []
+          nothing z =
+              let m : entry table k 4 * widthOf t ≡ entry table k 4 * 0 = ap (λ (w : ℕ). entry table k 4 * w) z in
+              let e : entry table k 4 * widthOf t ≡ 0 = omega arith in
+              rw e
+      go false true e f = rw (refused (eqb-false _ _ e) f) (part-none (widthOf t) input merged table k f)
+      go false false e f = rw (accepted (eqb-false _ _ e) f) (sym (part-there (widthOf t) input merged table k f))
+
+  pub view-is : {w : ℕ} {l : List ℕ} → w ≡ widthOf t → l ≡ partOf w input merged table k → l ≡ viewed t input merged table k
+  view-is f e = e ∙ ap (λ (w : ℕ). partOf w input merged table k) f ∙ sym viewed-part

@@ -5,9 +5,7 @@ ghost use mathlib.Core.Path.{_≡_};
 ghost use Prim.Native.Nat.{_≤_, _^_};
 ghost use Rattle.rules.specs.Refusals.{noChain};
 ghost use Rattle.rules.specs.Calls.{asked, viewed};
-
-// The numbers of a point of the public calls: its x and its y.
-const WIDTH: usize = 2;
+ghost use Rattle.build_question.specs.Parts.{partOf};
 
 // Whether the table has no record k, or its coordinates aren't in the slice that its source names.
 pub fn no_chain(input: &[u64], merged: &[u64], table: &[u32], width: usize, k: usize) -> bool
@@ -37,7 +35,7 @@ pub fn part<'a>(
     k: usize,
 ) -> &'a [u64]
     requires { ⌜ width ≤ 2 ^ 31 ⌝ }
-    ensures { λ r. ⌜ now r ≡ viewed width (now (input .entry)) (now (merged .entry)) (now (table .entry)) k ⌝ }
+    ensures { λ r. ⌜ now r ≡ partOf width (now (input .entry)) (now (merged .entry)) (now (table .entry)) k ⌝ }
 {
     if no_chain(input, merged, table, width, k) {
         return &input[..0];
@@ -50,19 +48,29 @@ pub fn part<'a>(
     &merged[from..to]
 }
 
-// The chain question: accepted with 0, or refused with 10.
-pub fn chain(input: &[u64], merged: &[u64], table: &[u32], k: usize) -> Answer
-    ensures { λ r. ⌜ r ≡ asked 2 (now (input .entry)) (now (merged .entry)) (now (table .entry)) k ⌝ }
+// The chain question: accepted with 0, refused with 12 for a number that is no type, or with 10.
+pub fn chain(wkb_type: u32, input: &[u64], merged: &[u64], table: &[u32], k: usize) -> Answer
+    ensures { λ r. ⌜ r ≡ asked «wkb_type» (now (input .entry)) (now (merged .entry)) (now (table .entry)) k ⌝ }
 {
-    if no_chain(input, merged, table, WIDTH, k) {
+    let width = point_numbers::width_of(wkb_type);
+    if width == 0 {
+        return Answer::Refused(12);
+    }
+    if no_chain(input, merged, table, width, k) {
         return Answer::Refused(10);
     }
     Answer::Accepted(0)
 }
 
-// The view: chain k's coordinates, not copied.
-pub fn view<'a>(input: &'a [u64], merged: &'a [u64], table: &[u32], k: usize) -> &'a [u64]
-    ensures { λ r. ⌜ now r ≡ viewed 2 (now (input .entry)) (now (merged .entry)) (now (table .entry)) k ⌝ }
+// The view: chain k's coordinates, not copied; nothing for a number that is no type.
+pub fn view<'a>(
+    wkb_type: u32,
+    input: &'a [u64],
+    merged: &'a [u64],
+    table: &[u32],
+    k: usize,
+) -> &'a [u64]
+    ensures { λ r. ⌜ now r ≡ viewed «wkb_type» (now (input .entry)) (now (merged .entry)) (now (table .entry)) k ⌝ }
 {
-    part(input, merged, table, WIDTH, k)
+    part(input, merged, table, point_numbers::width_of(wkb_type), k)
 }

@@ -10,6 +10,7 @@ use Rattle.rules.specs.declared.Settings.{Settings}
 use Rattle.rules.specs.Lists.{count}
 use Rattle.rules.specs.Plane.{points, flat}
 use Rattle.rules.specs.Chaining.{Piece, chains}
+use Rattle.rules.specs.Types.{widthOf}
 use Rattle.rules.specs.Layout.{Lines, linesIn, copy, table, laidOut, build}
 use Rattle.rules.specs.Refusals.{Rooms, refusalOf, lineRoom}
 use Rattle.rules.specs.Calls.{unless, answerOf, written, cleared, builtOf, filled, Built}
@@ -34,48 +35,48 @@ unfolding flatMap readOf
 members-read w [] = refl
 members-read w (p ∷ ps) = ap (λ (l : List ℕ). p .lines ++ l) (members-read w ps)
 
-module _ {l : Lines} {s : Settings} {o o′ : Rooms} {n : ℕ} (built : Built l s o (Accepted n) o′) where
+module _ {t : ℕ} {l : Lines} {s : Settings} {o o′ : Rooms} {n : ℕ} (built : Built t l s o (Accepted n) o′) where
   abbrev ps : List Piece
-  ps = chains s (linesIn 2 l)
+  ps = chains s (linesIn (widthOf t) l)
 
-  taken : (refusalOf l s o ≡ 0) × (n ≡ length ps)
+  taken : (refusalOf t l s o ≡ 0) × (n ≡ length ps)
   unfolding build laidOut
-  taken = accepted (refusalOf l s o) (builtOf l s .number) n (sym (built .answer))
+  taken = accepted (refusalOf t l s o) (builtOf t l s .number) n (sym (built .answer))
 
-  abbrev let-in : Admitted l s o
-  let-in = admitted l s o (taken .0)
+  abbrev let-in : Admitted t l s o
+  let-in = admitted t l s o (taken .0)
 
-  adds : Adds 2 (l .counts) (l .coordinates)
-  adds = record { two = omega arith; sum = let-in .adds }
+  adds : Adds (widthOf t) (l .counts) (l .coordinates)
+  adds = record { two = let-in .two; sum = let-in .adds }
 
-  filled-is : o′ ≡ filled l s o
+  filled-is : o′ ≡ filled t l s o
   unfolding unless
-  filled-is = built .rooms ∙ ap (λ (k : ℕ). unless k o (filled l s o)) (taken .0)
+  filled-is = built .rooms ∙ ap (λ (k : ℕ). unless k o (filled t l s o)) (taken .0)
 
   -- WHAT IS READ OF AN ACCEPTED CALL IS THE CHAINS OF ITS LINES
-  pub call-read : readAll 2 (l .coordinates) o′ n ≡ map (readOf 2) (chains s (linesIn 2 l))
+  pub call-read : readAll t (l .coordinates) o′ n ≡ map (readOf (widthOf t)) (chains s (linesIn (widthOf t) l))
   unfolding filled build laidOut written
   call-read =
-      (λ x. readAll 2 (l .coordinates) (filled-is x) (taken .1 x))
-      ∙ chains-read 2 (l .coordinates) (l .counts) (linesIn 2 l) ps (chains-sound s (linesIn 2 l))
-      (λ k. line-stands 2 (l .coordinates) (l .counts) (l .groups) (l .kinds) k adds)
+      (λ x. readAll t (l .coordinates) (filled-is x) (taken .1 x))
+      ∙ chains-read t (widthOf t) refl (l .coordinates) (l .counts) (linesIn (widthOf t) l) ps (chains-sound s (linesIn (widthOf t) l))
+      (λ k. line-stands (widthOf t) (l .coordinates) (l .counts) (l .groups) (l .kinds) k adds)
       (drop (length (table (l .counts) 0 0 ps)) (o .table))
       (drop (length (flatMap (λ p. p .lines) ps)) (o .members))
       (drop (length (flatMap (λ p. p .marks) ps)) (o .marks))
-      (drop (length (flat 2 (flatMap copy ps))) (o .merged))
+      (drop (length (flat (widthOf t) (flatMap copy ps))) (o .merged))
       (cleared (length (l .coordinates)) (o .spare))
       (cleared (length (l .counts) * lineRoom) (o .workspace))
 
-  members-are : flatMap (λ (c : ChainRead). c .members) (readAll 2 (l .coordinates) o′ n) ≡ linesOf (chains s (linesIn 2 l))
-  members-are = ap (flatMap (λ (c : ChainRead). c .members)) call-read ∙ members-read 2 ps
+  members-are : flatMap (λ (c : ChainRead). c .members) (readAll t (l .coordinates) o′ n) ≡ linesOf (chains s (linesIn (widthOf t) l))
+  members-are = ap (flatMap (λ (c : ChainRead). c .members)) call-read ∙ members-read (widthOf t) ps
 
-  lines-are : length (linesIn 2 l) ≡ length (l .counts)
-  lines-are = lines-length (points 2 (l .coordinates)) (l .counts) (l .groups) (l .kinds)
+  lines-are : length (linesIn (widthOf t) l) ≡ length (l .counts)
+  lines-are = lines-length (points (widthOf t) (l .coordinates)) (l .counts) (l .groups) (l .kinds)
 
   -- EVERY LINE STANDS IN EXACTLY ONE CHAIN, ONCE
-  pub line-in-one-chain : (y : ℕ) → y < length (l .counts) → count y (flatMap (λ (c : ChainRead). c .members) (readAll 2 (l .coordinates) o′ n)) ≡ 1
-  line-in-one-chain y h = ap (count y) members-are ∙ in-one-chain s (linesIn 2 l) y (omega (arith, lines-are))
+  pub line-in-one-chain : (y : ℕ) → y < length (l .counts) → count y (flatMap (λ (c : ChainRead). c .members) (readAll t (l .coordinates) o′ n)) ≡ 1
+  line-in-one-chain y h = ap (count y) members-are ∙ in-one-chain s (linesIn (widthOf t) l) y (omega (arith, lines-are))
 
   -- AND NOTHING ELSE DOES
-  pub nothing-else-in-a-chain : (y : ℕ) → length (l .counts) ≤ y → count y (flatMap (λ (c : ChainRead). c .members) (readAll 2 (l .coordinates) o′ n)) ≡ 0
-  nothing-else-in-a-chain y h = ap (count y) members-are ∙ no-other-line s (linesIn 2 l) y (omega (arith, lines-are))
+  pub nothing-else-in-a-chain : (y : ℕ) → length (l .counts) ≤ y → count y (flatMap (λ (c : ChainRead). c .members) (readAll t (l .coordinates) o′ n)) ≡ 0
+  nothing-else-in-a-chain y h = ap (count y) members-are ∙ no-other-line s (linesIn (widthOf t) l) y (omega (arith, lines-are))

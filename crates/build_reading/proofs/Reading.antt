@@ -15,8 +15,10 @@ use Rattle.rules.specs.Lists.{one, from, upto, total}
 use Rattle.rules.specs.Plane.{Point, points, flat}
 use Rattle.rules.specs.Chaining.{Piece, nothing, Line}
 use Rattle.rules.specs.Layout.{lines, copied, copy, five, table}
-use Rattle.rules.specs.Refusals.{rooms, recordSize, entry, sourceOf, noChain, chainRefusalOf, firstOf}
-use Rattle.rules.specs.Calls.{viewed, unless}
+use Rattle.rules.specs.Types.{widthOf}
+use Rattle.rules.specs.Refusals.{rooms, recordSize, entry, sourceOf, noChain}
+use Rattle.build_question.specs.Parts.{partOf}
+use Rattle.build_question.proofs.Laws.{part-there, viewed-part}
 use Rattle.chain_laws.proofs.Counts.{Each, nil, cons, each-getD}
 use Rattle.chain_laws.proofs.Lines.{flatMap-append, map-from}
 use Rattle.chain_laws.proofs.Sound.{noLine, Sound}
@@ -72,19 +74,10 @@ module _ (w : ℕ) (input merged table : List ℕ) (k : ℕ) where
   unfolding noChain
   there a b c = ap₂ _||_ (le-ltb _ _ a) (ap₂ _||_ (le-ltb _ _ b) (le-ltb _ _ c))
 
-  accepted : noChain w input merged table k ≡ false → chainRefusalOf w input merged table k ≡ 0
-  unfolding chainRefusalOf firstOf
-  accepted e = rw (e, firstOf)
-
-  seen : noChain w input merged table k ≡ false
-      → viewed w input merged table k ≡ take (entry table k 4 * w) (drop (entry table k 3 * w) (sourceOf (entry table k 2) input merged))
-  unfolding viewed unless
-  seen e = rw (accepted e)
-
   view-is : (s f c : ℕ) → entry table k 2 ≡ s → entry table k 3 ≡ f → entry table k 4 ≡ c → k * recordSize + recordSize ≤ length table → s ≤ 1
-      → (f + c) * w ≤ length (sourceOf s input merged) → viewed w input merged table k ≡ take (c * w) (drop (f * w) (sourceOf s input merged))
+      → (f + c) * w ≤ length (sourceOf s input merged) → partOf w input merged table k ≡ take (c * w) (drop (f * w) (sourceOf s input merged))
   view-is s f c e₂ e₃ e₄ a b i =
-      seen (there a (rw e₂ b) (rw (e₂, e₃, e₄) i)) ∙ rw (e₂, e₃, e₄)
+      part-there w input merged table k (there a (rw e₂ b) (rw (e₂, e₃, e₄) i)) ∙ rw (e₂, e₃, e₄)
 
 -- ---- a line's own points, in the input
 
@@ -134,7 +127,8 @@ line-stands w input counts groups kinds k h =
 -- ---- chains laid out, with anything behind them
 
 module _
-    (w : ℕ)
+    (type w : ℕ)
+    (wide : w ≡ widthOf type)
     (input counts : List ℕ)
     (ls : List Line)
     (ps : List Piece)
@@ -240,7 +234,7 @@ module _
     row : q * recordSize + recordSize ≤ length table′
     row = omega (arith, length-append (table counts 0 0 ps) t, table-length counts 0 0 ps)
 
-    view-copied : copied p ≡ true → viewed w input merged′ table′ q ≡ flat w (p .points)
+    view-copied : copied p ≡ true → partOf w input merged′ table′ q ≡ flat w (p .points)
     unfolding five copy sourceOf
     view-copied e =
         view-is w input merged′ table′ q 1 copies (length (p .points))
@@ -275,7 +269,7 @@ module _
             clash : false ≡ true → ⊥
             clash k = let z : _≡_ {A = ℕ} 0 1 = cc in omega arith
 
-    view-own : copied p ≡ false → viewed w input merged′ table′ q ≡ flat w (p .points)
+    view-own : copied p ≡ false → partOf w input merged′ table′ q ≡ flat w (p .points)
     unfolding five sourceOf
     view-own e =
         view-is w input merged′ table′ q 0 (total (take k counts)) (length (p .points))
@@ -289,20 +283,25 @@ module _
         mine : Stands w input (total (take k counts)) (p .points)
         mine = rw (here .own k (lone (p .lines) (one-line e))) (own k)
 
-    coordinates-are : viewed w input merged′ table′ q ≡ flat w (p .points)
+    coordinates-are : partOf w input merged′ table′ q ≡ flat w (p .points)
     coordinates-are = go (copied p) refl
       where
-        go : (u : Bool) → copied p ≡ u → viewed w input merged′ table′ q ≡ flat w (p .points)
+        go : (u : Bool) → copied p ≡ u → partOf w input merged′ table′ q ≡ flat w (p .points)
         go true e = view-copied e
         go false e = view-own e
 
-    chain-read : readAt w input (rooms table′ members′ marks′ merged′ s z) q ≡ readOf w p
+    chain-read : readAt type input (rooms table′ members′ marks′ merged′ s z) q ≡ readOf w p
     unfolding readAt readOf
-    chain-read = λ j. record { members = members-are j; marks = marks-are j; source = source-is j; coordinates = coordinates-are j }
+    chain-read = λ j. record {
+      members = members-are j;
+      marks = marks-are j;
+      source = source-is j;
+      coordinates = (viewed-part type input merged′ table′ q ∙ ap (λ (v : ℕ). partOf v input merged′ table′ q) (sym wide) ∙ coordinates-are) j;
+    }
 
   -- WHAT IS READ IS THE CHAINS
-  pub chains-read : readAll w input
+  pub chains-read : readAll type input
       (rooms (table counts 0 0 ps ++ t) (flatMap (λ p. p .lines) ps ++ m) (flatMap (λ p. p .marks) ps ++ a) (flat w (flatMap copy ps) ++ c) s z) (length ps)
       ≡ map (readOf w) ps
   unfolding readAll
-  chains-read = by-index (readAt w input (rooms table′ members′ marks′ merged′ s z)) (readOf w) nothing ps chain-read
+  chains-read = by-index (readAt type input (rooms table′ members′ marks′ merged′ s z)) (readOf w) nothing ps chain-read

@@ -15,20 +15,20 @@ pub record ChainRead : Type 0 where
   pub source : ℕ
   pub coordinates : List ℕ
 
--- chain k
-unfoldable pub readAt : (w : ℕ) (input : List ℕ) → Rooms → ℕ → ChainRead
-readAt w input o k =
+-- chain k, of lines of type t
+unfoldable pub readAt : (t : ℕ) (input : List ℕ) → Rooms → ℕ → ChainRead
+readAt t input o k =
     record {
       members = take (entry (o .table) k 1) (drop (entry (o .table) k 0) (o .members));
       marks = take (entry (o .table) k 1) (drop (entry (o .table) k 0) (o .marks));
       source = entry (o .table) k 2;
-      coordinates = viewed w input (o .merged) (o .table) k;
+      coordinates = viewed t input (o .merged) (o .table) k;
     }
 
 -- all of n chains
-unfoldable pub readAll : (w : ℕ) (input : List ℕ) → Rooms → ℕ → List ChainRead
-readAll w input o n = map (readAt w input o) (upto n)
+unfoldable pub readAll : (t : ℕ) (input : List ℕ) → Rooms → ℕ → List ChainRead
+readAll t input o n = map (readAt t input o) (upto n)
 
--- a chain of the book, as it is read
+-- a chain of the book, of points of w numbers each, as it is read
 unfoldable pub readOf : ℕ → Piece → ChainRead
 readOf w p = record { members = p .lines; marks = p .marks; source = one (copied p); coordinates = flat w (p .points) }

@@ -1,21 +1,24 @@
 -- Laws of the refusals of building: one more number summed or passed, and what a call has that no refusal meets.
-use mathlib.Core.Path.{_≡_, refl, sym, ap, _∙_}
+use mathlib.Core.Path.{_≡_, refl, sym, ap, subst, _∙_}
 use mathlib.Core.Bool.{Bool, true, false, not, _&&_, _||_, true≢false}
 use mathlib.Core.List.{List, [], _∷_}
 use Prim.Native.Nat.{ℕ, zero, suc, _+_, _*_, _≤_, _<_}
-use native.Mathlib.Nat.{add-assoc}
+use native.Mathlib.Nat.{add-assoc, mul-le-mul-right}
 use native.Mathlib.Numerals.{add-one}
 use native.Mathlib.Omega.{arith}
 use lib.ListN.{length, drop, getD, drop-of-length-le}
 use lib.Seq.{drop-cons}
 use lib.Dec.{ltb, eqb}
-use borrow.Author.Tests.{lt-ltb, le-ltb, ltb-false, eqb-true, not-false}
+use borrow.Author.Tests.{lt-ltb, le-ltb, ltb-false, eqb-true, eqb-false, not-false}
 use Rattle.rules.specs.declared.Settings.{Settings}
 use lib.Ieee.Scale.{finite}
 use Rattle.rules.specs.Lists.{one, total}
 use Rattle.rules.specs.Plane.{Point, point, float, reads, points}
-use Rattle.point_numbers.proofs.Points.{points-exact}
+use Rattle.point_numbers.specs.Width.{pointAt, Whole}
+use Rattle.point_numbers.proofs.Points.{at-x, at-y, points-exact, points-from, points-past}
+use Rattle.point_numbers.proofs.Widths.{width-two}
 use Rattle.rules.specs.Layout.{Lines}
+use Rattle.rules.specs.Types.{widthOf, noType}
 use Rattle.build_refusals.specs.Admitted.{Admitted}
 use Rattle.rules.specs.Refusals.{Rooms, anyAbove, nowhere, anyNowhere, firstOf, refusalOf, mostLines, mostPoints, lineRoom, recordSize}
 use Rattle.build_refusals.specs.Tests.{wildOf, switchBad, roomShort}
@@ -87,22 +90,49 @@ reads-wild (suc n) (a ∷ b ∷ l) h = go (finite (float a)) (finite (float b)) 
     go true false e f ih = rw (e, f) (here-nowhere (point a b) (reads 2 n l) (two ∙ rw (e, f)) ∙ sym (lt-ltb 0 (0 + (1 + wildOf l)) (omega arith)))
     go false q e f ih = rw e (here-nowhere (point a b) (reads 2 n l) (two ∙ rw e) ∙ sym (lt-ltb 0 (1 + (one (not (finite (float b))) + wildOf l)) (omega arith)))
 
-pub nowhere-wild : (n : ℕ) (l : List ℕ) → n * 2 ≡ length l → anyNowhere (points 2 l) ≡ ltb 0 (wildOf l)
-nowhere-wild n l h = ap anyNowhere (points-exact 2 n l (omega arith) (sym h)) ∙ reads-wild n l (sym h)
+pub nowhere-wild : (w : ℕ) (l : List ℕ) → Whole w l → w ≡ 2 → anyNowhere (points w l) ≡ ltb 0 (wildOf l)
+nowhere-wild w l h e =
+    let long : length l ≡ h .number * 2 = h .long ∙ ap (λ (v : ℕ). h .number * v) e in
+    ap (λ (v : ℕ). anyNowhere (points v l)) e ∙ ap anyNowhere (points-exact 2 (h .number) l (omega arith) long) ∙ reads-wild (h .number) l long
+
+-- with extras, point by point: the one from the i-th number on is no place, or is passed
+module _ (w : ℕ) (l : List ℕ) (i : ℕ) (two : 2 ≤ w) (h : i + w ≤ length l) where
+  opened-from : anyNowhere (points w (drop i l)) ≡ anyNowhere (pointAt w l i ∷ points w (drop (i + w) l))
+  opened-from = ap anyNowhere (points-from w l i (omega arith) h)
+
+  by-parts : nowhere (pointAt w l i) ≡ not (finite (float (getD l i 0)) && finite (float (getD l (i + 1) 0)))
+  unfolding nowhere
+  by-parts = rw (at-x w two l i, at-y w two l i)
+
+  pub x-nowhere : finite (float (getD l i 0)) ≡ false → anyNowhere (points w (drop i l)) ≡ true
+  x-nowhere e = opened-from ∙ here-nowhere (pointAt w l i) (points w (drop (i + w) l)) (by-parts ∙ rw e)
+
+  pub y-nowhere : finite (float (getD l i 0)) ≡ true → finite (float (getD l (i + 1) 0)) ≡ false → anyNowhere (points w (drop i l)) ≡ true
+  y-nowhere e f = opened-from ∙ here-nowhere (pointAt w l i) (points w (drop (i + w) l)) (by-parts ∙ rw (e, f))
+
+  pub place-passed : finite (float (getD l i 0)) ≡ true → finite (float (getD l (i + 1) 0)) ≡ true
+      → anyNowhere (points w (drop i l)) ≡ anyNowhere (points w (drop (i + w) l))
+  place-passed e f = opened-from ∙ here-somewhere (pointAt w l i) (points w (drop (i + w) l)) (by-parts ∙ rw (e, f))
+
+pub places-end : (w : ℕ) (l : List ℕ) (i : ℕ) → 2 ≤ w → length l ≤ i → anyNowhere (points w (drop i l)) ≡ false
+unfolding anyNowhere
+places-end w l i two h = ap anyNowhere (points-past w l i (omega arith) (omega arith))
 
 -- ---- the ladder
 
 -- the tests of a call, in order
-abbrev pub tests : Lines → Settings → Rooms → List (ℕ × Bool)
-tests l s o =
+abbrev pub tests : ℕ → Lines → Settings → Rooms → List (ℕ × Bool)
+tests t l s o =
     let n = length (l .counts) in
+    let c = total (l .counts) in
     let numbers = length (l .coordinates) in
-    (1, ltb mostLines n)
+    (12, noType t)
+    ∷ (1, ltb mostLines n)
     ∷ (2, not (eqb (length (l .groups)) n) || not (eqb (length (l .kinds)) n))
     ∷ (3, anyAbove 1 (l .kinds))
-    ∷ (4, not (eqb (total (l .counts) * 2) numbers))
-    ∷ (5, ltb (mostPoints * 2) numbers)
-    ∷ (15, anyNowhere (points 2 (l .coordinates)))
+    ∷ (4, not (eqb (c * widthOf t) numbers))
+    ∷ (5, ltb mostPoints c)
+    ∷ (15, anyNowhere (points (widthOf t) (l .coordinates)))
     ∷ (6, switchBad (s .switch) (s .limit))
     ∷ (7, roomShort n numbers (length (o .table)) (length (o .members)) (length (o .marks)) (length (o .merged)) (length (o .spare)) (length (o .workspace)))
     ∷ []
@@ -122,9 +152,9 @@ stopped k false l e = absurd (true≢false (sym e))
 pub record Left (r : ℕ) (l : List (ℕ × Bool)) : Type 0 where
   pub is : r ≡ firstOf l
 
-pub opened : (l : Lines) (s : Settings) (o : Rooms) → Left (refusalOf l s o) (tests l s o)
+pub opened : (t : ℕ) (l : Lines) (s : Settings) (o : Rooms) → Left (refusalOf t l s o) (tests t l s o)
 unfolding refusalOf switchBad roomShort
-opened l s o = record { is = refl }
+opened t l s o = record { is = refl }
 
 -- one rung: the test doesn't hold, or it does
 pub rung : {r k : ℕ} {b : Bool} {l : List (ℕ × Bool)} → Left r ((k, b) ∷ l) → b ≡ false → Left r l
@@ -137,9 +167,28 @@ pub top : {r : ℕ} → Left r [] → 0 ≡ r
 unfolding firstOf
 top e = sym (e .is)
 
--- the fourth test, from a sum that is at hand
-pub sums : (t s numbers : ℕ) {b : Bool} → s ≡ t → eqb (s * 2) numbers ≡ b → not (eqb (t * 2) numbers) ≡ not b
-sums t s numbers e f = rw (← e, f)
+-- the tests of 12, 4, 5 and 15, from a width and a sum that are at hand
+pub typed : (t w : ℕ) {b : Bool} → w ≡ widthOf t → eqb w 0 ≡ b → noType t ≡ b
+typed t w e f = rw (← e, f)
+
+pub sums : (t s v w numbers : ℕ) {b : Bool} → s ≡ t → w ≡ v → eqb (s * w) numbers ≡ b → not (eqb (t * v) numbers) ≡ not b
+sums t s v w numbers e g f = rw (← e, ← g, f)
+
+-- a width that isn't 0 is that of a type
+pub has-two : (t w : ℕ) → w ≡ widthOf t → (w ≡ 0 → ⊥) → 2 ≤ w
+has-two t w e n = subst (λ (v : ℕ). 2 ≤ v) (sym e) (width-two t (λ z. n (e ∙ z)))
+
+-- a sum of counts times a width is below 2 ^ 64
+pub product-short : (a b : ℕ) → a < 17592186044416 → b ≤ 4 → a * b < 18446744073709551616
+product-short a b h k =
+    let p : a * b ≤ 17592186044415 * b = mul-le-mul-right b (omega arith) in
+    omega arith
+
+pub many : (m t s : ℕ) {b : Bool} → s ≡ t → ltb m s ≡ b → ltb m t ≡ b
+many m t s e f = rw (← e, f)
+
+pub placed : (w v : ℕ) (l : List ℕ) {r b : Bool} → w ≡ v → r ≡ anyNowhere (points w l) → r ≡ b → anyNowhere (points v l) ≡ b
+placed w v l e f g = ap (λ (u : ℕ). anyNowhere (points u l)) (sym e) ∙ sym f ∙ g
 
 -- ---- what an accepted call has
 
@@ -155,12 +204,13 @@ or-off : (a b : Bool) → a || b ≡ false → (a ≡ false) × (b ≡ false)
 or-off true b e = absurd (true≢false e)
 or-off false b e = (refl, e)
 
-pub admitted : (l : Lines) (s : Settings) (o : Rooms) → refusalOf l s o ≡ 0 → Admitted l s o
+pub admitted : (t : ℕ) (l : Lines) (s : Settings) (o : Rooms) → refusalOf t l s o ≡ 0 → Admitted t l s o
 unfolding roomShort
-admitted l s o z =
+admitted t l s o z =
     let n = length (l .counts) in
     let numbers = length (l .coordinates) in
-    let t₁ = off (record { is = sym z ∙ opened l s o .is }) in
+    let t₀ = off (record { is = sym z ∙ opened t l s o .is }) in
+    let t₁ = off (t₀ .1) in
     let t₂ = off (t₁ .1) in
     let t₃ = off (t₂ .1) in
     let t₄ = off (t₃ .1) in
@@ -175,11 +225,12 @@ admitted l s o z =
     let r₄ = or-off (ltb (length (o .merged)) numbers) _ (r₃ .1) in
     let r₅ = or-off (ltb (length (o .spare)) numbers) (ltb (length (o .workspace)) (n * lineRoom)) (r₄ .1) in
     record {
+      two = width-two t (eqb-false (widthOf t) 0 (t₀ .0));
       few = ltb-false 4096 n (t₁ .0);
       groups-long = eqb-true (length (l .groups)) n (not-false _ (both .0));
       kinds-long = eqb-true (length (l .kinds)) n (not-false _ (both .1));
-      adds = eqb-true (total (l .counts) * 2) numbers (not-false _ (t₄ .0));
-      small = ltb-false 131072 numbers (t₅ .0);
+      adds = eqb-true (total (l .counts) * widthOf t) numbers (not-false _ (t₄ .0));
+      small = ltb-false 65536 (total (l .counts)) (t₅ .0);
       places = t₆ .0;
       switched = t₇ .0;
       table-long = ltb-false (length (o .table)) (n * recordSize) (r₁ .0);

@@ -1,5 +1,5 @@
 -- What a building call has that no refusal meets: bounds that every later step asks for.
-use Prim.Native.Nat.{_*_, _≤_}
+use Prim.Native.Nat.{ℕ, _*_, _≤_}
 use mathlib.Core.Path.{_≡_}
 use mathlib.Core.Bool.{false}
 use lib.ListN.{length}
@@ -7,16 +7,18 @@ use Rattle.rules.specs.declared.Settings.{Settings}
 use Rattle.rules.specs.Lists.{total}
 use Rattle.rules.specs.Plane.{points}
 use Rattle.rules.specs.Layout.{Lines}
+use Rattle.rules.specs.Types.{widthOf}
 use Rattle.rules.specs.Refusals.{Rooms, anyNowhere, mostLines, mostPoints, recordSize, lineRoom}
 use Rattle.build_refusals.specs.Tests.{switchBad}
 
-pub record Admitted (l : Lines) (s : Settings) (o : Rooms) : Type 0 where
+pub record Admitted (t : ℕ) (l : Lines) (s : Settings) (o : Rooms) : Type 0 where
+  pub two : 2 ≤ widthOf t
   pub few : length (l .counts) ≤ mostLines
   pub groups-long : length (l .groups) ≡ length (l .counts)
   pub kinds-long : length (l .kinds) ≡ length (l .counts)
-  pub adds : total (l .counts) * 2 ≡ length (l .coordinates)
-  pub small : length (l .coordinates) ≤ mostPoints * 2
-  pub places : anyNowhere (points 2 (l .coordinates)) ≡ false
+  pub adds : total (l .counts) * widthOf t ≡ length (l .coordinates)
+  pub small : total (l .counts) ≤ mostPoints
+  pub places : anyNowhere (points (widthOf t) (l .coordinates)) ≡ false
   pub switched : switchBad (s .switch) (s .limit) ≡ false
   pub table-long : length (l .counts) * recordSize ≤ length (o .table)
   pub members-long : length (l .counts) ≤ length (o .members)

@@ -10,12 +10,11 @@ ghost use Prim.Native.Nat.{_≤_, _<_};
 ghost use lib.Dec.{eqb, ltb};
 ghost use lib.ListN.{length};
 ghost use Rattle.rules.specs.Lists.{total as total-of};
+ghost use Rattle.rules.specs.Plane.{points};
 ghost use Rattle.rules.specs.Layout.{lent};
-ghost use Rattle.rules.specs.Refusals.{anyAbove, limitBad, rooms, refusalOf, mostLines};
+ghost use Rattle.rules.specs.Refusals.{anyAbove, anyNowhere, limitBad, rooms, refusalOf, mostLines};
+ghost use Rattle.point_numbers.specs.Width.{Whole};
 ghost use Rattle.build_refusals.specs.Tests.{wildOf, switchBad, roomShort};
-
-// The numbers of as many points as a call takes.
-const MOST_NUMBERS: usize = MOST_POINTS * 2;
 
 // The sum of the counts, of which there are at most 4,096.
 fn total(counts: &[u32]) -> u64
@@ -46,7 +45,7 @@ pub fn any_above_one(kinds: &[u8]) -> bool
 }
 
 // Whether one of the numbers is a NaN or infinite. All are looked at, so that several go at once.
-fn any_nowhere(numbers: &[u64]) -> bool
+fn any_wild(numbers: &[u64]) -> bool
     ensures { λ r. ⌜ r ≡ ltb 0 (wildOf (now (numbers .entry))) ⌝ }
 {
     let mut wild: u64 = 0;
@@ -56,6 +55,35 @@ fn any_nowhere(numbers: &[u64]) -> bool
         i += 1;
     }
     0 < wild
+}
+
+// Whether the x or the y of a point is a NaN or infinite, with extras between the points.
+fn any_nowhere_wide(numbers: &[u64], width: usize) -> bool
+    requires { ⌜ (2 ≤ width) × Whole width (now numbers) ⌝ }
+    ensures { λ r. ⌜ r ≡ anyNowhere (points width (now (numbers .entry))) ⌝ }
+{
+    let mut i = 0;
+    while i < numbers.len() {
+        if !float_bits::is_finite(numbers[i]) {
+            return true;
+        }
+        if !float_bits::is_finite(numbers[i + 1]) {
+            return true;
+        }
+        i += width;
+    }
+    false
+}
+
+// Whether a coordinate is no place. Without extras every number is an x or a y.
+fn any_nowhere(numbers: &[u64], width: usize) -> bool
+    requires { ⌜ (2 ≤ width) × Whole width (now numbers) ⌝ }
+    ensures { λ r. ⌜ r ≡ anyNowhere (points width (now (numbers .entry))) ⌝ }
+{
+    if width == 2 {
+        return any_wild(numbers);
+    }
+    any_nowhere_wide(numbers, width)
 }
 
 // Whether the groups or the kinds are not as many as the lines.
@@ -127,6 +155,7 @@ fn room_short(
 
 // The number of the first refusal that applies, or 0.
 pub fn refusal(
+    wkb_type: u32,
     coordinates: &[u64],
     counts: &[u32],
     groups: &[u32],
@@ -139,10 +168,14 @@ pub fn refusal(
     spare: &[u64],
     workspace: &[u64],
 ) -> u64
-    ensures { λ r. ⌜ r ≡ refusalOf
+    ensures { λ r. ⌜ r ≡ refusalOf «wkb_type»
         (lent (now (coordinates .entry)) (now (counts .entry)) (now (groups .entry)) (now (kinds .entry))) settings
         (rooms (now (table .entry)) (now (members .entry)) (now (marks .entry)) (now (merged .entry)) (now (spare .entry)) (now (workspace .entry))) ⌝ }
 {
+    let width = point_numbers::width_of(wkb_type);
+    if width == 0 {
+        return 12;
+    }
     let n = counts.len();
     let numbers = coordinates.len();
     if MOST_LINES < n {
@@ -154,13 +187,14 @@ pub fn refusal(
     if any_above_one(kinds) {
         return 3;
     }
-    if total(counts) * 2 != numbers as u64 {
+    let c = total(counts);
+    if c * width as u64 != numbers as u64 {
         return 4;
     }
-    if MOST_NUMBERS < numbers {
+    if (MOST_POINTS as u64) < c {
         return 5;
     }
-    if any_nowhere(coordinates) {
+    if any_nowhere(coordinates, width) {
         return 15;
     }
     if switch_bad(settings.switch, settings.limit) {

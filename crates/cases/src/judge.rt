@@ -122,10 +122,10 @@ fn shows<'a>(
     let mut at = 0;
     let mut k = 0;
     while k < chains {
-        if !accepted(build_question::chain(input, merged, table, k), 0) {
+        if !accepted(build_question::chain(2, input, merged, table, k), 0) {
             return false;
         }
-        let part = build_question::view(input, merged, table, k);
+        let part = build_question::view(2, input, merged, table, k);
         if laid.len() - at < part.len() {
             return false;
         }
@@ -136,7 +136,7 @@ fn shows<'a>(
         at = end;
         k += 1;
     }
-    at == laid.len() && refused(build_question::chain(input, merged, table, chains), 10)
+    at == laid.len() && refused(build_question::chain(2, input, merged, table, chains), 10)
 }
 
 // The lines at tolerance 0 and with the switch at 0.
@@ -186,6 +186,7 @@ fn leaves(
     let mut spare = [7u64; 16];
     let mut workspace = [7u64; 580];
     let answer = build_chains::build(
+        2,
         coordinates,
         counts,
         groups,

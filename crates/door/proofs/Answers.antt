@@ -23,9 +23,9 @@ unfolding answerOf unless
 proper-answer zero n = tt
 proper-answer (suc k) n = omega arith
 
-pub proper-asked : (r : Answer) (width : ℕ) (input merged table : List ℕ) (k : ℕ) → r ≡ asked width input merged table k → Proper r
+pub proper-asked : (r : Answer) (t : ℕ) (input merged table : List ℕ) (k : ℕ) → r ≡ asked t input merged table k → Proper r
 unfolding asked
-proper-asked r width input merged table k e = subst Proper (sym e) (proper-answer (chainRefusalOf width input merged table k) 0)
+proper-asked r t input merged table k e = subst Proper (sym e) (proper-answer (chainRefusalOf t input merged table k) 0)
 
 pub proper-paired : {alone : Bool} {i : LentEnds} {r : Answer} {pairs workspace : List ℕ} → Paired alone i r pairs workspace → Proper r
 proper-paired {alone} {i} p = subst Proper (sym (p .answer)) (proper-answer (pairRefusalOf alone i) (length (pairsOf i)))
@@ -33,16 +33,16 @@ proper-paired {alone} {i} p = subst Proper (sym (p .answer)) (proper-answer (pai
 pub proper-why : {i : LentEnds} {a b : ℕ} {r : Answer} {pairs workspace : List ℕ} → Why i a b r pairs workspace → Proper r
 proper-why {i} {a} {b} w = subst Proper (sym (w .answer)) (proper-answer (whyRefusalOf i a b) (reasonNumber (reasonOf i a b)))
 
-pub proper-built : {l : Lines} {s : Settings} {o : Rooms} {r : Answer} {o′ : Rooms} → Built l s o r o′ → Proper r
-proper-built {l} {s} {o} b = subst Proper (sym (b .answer)) (proper-answer (refusalOf l s o) (builtOf l s .number))
+pub proper-built : {t : ℕ} {l : Lines} {s : Settings} {o : Rooms} {r : Answer} {o′ : Rooms} → Built t l s o r o′ → Proper r
+proper-built {t} {l} {s} {o} b = subst Proper (sym (b .answer)) (proper-answer (refusalOf t l s o) (builtOf t l s .number))
 
 -- ---- one number
 
 pub numbered-once : {P Q : Answer → Type 0} {r r′ : ℕ} → ((a b : Answer) → P a → Q b → a ≡ b) → Numbered P r → Numbered Q r′ → r ≡ r′
 numbered-once same a b = a .number ∙ ap numberOf (same (a .answer) (b .answer) (a .determined) (b .determined)) ∙ sym (b .number)
 
-pub one-building : {l : Lines} {s : Settings} {o : Rooms} {r r′ : ℕ} {o₁ o₂ : Rooms}
-    → Numbered (λ a. Built l s o a o₁) r → Numbered (λ a. Built l s o a o₂) r′ → (r ≡ r′) × (o₁ ≡ o₂)
+pub one-building : {t : ℕ} {l : Lines} {s : Settings} {o : Rooms} {r r′ : ℕ} {o₁ o₂ : Rooms}
+    → Numbered (λ a. Built t l s o a o₁) r → Numbered (λ a. Built t l s o a o₂) r′ → (r ≡ r′) × (o₁ ≡ o₂)
 one-building a b = (numbered-once (λ x y p q. built-once p q .0) a b, built-once (a .determined) (b .determined) .1)
 
 pub one-pairing : (alone : Bool) (i : LentEnds) (r r′ : ℕ) (pairs pairs′ workspace workspace′ : List ℕ)
@@ -62,10 +62,10 @@ one-why i a b r r′ pairs pairs′ workspace workspace′ x y =
     (numbered-once (λ s t p q. why-once i a b s t pairs pairs′ workspace workspace′ p q .0) x y, same .1, same .2)
 
 -- the chain question and the view are equations: one number, and one list of coordinates
-pub one-question : (w : ℕ) (input merged table : List ℕ) (k : ℕ) {r r′ : ℕ}
-    → r ≡ numberOf (asked w input merged table k) → r′ ≡ numberOf (asked w input merged table k) → r ≡ r′
-one-question w input merged table k a b = a ∙ sym b
+pub one-question : (t : ℕ) (input merged table : List ℕ) (k : ℕ) {r r′ : ℕ}
+    → r ≡ numberOf (asked t input merged table k) → r′ ≡ numberOf (asked t input merged table k) → r ≡ r′
+one-question t input merged table k a b = a ∙ sym b
 
-pub one-view : (w : ℕ) (input merged table : List ℕ) (k : ℕ) {v v′ : List ℕ}
-    → v ≡ viewed w input merged table k → v′ ≡ viewed w input merged table k → v ≡ v′
-one-view w input merged table k a b = a ∙ sym b
+pub one-view : (t : ℕ) (input merged table : List ℕ) (k : ℕ) {v v′ : List ℕ}
+    → v ≡ viewed t input merged table k → v′ ≡ viewed t input merged table k → v ≡ v′
+one-view t input merged table k a b = a ∙ sym b

@@ -10,19 +10,19 @@ use Rattle.rules.specs.Wkb.{LentRun, readRefusalOf, Read, LentChains, runOf, wr
 use Rattle.door.specs.Proper.{Proper}
 use Rattle.door.proofs.Answers.{proper-answer, numbered-once}
 
-pub proper-read : {extras : Bool} {i : LentRun} {r : Answer} {coordinates counts type : List ℕ} → Read extras i r coordinates counts type → Proper r
-proper-read {extras} {i} b = subst Proper (sym (b .answer)) (proper-answer (readRefusalOf extras i) (length (i .lengths)))
+pub proper-read : {i : LentRun} {r : Answer} {coordinates counts type : List ℕ} → Read i r coordinates counts type → Proper r
+proper-read {i} b = subst Proper (sym (b .answer)) (proper-answer (readRefusalOf i) (length (i .lengths)))
 
 pub proper-wrote : {i : LentChains} {r : Answer} {run lengths : List ℕ} → Wrote i r run lengths → Proper r
 proper-wrote {i} b = subst Proper (sym (b .answer)) (proper-answer (writeRefusalOf i) (length (runOf i)))
 
 -- ---- one number
 
-pub one-reading : (extras : Bool) (i : LentRun) (r r′ : ℕ) (coordinates coordinates′ counts counts′ type type′ : List ℕ)
-    → Numbered (λ a. Read extras i a coordinates counts type) r
-    → Numbered (λ a. Read extras i a coordinates′ counts′ type′) r′
+pub one-reading : (i : LentRun) (r r′ : ℕ) (coordinates coordinates′ counts counts′ type type′ : List ℕ)
+    → Numbered (λ a. Read i a coordinates counts type) r
+    → Numbered (λ a. Read i a coordinates′ counts′ type′) r′
     → (r ≡ r′) × (coordinates ≡ coordinates′) × (counts ≡ counts′) × (type ≡ type′)
-one-reading extras i r r′ coordinates coordinates′ counts counts′ type type′ a b =
+one-reading i r r′ coordinates coordinates′ counts counts′ type type′ a b =
     let p = a .determined in
     let q = b .determined in (
       numbered-once (λ x y u v. u .answer ∙ sym (v .answer)) a b,

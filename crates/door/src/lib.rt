@@ -9,7 +9,7 @@ ghost use Rattle.rules.specs.Layout.{lent};
 ghost use Rattle.rules.specs.Refusals.{rooms, lentEnds};
 ghost use Rattle.rules.specs.Calls.{numberOf, Numbered, Built, Paired, asked};
 ghost use Rattle.rules.specs.Reasons.{Why};
-ghost use Rattle.rules.specs.Wkb.{ReadPlain, Wrote, chainsAs};
+ghost use Rattle.rules.specs.Wkb.{Read, runAs, Wrote, chainsAs};
 ghost use Rattle.rules.specs.Offset.{offsetAsked, BuiltOffset, PairedOffset, endsFor};
 
 // An answer as a host sees it.
@@ -26,6 +26,7 @@ fn number(answer: Answer) -> u64
 // Building: the number of chains.
 #[no_mangle]
 pub extern "C" fn lovasuku_build(
+    wkb_type: u32,
     coordinates: &[u64],
     counts: &[u32],
     groups: &[u32],
@@ -40,12 +41,13 @@ pub extern "C" fn lovasuku_build(
     spare: &mut [u64],
     workspace: &mut [u64],
 ) -> u64
-    ensures { λ r. ⌜ Numbered (λ a. Built (lent (now (coordinates .entry)) (now (counts .entry)) (now (groups .entry)) (now (kinds .entry)))
+    ensures { λ r. ⌜ Numbered (λ a. Built «wkb_type» (lent (now (coordinates .entry)) (now (counts .entry)) (now (groups .entry)) (now (kinds .entry)))
         (record { tolerance = tolerance; switch = switch; limit = limit })
         (rooms (now (table .entry)) (now (members .entry)) (now (marks .entry)) (now (merged .entry)) (now (spare .entry)) (now (workspace .entry)))
         a (rooms (now (table .exit)) (now (members .exit)) (now (marks .exit)) (now (merged .exit)) (now (spare .exit)) (now (workspace .exit)))) r ⌝ }
 {
     number(build_chains::build(
+        wkb_type,
         coordinates,
         counts,
         groups,
@@ -134,12 +136,18 @@ pub extern "C" fn lovasuku_why(
     number(pair_why::why(present, directions, pieces, limit, i, j, pairs, workspace))
 }
 
-// The chain question: 0, or -10 where the table has no chain k in these coordinates.
+// The chain question: 0, -12 for a number that is no type, or -10 where the table has no chain k in these coordinates.
 #[no_mangle]
-pub extern "C" fn lovasuku_chain(coordinates: &[u64], merged: &[u64], table: &[u32], k: u64) -> u64
-    ensures { λ r. ⌜ r ≡ numberOf (asked 2 (now (coordinates .entry)) (now (merged .entry)) (now (table .entry)) k) ⌝ }
+pub extern "C" fn lovasuku_chain(
+    wkb_type: u32,
+    coordinates: &[u64],
+    merged: &[u64],
+    table: &[u32],
+    k: u64,
+) -> u64
+    ensures { λ r. ⌜ r ≡ numberOf (asked «wkb_type» (now (coordinates .entry)) (now (merged .entry)) (now (table .entry)) k) ⌝ }
 {
-    number(build_question::chain(coordinates, merged, table, k as usize))
+    number(build_question::chain(wkb_type, coordinates, merged, table, k as usize))
 }
 
 // WKB in: the number of records.
@@ -149,16 +157,18 @@ pub extern "C" fn lovasuku_read_wkb(
     lengths: &[u64],
     coordinates: &mut [u64],
     counts: &mut [u32],
+    wkb_type: &mut [u32],
 ) -> u64
-    ensures { λ r. ⌜ Numbered (λ a. ReadPlain (now (run .entry)) (now (lengths .entry)) (now (coordinates .entry)) (now (counts .entry))
-        a (now (coordinates .exit)) (now (counts .exit))) r ⌝ }
+    ensures { λ r. ⌜ Numbered (λ a. Read (runAs (now (run .entry)) (now (lengths .entry)) (now (coordinates .entry)) (now (counts .entry)) (now («wkb_type» .entry)))
+        a (now (coordinates .exit)) (now (counts .exit)) (now («wkb_type» .exit))) r ⌝ }
 {
-    number(wkb_reading::read(run, lengths, coordinates, counts))
+    number(wkb_reading::read(run, lengths, coordinates, counts, wkb_type))
 }
 
 // WKB out: the number of bytes.
 #[no_mangle]
 pub extern "C" fn lovasuku_write_wkb<'a>(
+    wkb_type: u32,
     coordinates: &'a [u64],
     merged: &'a [u64],
     table: &[u32],
@@ -167,10 +177,10 @@ pub extern "C" fn lovasuku_write_wkb<'a>(
     run: &mut [u8],
     lengths: &mut [u64],
 ) -> u64
-    ensures { λ r. ⌜ Numbered (λ a. Wrote (chainsAs 2 (now (coordinates .entry)) (now (merged .entry)) (now (table .entry)) k order
+    ensures { λ r. ⌜ Numbered (λ a. Wrote (chainsAs «wkb_type» (now (coordinates .entry)) (now (merged .entry)) (now (table .entry)) k order
         (now (run .entry)) (now (lengths .entry))) a (now (run .exit)) (now (lengths .exit))) r ⌝ }
 {
-    number(wkb_writing::write(2, coordinates, merged, table, k, order, run, lengths))
+    number(wkb_writing::write(wkb_type, coordinates, merged, table, k, order, run, lengths))
 }
 
 // The limit that an offset stands for: its 64 bits.
@@ -184,6 +194,7 @@ pub extern "C" fn lovasuku_offset_limit(offset: u32) -> u64
 // Building with an offset in the limit's place: the number of chains.
 #[no_mangle]
 pub extern "C" fn lovasuku_build_offset(
+    wkb_type: u32,
     coordinates: &[u64],
     counts: &[u32],
     groups: &[u32],
@@ -198,12 +209,13 @@ pub extern "C" fn lovasuku_build_offset(
     spare: &mut [u64],
     workspace: &mut [u64],
 ) -> u64
-    ensures { λ r. ⌜ Numbered (λ a. BuiltOffset (lent (now (coordinates .entry)) (now (counts .entry)) (now (groups .entry)) (now (kinds .entry)))
+    ensures { λ r. ⌜ Numbered (λ a. BuiltOffset «wkb_type» (lent (now (coordinates .entry)) (now (counts .entry)) (now (groups .entry)) (now (kinds .entry)))
         tolerance switch offset
         (rooms (now (table .entry)) (now (members .entry)) (now (marks .entry)) (now (merged .entry)) (now (spare .entry)) (now (workspace .entry)))
         a (rooms (now (table .exit)) (now (members .exit)) (now (marks .exit)) (now (merged .exit)) (now (spare .exit)) (now (workspace .exit)))) r ⌝ }
 {
     number(offset_calls::build_offset(
+        wkb_type,
         coordinates,
         counts,
         groups,

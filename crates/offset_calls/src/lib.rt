@@ -25,8 +25,9 @@ fn renumbered(switch: u8, answer: Answer) -> Answer
     answer
 }
 
-// Builds the chains of a call. A refused call changes no slice.
+// Builds the chains of a call, of lines of a type. A refused call changes no slice.
 pub fn build_offset(
+    wkb_type: u32,
     coordinates: &[u64],
     counts: &[u32],
     groups: &[u32],
@@ -41,7 +42,7 @@ pub fn build_offset(
     spare: &mut [u64],
     workspace: &mut [u64],
 ) -> Answer
-    ensures { λ r. ⌜ BuiltOffset (lent (now (coordinates .entry)) (now (counts .entry)) (now (groups .entry)) (now (kinds .entry))) tolerance switch offset
+    ensures { λ r. ⌜ BuiltOffset «wkb_type» (lent (now (coordinates .entry)) (now (counts .entry)) (now (groups .entry)) (now (kinds .entry))) tolerance switch offset
         (rooms (now (table .entry)) (now (members .entry)) (now (marks .entry)) (now (merged .entry)) (now (spare .entry)) (now (workspace .entry)))
         r (rooms (now (table .exit)) (now (members .exit)) (now (marks .exit)) (now (merged .exit)) (now (spare .exit)) (now (workspace .exit))) ⌝ }
 {
@@ -49,6 +50,7 @@ pub fn build_offset(
     renumbered(
         switch,
         build_chains::build(
+            wkb_type,
             coordinates,
             counts,
             groups,

@@ -11,9 +11,10 @@ use lib.Ieee.{ofBits, lt, eq, le, add, sub, mul, div}
 use Rattle.rules.specs.Root.{root}
 use Rattle.rules.specs.Plane.{float, sameInt, unity, nought}
 use Rattle.rules.specs.Cell.{cell}
-use Rattle.rules.specs.Layout.{listed, lent, build}
+use Rattle.rules.specs.Library.{Settings}
+use Rattle.rules.specs.Layout.{Lines, listed, lent}
 use Rattle.rules.specs.Refusals.{rooms, refusalOf, pairRefusalOf, mostPoints}
-use Rattle.rules.specs.Calls.{pairsOf}
+use Rattle.rules.specs.Calls.{builtOf, pairsOf}
 use Rattle.rules.proofs.Computing.{book}
 use Rattle.rules.proofs.Given.{
   +0,
@@ -248,7 +249,7 @@ slips = tt
 refusedBy : ℕ → ℕ → ℕ → ℕ
 unfolding book
 refusedBy kind switch x =
-    refusalOf (lent (+0 ∷ +0 ∷ +1 ∷ +0 ∷ +1 ∷ x ∷ []) (2 ∷ 1 ∷ []) (0 ∷ 0 ∷ []) (0 ∷ kind ∷ []))
+    refusalOf 2 (lent (+0 ∷ +0 ∷ +1 ∷ +0 ∷ +1 ∷ x ∷ []) (2 ∷ 1 ∷ []) (0 ∷ 0 ∷ []) (0 ∷ kind ∷ []))
     (record { tolerance = float +0; switch = switch; limit = float +0 })
     (rooms [] [] [] [] [] [])
 
@@ -257,7 +258,7 @@ tooMany : ℕ
 unfolding book
 tooMany =
     let numbers = mostPoints * 2 + 2 in
-    refusalOf (lent (replicate numbers not-a-number) ((mostPoints + 1) ∷ []) (0 ∷ []) (0 ∷ []))
+    refusalOf 2 (lent (replicate numbers not-a-number) ((mostPoints + 1) ∷ []) (0 ∷ []) (0 ∷ []))
     (record { tolerance = float +0; switch = 0; limit = float +0 })
     (rooms [] [] [] [] [] [])
 
@@ -305,13 +306,24 @@ pub places : T (every placeCases)
 unfolding placeCases lt eq le add sub mul div root ofBits
 places = tt
 
--- Points of three numbers: the extras ride along, also where a line is turned, and of a repeated x, y the earlier one's remain.
+-- Heights: they ride along, a NaN too, also where a line is turned, and of a repeated x, y the earlier one's remains. A number that is no type is refused
+-- first of all; points of three numbers are no points of two.
+abbrev heights : Lines
+heights = lent (+0 ∷ +0 ∷ not-a-number ∷ +1 ∷ +0 ∷ 6 ∷ +2 ∷ +0 ∷ 8 ∷ +1 ∷ -0 ∷ 7 ∷ []) (2 ∷ 2 ∷ []) (0 ∷ 0 ∷ []) (0 ∷ 0 ∷ [])
+
+abbrev coarsely : Settings
+coarsely = record { tolerance = float +1; switch = 0; limit = float +0 }
+
+abbrev refusal : ℕ → ℕ → ℕ
+refusal t numbers = refusalOf t heights coarsely (rooms (replicate 10 0) (replicate 2 0) (replicate 2 0) (replicate numbers 0) (replicate numbers 0) (replicate 384 0))
+
 pub extrasRide : Bool
 unfolding book
 extrasRide =
-    let r = build 3 (record { tolerance = float +1; switch = 0; limit = float +0 })
-    (lent (+0 ∷ +0 ∷ 5 ∷ +1 ∷ +0 ∷ 6 ∷ +2 ∷ +0 ∷ 8 ∷ +1 ∷ -0 ∷ 7 ∷ []) (2 ∷ 2 ∷ []) (0 ∷ 0 ∷ []) (0 ∷ 0 ∷ [])) in
-    same (r .merged) (+0 ∷ +0 ∷ 5 ∷ +1 ∷ +0 ∷ 6 ∷ +2 ∷ +0 ∷ 8 ∷ []) && same (r .marks) (0 ∷ 1 ∷ [])
+    let r = builtOf 1002 heights coarsely in
+    same (r .merged) (+0 ∷ +0 ∷ not-a-number ∷ +1 ∷ +0 ∷ 6 ∷ +2 ∷ +0 ∷ 8 ∷ [])
+    && same (r .marks) (0 ∷ 1 ∷ [])
+    && same (refusal 1002 12 ∷ refusal 2002 12 ∷ refusal 1002 11 ∷ refusal 2 12 ∷ refusal 3002 12 ∷ refusal 3 0 ∷ []) (0 ∷ 0 ∷ 7 ∷ 4 ∷ 4 ∷ 12 ∷ [])
 
 pub extrasRidden : T extrasRide
 unfolding extrasRide lt eq div

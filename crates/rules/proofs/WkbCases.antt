@@ -4,12 +4,13 @@ use mathlib.Core.List.{flatMap}
 use Rattle.rules.specs.Library.{ℕ, _*_, _≡_, true, false, List, [], _∷_, _++_, replicate}
 use Rattle.rules.specs.Lists.{total, from}
 use Rattle.rules.specs.Refusals.{firstOf, sourceOf, noChain, chainRefusalOf}
+use Rattle.rules.specs.Types.{widthOf}
 use Rattle.rules.specs.Calls.{unless, viewed}
-use Rattle.rules.specs.Wkb.{little, numberBy, littleBytes, bytesBy, recordBy, widthOf, byteOrder, typeOf, countOf, doublesBy, doublesOf, recordsOf, coordinatesOf, countsOf, runType, recordRefusal, recordsRefusal, runRefusal, LentRun, lentRecords, told, readRefusalOf, LentChains, chainRecord, runOf, lengthsOf, anyMissing, writeRefusalOf}
+use Rattle.rules.specs.Wkb.{little, numberBy, littleBytes, bytesBy, recordBy, byteOrder, typeOf, countOf, doublesBy, doublesOf, recordsOf, coordinatesOf, countsOf, runType, recordRefusal, recordsRefusal, runRefusal, LentRun, lentRecords, readRefusalOf, LentChains, chainRecord, runOf, lengthsOf, anyMissing, writeRefusalOf}
 
 -- everything that is run through
 unfoldable reading : Unit {0}
-unfolding little numberBy widthOf byteOrder typeOf countOf doublesBy doublesOf recordsOf coordinatesOf countsOf runType recordRefusal recordsRefusal runRefusal lentRecords told readRefusalOf firstOf total
+unfolding little numberBy widthOf byteOrder typeOf countOf doublesBy doublesOf recordsOf coordinatesOf countsOf runType recordRefusal recordsRefusal runRefusal lentRecords readRefusalOf firstOf total
 reading = tt
 
 -- the bits of 1.0, and of a NaN that keeps its payload
@@ -46,14 +47,14 @@ third = 0 ∷ 0 ∷ 0 ∷ 11 ∷ 186 ∷ 0 ∷ 0 ∷ 0 ∷ 0 ∷ []
 abbrev lent : List ℕ → List ℕ → ℕ → ℕ → LentRun
 lent run lengths c n = record { run = run; lengths = lengths; coordinates = replicate (c * 2) 7; counts = replicate n 7; type = 7 ∷ [] }
 
-pub runs-read : (readRefusalOf false (lent (first ++ (second ++ turned)) (25 ∷ 9 ∷ 25 ∷ []) 2 3) ≡ 0)
+pub runs-read : (readRefusalOf (lent (first ++ (second ++ turned)) (25 ∷ 9 ∷ 25 ∷ []) 2 3) ≡ 0)
     × (coordinatesOf (lentRecords (lent (first ++ (second ++ turned)) (25 ∷ 9 ∷ 25 ∷ []) 2 3)) ≡ replicate 4 one)
     × (countsOf (lentRecords (lent (first ++ (second ++ turned)) (25 ∷ 9 ∷ 25 ∷ []) 2 3)) ≡ 1 ∷ 0 ∷ 1 ∷ [])
 unfolding reading
 runs-read = (refl, refl, refl)
 
 -- no records: accepted, of type 2
-pub none-read : (readRefusalOf false (lent [] [] 0 0) ≡ 0) × (told true (runType (lentRecords (lent [] [] 0 0))) ≡ 2 ∷ [])
+pub none-read : (readRefusalOf (lent [] [] 0 0) ≡ 0) × (runType (lentRecords (lent [] [] 0 0)) ≡ 2)
 unfolding reading
 none-read = (refl, refl)
 
@@ -63,24 +64,27 @@ header o t c = o ∷ 0 ∷ 0 ∷ 0 ∷ t ∷ 0 ∷ 0 ∷ 0 ∷ c ∷ []
 
 pub read-refusals :
     -- the lengths don't add up to the run, or their sum is as long only where it wraps at 2 ^ 64; no record is looked at
-    (readRefusalOf false (lent second (8 ∷ []) 0 1) ≡ 13)
-    × (readRefusalOf false (lent (header 2 3 1) (18446744073709551615 ∷ 10 ∷ []) 0 0) ≡ 13)
+    (readRefusalOf (lent second (8 ∷ []) 0 1) ≡ 13)
+    × (readRefusalOf (lent (header 2 3 1) (18446744073709551615 ∷ 10 ∷ []) 0 0) ≡ 13)
     -- the header doesn't fit; an order of 2; type 3; the count disagrees
-    × (readRefusalOf false (lent (9 ∷ []) (1 ∷ []) 0 1) ≡ 13)
-    × (readRefusalOf false (lent (header 2 3 1) (9 ∷ []) 0 0) ≡ 11)
-    × (readRefusalOf false (lent (header 0 3 1) (9 ∷ []) 0 0) ≡ 12)
-    × (readRefusalOf false (lent (header 0 2 1) (9 ∷ []) 0 0) ≡ 13)
+    × (readRefusalOf (lent (9 ∷ []) (1 ∷ []) 0 1) ≡ 13)
+    × (readRefusalOf (lent (header 2 3 1) (9 ∷ []) 0 0) ≡ 11)
+    × (readRefusalOf (lent (header 0 3 1) (9 ∷ []) 0 0) ≡ 12)
+    × (readRefusalOf (lent (header 0 2 1) (9 ∷ []) 0 0) ≡ 13)
     -- the first bad record decides, and the rooms are judged after all
-    × (readRefusalOf false (lent (header 0 3 0 ++ header 2 2 0) (9 ∷ 9 ∷ []) 0 0) ≡ 12)
-    × (readRefusalOf false (lent (first ++ header 2 2 0) (25 ∷ 9 ∷ []) 0 0) ≡ 11)
-    × (readRefusalOf false (lent first (25 ∷ []) 0 1) ≡ 14)
-    × (readRefusalOf false (lent first (25 ∷ []) 1 0) ≡ 14)
-    -- a type that is known with extras only, and a run that mixes types
-    × (readRefusalOf false (lent third (9 ∷ []) 0 1) ≡ 12)
-    × (readRefusalOf true (lent third (9 ∷ []) 0 1) ≡ 0)
-    × (readRefusalOf true (lent (second ++ third) (9 ∷ 9 ∷ []) 0 2) ≡ 25)
+    × (readRefusalOf (lent (header 0 3 0 ++ header 2 2 0) (9 ∷ 9 ∷ []) 0 0) ≡ 12)
+    × (readRefusalOf (lent (first ++ header 2 2 0) (25 ∷ 9 ∷ []) 0 0) ≡ 11)
+    × (readRefusalOf (lent first (25 ∷ []) 0 1) ≡ 14)
+    × (readRefusalOf (lent first (25 ∷ []) 1 0) ≡ 14)
+    -- a ZM line, and a run that mixes types; what is no type is 12, never 25; the type is looked at before the count
+    × (readRefusalOf (lent third (9 ∷ []) 0 1) ≡ 0)
+    × (readRefusalOf (lent (second ++ third) (9 ∷ 9 ∷ []) 0 2) ≡ 25)
+    × (readRefusalOf (lent (third ++ header 0 3 0) (9 ∷ 9 ∷ []) 0 2) ≡ 12)
+    × (readRefusalOf (lent (third ++ header 0 2 1) (9 ∷ 9 ∷ []) 0 2) ≡ 25)
+    -- no room for the type, also for no records
+    × (readRefusalOf (record { run = []; lengths = []; coordinates = []; counts = []; type = [] }) ≡ 14)
 unfolding reading
-read-refusals = (refl, refl, refl, refl, refl, refl, refl, refl, refl, refl, refl, refl, refl)
+read-refusals = (refl, refl, refl, refl, refl, refl, refl, refl, refl, refl, refl, refl, refl, refl, refl)
 
 -- ---- writing
 

@@ -3,6 +3,7 @@
 use Rattle.rules.specs.Library.{ℕ, zero, suc, _-_, _*_, _^_, _≡_, Bool, List, [], _++_, length, take, drop, replicate, Answer, Accepted, Refused, Settings}
 use Rattle.rules.specs.Selecting.{End, Pair, select}
 use Rattle.rules.specs.Layout.{Lines, Laid, build, ends, listed}
+use Rattle.rules.specs.Types.{widthOf}
 use Rattle.rules.specs.Refusals.{Rooms, LentEnds, refusalOf, pairRefusalOf, chainRefusalOf, sourceOf, entry, lineRoom, endRoom}
 
 -- the number that a host sees: a result counts up from 0, and refusal k is k below 2 ^ 64, which is -k
@@ -31,25 +32,25 @@ written out l = out ++ drop (length out) l
 unfoldable pub cleared : ℕ → List ℕ → List ℕ
 cleared n l = replicate n 0 ++ drop n l
 
--- ---- building
-abbrev pub builtOf : Lines → Settings → Laid
-builtOf l s = build 2 s l
+-- ---- building, of lines of type t
+abbrev pub builtOf : ℕ → Lines → Settings → Laid
+builtOf t l s = build (widthOf t) s l
 
 -- the rooms with the answer written over their beginnings, and with zeros where it was worked out
-unfoldable pub filled : Lines → Settings → Rooms → Rooms
-filled l s o =
+unfoldable pub filled : ℕ → Lines → Settings → Rooms → Rooms
+filled t l s o =
     record {
-      table = written (builtOf l s .records) (o .table);
-      members = written (builtOf l s .members) (o .members);
-      marks = written (builtOf l s .marks) (o .marks);
-      merged = written (builtOf l s .merged) (o .merged);
+      table = written (builtOf t l s .records) (o .table);
+      members = written (builtOf t l s .members) (o .members);
+      marks = written (builtOf t l s .marks) (o .marks);
+      merged = written (builtOf t l s .merged) (o .merged);
       spare = cleared (length (l .coordinates)) (o .spare);
       workspace = cleared (length (l .counts) * lineRoom) (o .workspace);
     }
 
-pub record Built (l : Lines) (s : Settings) (o : Rooms) (r : Answer) (o′ : Rooms) : Type 0 where
-  pub answer : r ≡ answerOf (refusalOf l s o) (builtOf l s .number)
-  pub rooms : o′ ≡ unless (refusalOf l s o) o (filled l s o)
+pub record Built (t : ℕ) (l : Lines) (s : Settings) (o : Rooms) (r : Answer) (o′ : Rooms) : Type 0 where
+  pub answer : r ≡ answerOf (refusalOf t l s o) (builtOf t l s .number)
+  pub rooms : o′ ≡ unless (refusalOf t l s o) o (filled t l s o)
 
 -- ---- pairing, by whichever route; `alone` for the indexed one
 abbrev pub endsOf : LentEnds → List End
@@ -63,12 +64,12 @@ pub record Paired (alone : Bool) (i : LentEnds) (r : Answer) (pairs′ workspace
   pub pairs : pairs′ ≡ unless (pairRefusalOf alone i) (i .pairs) (written (listed (pairsOf i)) (i .pairs))
   pub workspace : workspace′ ≡ unless (pairRefusalOf alone i) (i .workspace) (cleared (length (i .pieces) * endRoom) (i .workspace))
 
--- ---- the chain question and the view, of points of w numbers each
+-- ---- the chain question and the view, of chains of type t
 unfoldable pub asked : ℕ → List ℕ → List ℕ → List ℕ → ℕ → Answer
-asked w input merged table k = answerOf (chainRefusalOf w input merged table k) 0
+asked t input merged table k = answerOf (chainRefusalOf t input merged table k) 0
 
 -- chain k's coordinates, a part of the slice that its source names; no part of the input where there is no such chain
 unfoldable pub viewed : ℕ → List ℕ → List ℕ → List ℕ → ℕ → List ℕ
-viewed w input merged table k =
-    unless (chainRefusalOf w input merged table k) []
-    (take (entry table k 4 * w) (drop (entry table k 3 * w) (sourceOf (entry table k 2) input merged)))
+viewed t input merged table k =
+    unless (chainRefusalOf t input merged table k) []
+    (take (entry table k 4 * widthOf t) (drop (entry table k 3 * widthOf t) (sourceOf (entry table k 2) input merged)))

@@ -1,8 +1,9 @@
--- 02, WKB in and out: lines as records of OGC 06-103r4. A record is bytes: one for the byte order, four for the type, four for the count of coordinates, and
--- eight for each double. All is said over the width of a type, how many doubles a coordinate has, so that types with extras are the same definitions.
+-- 02, WKB in and out, and Heights and measures: lines as records of OGC 06-103r4. A record is bytes: one for the byte order, four for the type, four for the
+-- count of coordinates, and eight for each double. All is said over the width of a type, how many doubles a coordinate has.
 use Rattle.rules.specs.Library.{ℕ, zero, suc, _+_, _-_, _*_, _/_, _%_, _≡_, Bool, true, false, not, _||_, List, [], _∷_, _++_, map, flatMap, reverse, length, take, drop, getD, eqb, ltb, Answer}
 use Rattle.rules.specs.Lists.{total, from}
 use Rattle.rules.specs.Refusals.{firstOf, short, entry, noChain}
+use Rattle.rules.specs.Types.{widthOf, noType}
 use Rattle.rules.specs.Calls.{unless, answerOf, written, viewed}
 
 -- ---- numbers as bytes
@@ -24,13 +25,6 @@ littleBytes (suc k) n = n % 256 ∷ littleBytes k (n / 256)
 unfoldable pub bytesBy : ℕ → ℕ → ℕ → List ℕ
 bytesBy zero k n = reverse (littleBytes k n)
 bytesBy (suc o) k n = littleBytes k n
-
--- ---- types
--- The width of a type, and 0 for a number that is no type. Without extras there is type 2 alone; with them there are 2, 1002 (Z), 2002 (M) and 3002 (ZM).
-unfoldable pub widthOf : Bool → ℕ → ℕ
-widthOf false t = elim (eqb t 2) [ true ↦ 2 | false ↦ 0 ]
-widthOf true t =
-    elim (eqb t 2) [ true ↦ 2 | false ↦ elim (eqb t 1002) [ true ↦ 3 | false ↦ elim (eqb t 2002) [ true ↦ 3 | false ↦ elim (eqb t 3002) [ true ↦ 4 | false ↦ 0 ] ] ] ]
 
 -- ---- a record
 abbrev pub headerSize : ℕ
@@ -82,27 +76,27 @@ runType (r ∷ l) = elim (ltb (length r) headerSize) [ true ↦ 2 | false ↦ ty
 
 -- ---- refusals of reading
 -- of one record in a run of type t
-unfoldable pub recordRefusal : Bool → ℕ → List ℕ → ℕ
-recordRefusal extras t r =
+unfoldable pub recordRefusal : ℕ → List ℕ → ℕ
+recordRefusal t r =
     firstOf
     ((13, ltb (length r) headerSize)
     ∷ (11, ltb 1 (byteOrder r))
-    ∷ (12, eqb (widthOf extras (typeOf r)) 0)
+    ∷ (12, noType (typeOf r))
     ∷ (25, not (eqb (typeOf r) t))
-    ∷ (13, not (eqb (length r) (sizeOf (widthOf extras (typeOf r)) (countOf r))))
+    ∷ (13, not (eqb (length r) (sizeOf (widthOf (typeOf r)) (countOf r))))
     ∷ [])
 
 -- the first bad record decides
-unfoldable pub recordsRefusal : Bool → ℕ → List (List ℕ) → ℕ
-recordsRefusal extras t [] = 0
-recordsRefusal extras t (r ∷ l) = elim (eqb (recordRefusal extras t r) 0) [ true ↦ recordsRefusal extras t l | false ↦ recordRefusal extras t r ]
+unfoldable pub recordsRefusal : ℕ → List (List ℕ) → ℕ
+recordsRefusal t [] = 0
+recordsRefusal t (r ∷ l) = elim (eqb (recordRefusal t r) 0) [ true ↦ recordsRefusal t l | false ↦ recordRefusal t r ]
 
 -- before any record, the lengths add up to the run's; a sum is a whole number, and none is too great
-unfoldable pub runRefusal : Bool → List ℕ → List ℕ → ℕ
-runRefusal extras run lengths =
-    elim (eqb (total lengths) (length run)) [ true ↦ recordsRefusal extras (runType (recordsOf lengths run)) (recordsOf lengths run) | false ↦ 13 ]
+unfoldable pub runRefusal : List ℕ → List ℕ → ℕ
+runRefusal run lengths =
+    elim (eqb (total lengths) (length run)) [ true ↦ recordsRefusal (runType (recordsOf lengths run)) (recordsOf lengths run) | false ↦ 13 ]
 
--- what a reading call lends, as it stands at entry; `type` is the room for the run's type, which is told where extras are read
+-- what a reading call lends, as it stands at entry; `type` is the room for the run's type
 pub record LentRun : Type 0 where
   pub run : List ℕ
   pub lengths : List ℕ
@@ -110,31 +104,25 @@ pub record LentRun : Type 0 where
   pub counts : List ℕ
   pub type : List ℕ
 
+abbrev pub runAs : (run lengths coordinates counts type : List ℕ) → LentRun
+runAs run lengths coordinates counts type = record { run = run; lengths = lengths; coordinates = coordinates; counts = counts; type = type }
+
 unfoldable pub lentRecords : LentRun → List (List ℕ)
 lentRecords i = recordsOf (i .lengths) (i .run)
 
-unfoldable pub told : Bool → ℕ → List ℕ
-told true t = t ∷ []
-told false t = []
-
 -- the run's, and after all its records the rooms'
-unfoldable pub readRefusalOf : Bool → LentRun → ℕ
-readRefusalOf extras i =
-    let refused = runRefusal extras (i .run) (i .lengths) in
-    let rows = short (i .counts) (length (i .lengths)) || short (i .type) (length (told extras (runType (lentRecords i)))) in
+unfoldable pub readRefusalOf : LentRun → ℕ
+readRefusalOf i =
+    let refused = runRefusal (i .run) (i .lengths) in
+    let rows = short (i .counts) (length (i .lengths)) || short (i .type) 1 in
     firstOf ((refused, not (eqb refused 0)) ∷ (14, short (i .coordinates) (length (coordinatesOf (lentRecords i))) || rows) ∷ [])
 
--- ---- what reading determines: the number of records, their coordinates and counts, and their type where extras are read
-pub record Read (extras : Bool) (i : LentRun) (r : Answer) (coordinates′ counts′ type′ : List ℕ) : Type 0 where
-  pub answer : r ≡ answerOf (readRefusalOf extras i) (length (i .lengths))
-  pub coordinates : coordinates′ ≡ unless (readRefusalOf extras i) (i .coordinates) (written (coordinatesOf (lentRecords i)) (i .coordinates))
-  pub counts : counts′ ≡ unless (readRefusalOf extras i) (i .counts) (written (countsOf (lentRecords i)) (i .counts))
-  pub type : type′ ≡ unless (readRefusalOf extras i) (i .type) (written (told extras (runType (lentRecords i))) (i .type))
-
--- without extras nothing is lent for the type
-abbrev pub ReadPlain : (run lengths coordinates counts : List ℕ) → Answer → List ℕ → List ℕ → Type 0
-ReadPlain run lengths coordinates counts r coordinates′ counts′ =
-    Read false (record { run = run; lengths = lengths; coordinates = coordinates; counts = counts; type = [] }) r coordinates′ counts′ []
+-- ---- what reading determines: the number of records, their coordinates and counts, and their type
+pub record Read (i : LentRun) (r : Answer) (coordinates′ counts′ type′ : List ℕ) : Type 0 where
+  pub answer : r ≡ answerOf (readRefusalOf i) (length (i .lengths))
+  pub coordinates : coordinates′ ≡ unless (readRefusalOf i) (i .coordinates) (written (coordinatesOf (lentRecords i)) (i .coordinates))
+  pub counts : counts′ ≡ unless (readRefusalOf i) (i .counts) (written (countsOf (lentRecords i)) (i .counts))
+  pub type : type′ ≡ unless (readRefusalOf i) (i .type) (written (runType (lentRecords i) ∷ []) (i .type))
 
 -- ---- writing
 -- what a writing call lends, as it stands at entry: the first `number` chains of a table, for records of a type in a byte order
@@ -150,7 +138,7 @@ pub record LentChains : Type 0 where
 
 -- chain k as a record; its doubles are the view's
 unfoldable pub chainRecord : LentChains → ℕ → List ℕ
-chainRecord i k = recordBy (i .order) (i .type) (entry (i .table) k 4) (viewed (widthOf true (i .type)) (i .input) (i .merged) (i .table) k)
+chainRecord i k = recordBy (i .order) (i .type) (entry (i .table) k 4) (viewed (i .type) (i .input) (i .merged) (i .table) k)
 
 unfoldable pub runOf : LentChains → List ℕ
 runOf i = flatMap (chainRecord i) (from 0 (i .number))
@@ -167,9 +155,9 @@ anyMissing w input merged table k (suc n) = elim (noChain w input merged table k
 unfoldable pub writeRefusalOf : LentChains → ℕ
 writeRefusalOf i =
     firstOf
-    ((12, eqb (widthOf true (i .type)) 0)
+    ((12, noType (i .type))
     ∷ (16, ltb 1 (i .order))
-    ∷ (10, anyMissing (widthOf true (i .type)) (i .input) (i .merged) (i .table) 0 (i .number))
+    ∷ (10, anyMissing (widthOf (i .type)) (i .input) (i .merged) (i .table) 0 (i .number))
     ∷ (14, short (i .run) (length (runOf i)) || short (i .lengths) (i .number))
     ∷ [])
 

@@ -12,7 +12,8 @@ use borrow.Author.Tests.{eqb-true, eqb-false, eq-eqb, ne-eqb, lt-ltb, le-ltb}
 use Rattle.rules.specs.Lists.{total}
 use Rattle.build_refusals.proofs.Laws.{Left}
 use Rattle.wkb_records.proofs.Records.{records-step, records-none, refusal-pass, refusal-stop}
-use Rattle.rules.specs.Wkb.{widthOf, byteOrder, typeOf, countOf, recordsOf, runType, recordRefusal, recordsRefusal}
+use Rattle.rules.specs.Types.{widthOf}
+use Rattle.rules.specs.Wkb.{byteOrder, typeOf, countOf, recordsOf, runType, recordRefusal, recordsRefusal}
 
 -- the part from f to f + c has c elements
 pub part-is : (l : List ℕ) (f c : ℕ) → take (f + c - f) (drop f l) ≡ take c (drop f l)
@@ -20,18 +21,18 @@ part-is l f c = let p : f + c - f ≡ c = omega arith in rw p
 
 -- ---- the tests of a record, in order
 
-abbrev pub tests : Bool → ℕ → List ℕ → List (ℕ × Bool)
-tests extras t r =
+abbrev pub tests : ℕ → List ℕ → List (ℕ × Bool)
+tests t r =
     (13, ltb (length r) 9)
     ∷ (11, ltb 1 (byteOrder r))
-    ∷ (12, eqb (widthOf extras (typeOf r)) 0)
+    ∷ (12, eqb (widthOf (typeOf r)) 0)
     ∷ (25, not (eqb (typeOf r) t))
-    ∷ (13, not (eqb (length r) (9 + countOf r * widthOf extras (typeOf r) * 8)))
+    ∷ (13, not (eqb (length r) (9 + countOf r * widthOf (typeOf r) * 8)))
     ∷ []
 
-pub opened : (extras : Bool) (t : ℕ) (r : List ℕ) → Left (recordRefusal extras t r) (tests extras t r)
+pub opened : (t : ℕ) (r : List ℕ) → Left (recordRefusal t r) (tests t r)
 unfolding recordRefusal
-opened extras t r = record { is = refl }
+opened t r = record { is = refl }
 
 -- ---- the lengths, taken from a number one by one
 
@@ -55,15 +56,15 @@ total-end l i h = rw (drop-of-length-le l {i = i} h)
 
 -- ---- the tests of a record, from what the code has at hand: its type, its width and its count
 
-pub own-width : (extras : Bool) (t own w : ℕ) {b : Bool} → own ≡ t → w ≡ widthOf extras own → eqb w 0 ≡ b → eqb (widthOf extras t) 0 ≡ b
-own-width extras t own w e f g = rw (← e, ← f) g
+pub own-width : (t own w : ℕ) {b : Bool} → own ≡ t → w ≡ widthOf own → eqb w 0 ≡ b → eqb (widthOf t) 0 ≡ b
+own-width t own w e f g = rw (← e, ← f) g
 
 pub own-type : (t own given : ℕ) {b : Bool} → own ≡ t → eqb own given ≡ b → not (eqb t given) ≡ not b
 own-type t own given e g = rw (← e) (ap not g)
 
-pub own-size : (extras : Bool) (t own w count l : ℕ) {n : ℕ} {b : Bool} → own ≡ t → w ≡ widthOf extras own → n ≡ count → eqb l (9 + n * w * 8) ≡ b
-    → not (eqb l (9 + count * widthOf extras t * 8)) ≡ not b
-own-size extras t own w count l e f h g = rw (← e, ← f, ← h) (ap not g)
+pub own-size : (t own w count l : ℕ) {n : ℕ} {b : Bool} → own ≡ t → w ≡ widthOf own → n ≡ count → eqb l (9 + n * w * 8) ≡ b
+    → not (eqb l (9 + count * widthOf t * 8)) ≡ not b
+own-size t own w count l e f h g = rw (← e, ← f, ← h) (ap not g)
 
 -- ---- one more record of a run
 
@@ -73,18 +74,18 @@ pub next : (lengths run : List ℕ) (i at : ℕ) → i < length lengths
     ≡ take (at + getD lengths i 0 - at) (drop at run) ∷ recordsOf (drop (i + 1) lengths) (drop (at + getD lengths i 0) run)
 next lengths run i at h = rw (part-is run at (getD lengths i 0)) (records-step lengths run i at h)
 
-module _ (extras : Bool) (t : ℕ) (lengths run : List ℕ) (i at r whole : ℕ) (h : i < length lengths)
-    (w : whole ≡ recordsRefusal extras t (recordsOf (drop i lengths) (drop at run)))
-    (e : r ≡ recordRefusal extras t (take (at + getD lengths i 0 - at) (drop at run))) where
+module _ (t : ℕ) (lengths run : List ℕ) (i at r whole : ℕ) (h : i < length lengths)
+    (w : whole ≡ recordsRefusal t (recordsOf (drop i lengths) (drop at run)))
+    (e : r ≡ recordRefusal t (take (at + getD lengths i 0 - at) (drop at run))) where
   pub stops : (r ≡ 0 → ⊥) → r ≡ whole
-  stops n = sym (w ∙ ap (recordsRefusal extras t) (next lengths run i at h) ∙ refusal-stop extras t _ _ (λ z. n (e ∙ z)) ∙ sym e)
+  stops n = sym (w ∙ ap (recordsRefusal t) (next lengths run i at h) ∙ refusal-stop t _ _ (λ z. n (e ∙ z)) ∙ sym e)
 
-  pub passes : r ≡ 0 → whole ≡ recordsRefusal extras t (recordsOf (drop (i + 1) lengths) (drop (at + getD lengths i 0) run))
-  passes z = w ∙ ap (recordsRefusal extras t) (next lengths run i at h) ∙ refusal-pass extras t _ _ (sym e ∙ z)
+  pub passes : r ≡ 0 → whole ≡ recordsRefusal t (recordsOf (drop (i + 1) lengths) (drop (at + getD lengths i 0) run))
+  passes z = w ∙ ap (recordsRefusal t) (next lengths run i at h) ∙ refusal-pass t _ _ (sym e ∙ z)
 
-pub nothing-refused : (extras : Bool) (t : ℕ) (lengths run : List ℕ) (i : ℕ) → length lengths ≤ i → recordsRefusal extras t (recordsOf (drop i lengths) run) ≡ 0
+pub nothing-refused : (t : ℕ) (lengths run : List ℕ) (i : ℕ) → length lengths ≤ i → recordsRefusal t (recordsOf (drop i lengths) run) ≡ 0
 unfolding recordsRefusal
-nothing-refused extras t lengths run i h = ap (recordsRefusal extras t) (records-none lengths run i h)
+nothing-refused t lengths run i h = ap (recordsRefusal t) (records-none lengths run i h)
 
 -- ---- the type of a run
 

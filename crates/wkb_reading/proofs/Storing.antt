@@ -17,10 +17,10 @@ use Rattle.wkb_reading.proofs.Laws.{next, total-drop}
 
 -- ---- the headers
 
-pub headed : (extras : Bool) (t : ℕ) (l : List (List ℕ)) → recordsRefusal extras t l ≡ 0 → Headed l
+pub headed : (t : ℕ) (l : List (List ℕ)) → recordsRefusal t l ≡ 0 → Headed l
 unfolding Headed
-headed extras t [] e = tt
-headed extras t (r ∷ l) e = let g = first-good extras t r l e in (g .0 .headed, headed extras t l (g .1))
+headed t [] e = tt
+headed t (r ∷ l) e = let g = first-good t r l e in (g .0 .headed, headed t l (g .1))
 
 head-first : (r : List ℕ) (l : List (List ℕ)) → Headed (r ∷ l) → (9 ≤ length r) × Headed l
 unfolding Headed

@@ -7,7 +7,7 @@ ghost use mathlib.Core.List.{reverse};
 ghost use lib.Dec.{eqb, ltb};
 ghost use lib.ListN.{length, take, drop, getD};
 ghost use Rattle.rules.specs.Lists.{total};
-ghost use Rattle.rules.specs.Wkb.{little, numberBy, byteOrder, recordsOf, runType, recordRefusal, recordsRefusal, runRefusal, ReadPlain};
+ghost use Rattle.rules.specs.Wkb.{little, numberBy, byteOrder, recordsOf, runType, recordRefusal, recordsRefusal, runRefusal, runAs, Read};
 ghost use Rattle.wkb_reading.specs.Storing.{Storable, Stored, RecordStored};
 
 // The bytes of a record before its coordinates, and of each number there.
@@ -71,8 +71,8 @@ fn word(bytes: &[u8], at: usize) -> u32
 }
 
 // The refusal of one record in a run of a type, or 0.
-fn record_refusal(extras: bool, bytes: &[u8], wkb_type: u32) -> u64
-    ensures { λ r. ⌜ r ≡ recordRefusal extras «wkb_type» (now (bytes .entry)) ⌝ }
+fn record_refusal(bytes: &[u8], wkb_type: u32) -> u64
+    ensures { λ r. ⌜ r ≡ recordRefusal «wkb_type» (now (bytes .entry)) ⌝ }
 {
     if bytes.len() < HEADER {
         return 13;
@@ -81,14 +81,14 @@ fn record_refusal(extras: bool, bytes: &[u8], wkb_type: u32) -> u64
         return 11;
     }
     let own = word(bytes, 1);
-    let width = wkb_records::width_of(extras, own);
+    let width = point_numbers::width_of(own);
     if width == 0 {
         return 12;
     }
     if own != wkb_type {
         return 25;
     }
-    if bytes.len() as u64 != 9 + word(bytes, 5) as u64 * width * 8 {
+    if bytes.len() as u64 != 9 + word(bytes, 5) as u64 * width as u64 * 8 {
         return 13;
     }
     0
@@ -127,15 +127,15 @@ fn run_type(run: &[u8], lengths: &[u64]) -> u32
 }
 
 // The refusal of the first bad record of a run, or 0.
-fn records_refusal(extras: bool, run: &[u8], lengths: &[u64], wkb_type: u32) -> u64
+fn records_refusal(run: &[u8], lengths: &[u64], wkb_type: u32) -> u64
     requires { ⌜ total (now lengths) ≡ length (now run) ⌝ }
-    ensures { λ r. ⌜ r ≡ recordsRefusal extras «wkb_type» (recordsOf (now (lengths .entry)) (now (run .entry))) ⌝ }
+    ensures { λ r. ⌜ r ≡ recordsRefusal «wkb_type» (recordsOf (now (lengths .entry)) (now (run .entry))) ⌝ }
 {
     let mut at: usize = 0;
     let mut i = 0;
     while i < lengths.len() {
         let to = at + lengths[i] as usize;
-        let refused = record_refusal(extras, &run[at..to], wkb_type);
+        let refused = record_refusal(&run[at..to], wkb_type);
         if refused != 0 {
             return refused;
         }
@@ -179,39 +179,61 @@ fn store(run: &[u8], lengths: &[u64], coordinates: &mut [u64], counts: &mut [u32
 }
 
 // The refusal of a run, or 0: the lengths before any record.
-fn run_refusal(extras: bool, run: &[u8], lengths: &[u64]) -> u64
-    ensures { λ r. ⌜ r ≡ runRefusal extras (now (run .entry)) (now (lengths .entry)) ⌝ }
+fn run_refusal(run: &[u8], lengths: &[u64]) -> u64
+    ensures { λ r. ⌜ r ≡ runRefusal (now (run .entry)) (now (lengths .entry)) ⌝ }
 {
     if !adds_up(lengths, run.len() as u64) {
         return 13;
     }
     let wkb_type = run_type(run, lengths);
-    records_refusal(extras, run, lengths, wkb_type)
+    records_refusal(run, lengths, wkb_type)
 }
 
-// Whether the room for coordinates or counts is shorter than so many records in a run of so many bytes need.
-fn room_short(run: usize, records: usize, coordinates: usize, counts: usize) -> bool
+// Whether the room for coordinates, counts or the type is shorter than so many records in a run of so many bytes need.
+fn room_short(
+    run: usize,
+    records: usize,
+    coordinates: usize,
+    counts: usize,
+    wkb_type: usize,
+) -> bool
     requires { ⌜ records * 9 ≤ run ⌝ }
-    ensures { λ r. ⌜ r ≡ ltb coordinates ((run - records * 9) / 8) || ltb counts records ⌝ }
+    ensures { λ r. ⌜ r ≡ ltb coordinates ((run - records * 9) / 8) || (ltb counts records || ltb «wkb_type» 1) ⌝ }
 {
     if coordinates < (run - records * HEADER) / EIGHT {
         return true;
     }
-    counts < records
+    if counts < records {
+        return true;
+    }
+    wkb_type < 1
 }
 
-// Reads a run of records of type 2, in the byte orders that they have: the number of records. A refused call changes no slice.
-pub fn read(run: &[u8], lengths: &[u64], coordinates: &mut [u64], counts: &mut [u32]) -> Answer
-    ensures { λ r. ⌜ ReadPlain (now (run .entry)) (now (lengths .entry)) (now (coordinates .entry)) (now (counts .entry))
-        r (now (coordinates .exit)) (now (counts .exit)) ⌝ }
+// Reads a run of records of one type, in the byte orders that they have: the number of records. A refused call changes no slice.
+pub fn read(
+    run: &[u8],
+    lengths: &[u64],
+    coordinates: &mut [u64],
+    counts: &mut [u32],
+    wkb_type: &mut [u32],
+) -> Answer
+    ensures { λ r. ⌜ Read (runAs (now (run .entry)) (now (lengths .entry)) (now (coordinates .entry)) (now (counts .entry)) (now («wkb_type» .entry)))
+        r (now (coordinates .exit)) (now (counts .exit)) (now («wkb_type» .exit)) ⌝ }
 {
-    let refused = run_refusal(false, run, lengths);
+    let refused = run_refusal(run, lengths);
     if refused != 0 {
         return Answer::Refused(refused);
     }
-    if room_short(run.len(), lengths.len(), coordinates.len(), counts.len()) {
+    if room_short(
+        run.len(),
+        lengths.len(),
+        coordinates.len(),
+        counts.len(),
+        wkb_type.len(),
+    ) {
         return Answer::Refused(14);
     }
     store(run, lengths, coordinates, counts);
+    wkb_type[0] = run_type(run, lengths);
     Answer::Accepted(lengths.len() as u64)
 }

@@ -1,5 +1,4 @@
-pub mod Widths
 pub mod Bytes
 pub mod Beginnings
 pub mod Records
-pub mod Plain
+pub mod Two

@@ -11,7 +11,8 @@ use lib.Dec.{eqb}
 use borrow.Author.Tests.{eqb-true, eqb-false, eq-eqb, ne-eqb, ltb-false, not-false}
 use Rattle.rules.specs.Lists.{total}
 use Rattle.rules.specs.Refusals.{firstOf}
-use Rattle.rules.specs.Wkb.{widthOf, byteOrder, typeOf, countOf, sizeOf, numberBy, doublesBy, doublesOf, recordsOf, recordRefusal, recordsRefusal, coordinatesOf, countsOf}
+use Rattle.rules.specs.Types.{widthOf}
+use Rattle.rules.specs.Wkb.{byteOrder, typeOf, countOf, sizeOf, numberBy, doublesBy, doublesOf, recordsOf, recordRefusal, recordsRefusal, coordinatesOf, countsOf}
 
 -- ---- the next record
 
@@ -26,23 +27,23 @@ records-none lengths run i h = rw (drop-of-length-le lengths {i = i} h)
 
 -- ---- the first bad record decides
 
-module _ (extras : Bool) (t : ℕ) (r : List ℕ) (l : List (List ℕ)) where
-  pub refusal-pass : recordRefusal extras t r ≡ 0 → recordsRefusal extras t (r ∷ l) ≡ recordsRefusal extras t l
+module _ (t : ℕ) (r : List ℕ) (l : List (List ℕ)) where
+  pub refusal-pass : recordRefusal t r ≡ 0 → recordsRefusal t (r ∷ l) ≡ recordsRefusal t l
   unfolding recordsRefusal
-  refusal-pass e = rw (eq-eqb (recordRefusal extras t r) 0 e, recordsRefusal)
+  refusal-pass e = rw (eq-eqb (recordRefusal t r) 0 e, recordsRefusal)
 
-  pub refusal-stop : (recordRefusal extras t r ≡ 0 → ⊥) → recordsRefusal extras t (r ∷ l) ≡ recordRefusal extras t r
+  pub refusal-stop : (recordRefusal t r ≡ 0 → ⊥) → recordsRefusal t (r ∷ l) ≡ recordRefusal t r
   unfolding recordsRefusal
-  refusal-stop e = rw (ne-eqb (recordRefusal extras t r) 0 e, recordsRefusal)
+  refusal-stop e = rw (ne-eqb (recordRefusal t r) 0 e, recordsRefusal)
 
 -- ---- a record that is not refused
 
-pub record Good (extras : Bool) (t : ℕ) (r : List ℕ) : Type 0 where
+pub record Good (t : ℕ) (r : List ℕ) : Type 0 where
   pub headed : 9 ≤ length r
   pub ordered : byteOrder r ≤ 1
   pub typed : typeOf r ≡ t
-  pub known : widthOf extras t ≡ 0 → ⊥
-  pub long : length r ≡ sizeOf (widthOf extras t) (countOf r)
+  pub known : widthOf t ≡ 0 → ⊥
+  pub long : length r ≡ sizeOf (widthOf t) (countOf r)
 
 -- the test isn't met, and the others have no refusal
 off : (k : ℕ) (b : Bool) (l : List (ℕ × Bool)) → firstOf ((suc k, b) ∷ l) ≡ 0 → (b ≡ false) × (firstOf l ≡ 0)
@@ -50,9 +51,9 @@ unfolding firstOf
 off k true l e = absurd (omega arith)
 off k false l e = (refl, e)
 
-pub good : (extras : Bool) (t : ℕ) (r : List ℕ) → recordRefusal extras t r ≡ 0 → Good extras t r
+pub good : (t : ℕ) (r : List ℕ) → recordRefusal t r ≡ 0 → Good t r
 unfolding recordRefusal
-good extras t r e =
+good t r e =
     let t₁ = off _ _ _ e in
     let t₂ = off _ _ _ (t₁ .1) in
     let t₃ = off _ _ _ (t₂ .1) in
@@ -63,18 +64,18 @@ good extras t r e =
       headed = ltb-false _ _ (t₁ .0);
       ordered = ltb-false _ _ (t₂ .0);
       typed = own;
-      known = eqb-false _ _ (ap (λ (n : ℕ). eqb (widthOf extras n) 0) (sym own) ∙ t₃ .0);
-      long = eqb-true _ _ (not-false _ (t₅ .0)) ∙ ap (λ (n : ℕ). sizeOf (widthOf extras n) (countOf r)) own;
+      known = eqb-false _ _ (ap (λ (n : ℕ). eqb (widthOf n) 0) (sym own) ∙ t₃ .0);
+      long = eqb-true _ _ (not-false _ (t₅ .0)) ∙ ap (λ (n : ℕ). sizeOf (widthOf n) (countOf r)) own;
     }
 
 -- all records of a run that is not refused
-pub first-good : (extras : Bool) (t : ℕ) (r : List ℕ) (l : List (List ℕ)) → recordsRefusal extras t (r ∷ l) ≡ 0
-    → Good extras t r × (recordsRefusal extras t l ≡ 0)
-first-good extras t r l e = go (eqb (recordRefusal extras t r) 0) refl
+pub first-good : (t : ℕ) (r : List ℕ) (l : List (List ℕ)) → recordsRefusal t (r ∷ l) ≡ 0
+    → Good t r × (recordsRefusal t l ≡ 0)
+first-good t r l e = go (eqb (recordRefusal t r) 0) refl
   where
-    go : (b : Bool) → eqb (recordRefusal extras t r) 0 ≡ b → Good extras t r × (recordsRefusal extras t l ≡ 0)
-    go true h = (good extras t r (eqb-true _ _ h), sym (refusal-pass extras t r l (eqb-true _ _ h)) ∙ e)
-    go false h = absurd (eqb-false _ _ h (sym (refusal-stop extras t r l (eqb-false _ _ h)) ∙ e))
+    go : (b : Bool) → eqb (recordRefusal t r) 0 ≡ b → Good t r × (recordsRefusal t l ≡ 0)
+    go true h = (good t r (eqb-true _ _ h), sym (refusal-pass t r l (eqb-true _ _ h)) ∙ e)
+    go false h = absurd (eqb-false _ _ h (sym (refusal-stop t r l (eqb-false _ _ h)) ∙ e))
 
 -- ---- how many numbers there are
 
@@ -93,16 +94,16 @@ counts-length [] run = refl
 counts-length (n ∷ l) run = ap suc (counts-length l (drop n run))
 
 -- the numbers of a run that is not refused, by its length: eight bytes each, and nine for each record
-pub run-numbers : (extras : Bool) (t : ℕ) (lengths run : List ℕ) → total lengths ≡ length run → recordsRefusal extras t (recordsOf lengths run) ≡ 0
+pub run-numbers : (t : ℕ) (lengths run : List ℕ) → total lengths ≡ length run → recordsRefusal t (recordsOf lengths run) ≡ 0
     → length (coordinatesOf (recordsOf lengths run)) * 8 + length lengths * 9 ≡ length run
 unfolding coordinatesOf recordsOf total
-run-numbers extras t [] run s e = s
-run-numbers extras t (n ∷ l) run s e =
-    let g = first-good extras t (take n run) (recordsOf l (drop n run)) e in
+run-numbers t [] run s e = s
+run-numbers t (n ∷ l) run s e =
+    let g = first-good t (take n run) (recordsOf l (drop n run)) e in
     let k : length (take n run) ≡ n = length-take-le n run (omega arith) in
     let d : length (drop n run) ≡ length run - n = simp length-drop in
-    let more = run-numbers extras t l (drop n run) (omega arith) (g .1) in
-    let w : ℕ = widthOf extras t in
+    let more = run-numbers t l (drop n run) (omega arith) (g .1) in
+    let w : ℕ = widthOf t in
     let size : length (take n run) ≡ 9 + countOf (take n run) * w * 8 = g .0 .long in
     omega (arith, length-append (doublesOf (take n run)) (coordinatesOf (recordsOf l (drop n run))), record-numbers (take n run))
 

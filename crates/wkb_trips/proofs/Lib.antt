@@ -3,4 +3,3 @@ pub mod Records
 pub mod Runs
 pub mod Lines
 pub mod Calls
-pub mod Plain

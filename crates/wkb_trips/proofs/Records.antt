@@ -8,7 +8,8 @@ use lib.ListN.{length, take, drop, length-drop, take-append-drop}
 use lib.Seq.{take-at, drop-at, drop-drop, length-take-le}
 use borrow.Author.Tests.{le-ltb, eq-eqb, ne-eqb}
 use Rattle.build_refusals.proofs.Laws.{rung, top}
-use Rattle.rules.specs.Wkb.{numberBy, bytesBy, widthOf, byteOrder, typeOf, countOf, sizeOf, doublesBy, doublesOf, recordRefusal, recordBy}
+use Rattle.rules.specs.Types.{widthOf}
+use Rattle.rules.specs.Wkb.{numberBy, bytesBy, byteOrder, typeOf, countOf, sizeOf, doublesBy, doublesOf, recordRefusal, recordBy}
 use Rattle.wkb_records.proofs.Records.{Good}
 use Rattle.wkb_reading.proofs.Laws.{opened}
 use Rattle.wkb_writing.proofs.Laws.{four-length, eight-length, record-length}
@@ -17,16 +18,16 @@ use Rattle.wkb_trips.proofs.Numbers.{number-of-bytes, bytes-of-number, 
 
 -- ---- a record that passes every test
 
-pub passes : (extras : Bool) (t : ℕ) (r : List ℕ) → Good extras t r → recordRefusal extras t r ≡ 0
-passes extras t r g =
-    let width : widthOf extras (typeOf r) ≡ widthOf extras t = ap (widthOf extras) (g .typed) in
-    let size : length r ≡ 9 + countOf r * widthOf extras (typeOf r) * 8 = g .long ∙ ap (λ (w : ℕ). sizeOf w (countOf r)) (sym width) in
-    sym (top (rung (rung (rung (rung (rung (opened extras t r)
+pub passes : (t : ℕ) (r : List ℕ) → Good t r → recordRefusal t r ≡ 0
+passes t r g =
+    let width : widthOf (typeOf r) ≡ widthOf t = ap (widthOf) (g .typed) in
+    let size : length r ≡ 9 + countOf r * widthOf (typeOf r) * 8 = g .long ∙ ap (λ (w : ℕ). sizeOf w (countOf r)) (sym width) in
+    sym (top (rung (rung (rung (rung (rung (opened t r)
     (le-ltb (length r) 9 (g .headed)))
     (le-ltb 1 (byteOrder r) (g .ordered)))
-    (ne-eqb (widthOf extras (typeOf r)) 0 (λ z. g .known (sym width ∙ z))))
+    (ne-eqb (widthOf (typeOf r)) 0 (λ z. g .known (sym width ∙ z))))
     (ap not (eq-eqb (typeOf r) t (g .typed))))
-    (ap not (eq-eqb (length r) (9 + countOf r * widthOf extras (typeOf r) * 8) size))))
+    (ap not (eq-eqb (length r) (9 + countOf r * widthOf (typeOf r) * 8) size))))
 
 -- ---- what was written is read
 
@@ -66,14 +67,14 @@ module _ (o t count : ℕ) (numbers : List ℕ) where
       let n : (length (recordBy o t count numbers) - 9) / 8 ≡ length numbers = omega (arith, record-length o t count numbers) in
       rw (order-read, n, behind) (numbers-read o numbers h)
 
-  pub record-read : (extras : Bool) → o ≤ 1 → t < 4294967296 → (widthOf extras t ≡ 0 → ⊥) → count < 4294967296 → length numbers ≡ count * widthOf extras t
-      → Good extras t (recordBy o t count numbers)
-  record-read extras a b c d e = record {
+  pub record-read : o ≤ 1 → t < 4294967296 → (widthOf t ≡ 0 → ⊥) → count < 4294967296 → length numbers ≡ count * widthOf t
+      → Good t (recordBy o t count numbers)
+  record-read a b c d e = record {
     headed = omega (arith, record-length o t count numbers);
     ordered = rw order-read a;
     typed = type-read b;
     known = c;
-    long = record-length o t count numbers ∙ ap (λ (n : ℕ). 9 + n * 8) e ∙ ap (sizeOf (widthOf extras t)) (sym (count-read d));
+    long = record-length o t count numbers ∙ ap (λ (n : ℕ). 9 + n * 8) e ∙ ap (sizeOf (widthOf t)) (sym (count-read d));
   }
 
 -- ---- what was read is written back
@@ -92,15 +93,15 @@ word-written : (o : ℕ) (l : List ℕ) → Below 256 l → 4 ≤ length l → b
 word-written o l h k =
     ap (λ (m : ℕ). bytesBy o m (numberBy o (take 4 l))) (sym (length-take-le 4 l k)) ∙ bytes-of-number o (take 4 l) (below-take 256 4 l h)
 
-pub record-back : (extras : Bool) (o t : ℕ) (r : List ℕ) → Below 256 r → Good extras t r → byteOrder r ≡ o → recordBy o t (countOf r) (doublesOf r) ≡ r
+pub record-back : (o t : ℕ) (r : List ℕ) → Below 256 r → Good t r → byteOrder r ≡ o → recordBy o t (countOf r) (doublesOf r) ≡ r
 unfolding recordBy countOf typeOf doublesOf byteOrder Below
-record-back extras o t [] h g e = absurd (let z = g .headed in omega arith)
-record-back extras o t (b ∷ l) h g e =
+record-back o t [] h g e = absurd (let z = g .headed in omega arith)
+record-back o t (b ∷ l) h g e =
     let head = g .headed in
     let long = g .long in
     let d : length (drop 4 l) ≡ length l - 4 = length-drop 4 l in
     let f : length (drop 8 l) ≡ length l - 8 = length-drop 8 l in
-    let w : ℕ = widthOf extras t in
+    let w : ℕ = widthOf t in
     let size : length (drop 8 l) ≡ (suc (length l) - 9) / 8 * 8 = omega arith in
     let type : bytesBy b 4 t ≡ take 4 l = ap (bytesBy b 4) (sym (g .typed)) ∙ word-written b l (h .1) (omega arith) in
     let count : bytesBy b 4 (numberBy b (take 4 (drop 4 l))) ≡ take 4 (drop 4 l) = word-written b (drop 4 l) (below-drop 256 4 l (h .1)) (omega arith) in

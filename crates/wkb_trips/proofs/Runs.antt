@@ -10,7 +10,8 @@ use borrow.Author.Tests.{le-ltb, eq-eqb, eqb-false, ltb-false}
 use Rattle.rules.specs.Lists.{total, from}
 use Rattle.rules.specs.Refusals.{noChain, firstOf, entry, sourceOf, chainRefusalOf, recordSize}
 use Rattle.rules.specs.Calls.{unless, viewed}
-use Rattle.rules.specs.Wkb.{widthOf, byteOrder, countOf, doublesOf, recordsOf, runType, recordsRefusal, runRefusal, coordinatesOf, countsOf, recordBy, anyMissing, chainRecord, LentChains, runOf, lengthsOf, writeRefusalOf}
+use Rattle.rules.specs.Types.{widthOf}
+use Rattle.rules.specs.Wkb.{byteOrder, countOf, doublesOf, recordsOf, runType, recordsRefusal, runRefusal, coordinatesOf, countsOf, recordBy, anyMissing, chainRecord, LentChains, runOf, lengthsOf, writeRefusalOf}
 use Rattle.wkb_records.proofs.Records.{Good, first-good, refusal-pass}
 use Rattle.wkb_reading.proofs.Answers.{run-adds, sound}
 use Rattle.wkb_writing.proofs.Chains.{view-long}
@@ -50,30 +51,29 @@ fit-unless b (suc n) l h = tt
 numbers-fit : (i : LentChains) → Fitting i → (k : ℕ) → Below 18446744073709551616 (numbersAt i k)
 unfolding viewed
 numbers-fit i p k =
-    fit-unless 18446744073709551616 (chainRefusalOf (widthOf true (i .type)) (i .input) (i .merged) (i .table) k) _
-    (below-take 18446744073709551616 (entry (i .table) k 4 * widthOf true (i .type)) _
-    (below-drop 18446744073709551616 (entry (i .table) k 3 * widthOf true (i .type)) _
+    fit-unless 18446744073709551616 (chainRefusalOf (i .type) (i .input) (i .merged) (i .table) k) _
+    (below-take 18446744073709551616 (entry (i .table) k 4 * widthOf (i .type)) _
+    (below-drop 18446744073709551616 (entry (i .table) k 3 * widthOf (i .type)) _
     (source-fits (entry (i .table) k 2) 18446744073709551616 (i .input) (i .merged) (p .input-fits) (p .merged-fits))))
 
--- `extras` is either, where the type has the same width without
-module _ (extras : Bool) (i : LentChains) (p : Fitting i) (e : widthOf extras (i .type) ≡ widthOf true (i .type)) (known : widthOf true (i .type) ≡ 0 → ⊥) (order : i .order ≤ 1) where
-  chain-good : (k : ℕ) → noChain (widthOf true (i .type)) (i .input) (i .merged) (i .table) k ≡ false → Good extras (i .type) (chainRecord i k)
+module _ (i : LentChains) (p : Fitting i) (known : widthOf (i .type) ≡ 0 → ⊥) (order : i .order ≤ 1) where
+  chain-good : (k : ℕ) → noChain (widthOf (i .type)) (i .input) (i .merged) (i .table) k ≡ false → Good (i .type) (chainRecord i k)
   unfolding chainRecord
   chain-good k there =
-      record-read (i .order) (i .type) (entry (i .table) k 4) (numbersAt i k) extras order (p .type-fits) (λ z. known (sym e ∙ z)) (p .table-fits (k * recordSize + 4))
-      (view-long (widthOf true (i .type)) (i .input) (i .merged) (i .table) k there ∙ ap (λ (w : ℕ). entry (i .table) k 4 * w) (sym e))
+      record-read (i .order) (i .type) (entry (i .table) k 4) (numbersAt i k) order (p .type-fits) known (p .table-fits (k * recordSize + 4))
+      (view-long (i .type) (i .input) (i .merged) (i .table) k there)
 
-  pub chains-pass : (j n : ℕ) → anyMissing (widthOf true (i .type)) (i .input) (i .merged) (i .table) j n ≡ false → recordsRefusal extras (i .type) (map (chainRecord i) (from j n)) ≡ 0
+  pub chains-pass : (j n : ℕ) → anyMissing (widthOf (i .type)) (i .input) (i .merged) (i .table) j n ≡ false → recordsRefusal (i .type) (map (chainRecord i) (from j n)) ≡ 0
   unfolding from recordsRefusal
   chains-pass j zero m = refl
   chains-pass j (suc n) m =
-      let q = first-there (widthOf true (i .type)) (i .input) (i .merged) (i .table) j n m in
-      refusal-pass extras (i .type) (chainRecord i j) (map (chainRecord i) (from (suc j) n)) (passes extras (i .type) (chainRecord i j) (chain-good j (q .0))) ∙ chains-pass (suc j) n (q .1)
+      let q = first-there (widthOf (i .type)) (i .input) (i .merged) (i .table) j n m in
+      refusal-pass (i .type) (chainRecord i j) (map (chainRecord i) (from (suc j) n)) (passes (i .type) (chainRecord i j) (chain-good j (q .0))) ∙ chains-pass (suc j) n (q .1)
 
-  pub chains-type : (j n : ℕ) → anyMissing (widthOf true (i .type)) (i .input) (i .merged) (i .table) j (suc n) ≡ false → runType (map (chainRecord i) (from j (suc n))) ≡ i .type
+  pub chains-type : (j n : ℕ) → anyMissing (widthOf (i .type)) (i .input) (i .merged) (i .table) j (suc n) ≡ false → runType (map (chainRecord i) (from j (suc n))) ≡ i .type
   unfolding from runType
   chains-type j n m =
-      let g = chain-good j (first-there (widthOf true (i .type)) (i .input) (i .merged) (i .table) j n m .0) in
+      let g = chain-good j (first-there (widthOf (i .type)) (i .input) (i .merged) (i .table) j n m .0) in
       rw (le-ltb (length (chainRecord i j)) 9 (g .headed), runType) (g .typed)
 
 pub chains-numbers : (i : LentChains) → Fitting i → (ks : List ℕ) → coordinatesOf (map (chainRecord i) ks) ≡ flatMap (numbersAt i) ks
@@ -88,9 +88,9 @@ chains-counts i p (k ∷ l) = ap₂ (λ (x : ℕ) (y : List ℕ). x ∷ y) (coun
 
 -- the tests that a call passes which isn't refused
 pub record Passed (i : LentChains) : Type 0 where
-  pub known : widthOf true (i .type) ≡ 0 → ⊥
+  pub known : widthOf (i .type) ≡ 0 → ⊥
   pub ordered : i .order ≤ 1
-  pub there : anyMissing (widthOf true (i .type)) (i .input) (i .merged) (i .table) 0 (i .number) ≡ false
+  pub there : anyMissing (widthOf (i .type)) (i .input) (i .merged) (i .table) 0 (i .number) ≡ false
 
 off : (k : ℕ) (b : Bool) (l : List (ℕ × Bool)) → firstOf ((suc k, b) ∷ l) ≡ 0 → (b ≡ false) × (firstOf l ≡ 0)
 unfolding firstOf
@@ -106,8 +106,8 @@ passed i e =
     record { known = eqb-false _ _ (t₁ .0); ordered = ltb-false _ _ (t₂ .0); there = t₃ .0 }
 
 -- Reading what an accepted call wrote is not refused, but for room; it gives the type (where there is a chain), the chains' numbers one after another, and their counts.
-pub record ReadBack (extras : Bool) (i : LentChains) : Type 0 where
-  pub refused : runRefusal extras (runOf i) (lengthsOf i) ≡ 0
+pub record ReadBack (i : LentChains) : Type 0 where
+  pub refused : runRefusal (runOf i) (lengthsOf i) ≡ 0
   pub type : 0 < i .number → runType (recordsOf (lengthsOf i) (runOf i)) ≡ i .type
   pub coordinates : coordinatesOf (recordsOf (lengthsOf i) (runOf i)) ≡ allNumbers i
   pub counts : countsOf (recordsOf (lengthsOf i) (runOf i)) ≡ allCounts i
@@ -120,60 +120,60 @@ sums-are : (i : LentChains) → total (lengthsOf i) ≡ length (runOf i)
 unfolding lengthsOf runOf
 sums-are i = sum-back (chainRecord i) (from 0 (i .number))
 
-type-is : (extras : Bool) (i : LentChains) → Fitting i → widthOf extras (i .type) ≡ widthOf true (i .type) → Passed i → (n : ℕ) → n ≡ i .number → 0 < n
+type-is : (i : LentChains) → Fitting i → Passed i → (n : ℕ) → n ≡ i .number → 0 < n
     → runType (map (chainRecord i) (from 0 n)) ≡ i .type
-type-is extras i p e q zero f h = absurd (omega arith)
-type-is extras i p e q (suc n) f h = chains-type extras i p e (q .known) (q .ordered) 0 n (ap (anyMissing (widthOf true (i .type)) (i .input) (i .merged) (i .table) 0) f ∙ q .there)
+type-is i p q zero f h = absurd (omega arith)
+type-is i p q (suc n) f h = chains-type i p (q .known) (q .ordered) 0 n (ap (anyMissing (widthOf (i .type)) (i .input) (i .merged) (i .table) 0) f ∙ q .there)
 
-refusal-is : (extras : Bool) (i : LentChains) → Fitting i → widthOf extras (i .type) ≡ widthOf true (i .type) → Passed i → (n : ℕ) → n ≡ i .number
-    → recordsRefusal extras (runType (map (chainRecord i) (from 0 n))) (map (chainRecord i) (from 0 n)) ≡ 0
+refusal-is : (i : LentChains) → Fitting i → Passed i → (n : ℕ) → n ≡ i .number
+    → recordsRefusal (runType (map (chainRecord i) (from 0 n))) (map (chainRecord i) (from 0 n)) ≡ 0
 unfolding from recordsRefusal
-refusal-is extras i p e q zero f = refl
-refusal-is extras i p e q (suc n) f =
-    ap (λ (t : ℕ). recordsRefusal extras t (map (chainRecord i) (from 0 (suc n)))) (type-is extras i p e q (suc n) f (omega arith))
-    ∙ chains-pass extras i p e (q .known) (q .ordered) 0 (suc n) (ap (anyMissing (widthOf true (i .type)) (i .input) (i .merged) (i .table) 0) f ∙ q .there)
+refusal-is i p q zero f = refl
+refusal-is i p q (suc n) f =
+    ap (λ (t : ℕ). recordsRefusal t (map (chainRecord i) (from 0 (suc n)))) (type-is i p q (suc n) f (omega arith))
+    ∙ chains-pass i p (q .known) (q .ordered) 0 (suc n) (ap (anyMissing (widthOf (i .type)) (i .input) (i .merged) (i .table) 0) f ∙ q .there)
 
-pub read-back : (extras : Bool) (i : LentChains) → Fitting i → widthOf extras (i .type) ≡ widthOf true (i .type) → writeRefusalOf i ≡ 0 → ReadBack extras i
-read-back extras i p e z =
+pub read-back : (i : LentChains) → Fitting i → writeRefusalOf i ≡ 0 → ReadBack i
+read-back i p z =
     let q = passed i z in
     record {
       refused =
-          sym (run-adds extras (runOf i) (lengthsOf i) (eq-eqb (total (lengthsOf i)) (length (runOf i)) (sums-are i)))
-          ∙ ap (λ (l : List (List ℕ)). recordsRefusal extras (runType l) l) (records-are i) ∙ refusal-is extras i p e q (i .number) refl;
-      type = λ h. ap runType (records-are i) ∙ type-is extras i p e q (i .number) refl h;
+          sym (run-adds (runOf i) (lengthsOf i) (eq-eqb (total (lengthsOf i)) (length (runOf i)) (sums-are i)))
+          ∙ ap (λ (l : List (List ℕ)). recordsRefusal (runType l) l) (records-are i) ∙ refusal-is i p q (i .number) refl;
+      type = λ h. ap runType (records-are i) ∙ type-is i p q (i .number) refl h;
       coordinates = ap coordinatesOf (records-are i) ∙ chains-numbers i p (from 0 (i .number));
       counts = ap countsOf (records-are i) ∙ chains-counts i p (from 0 (i .number));
     }
 
 -- ---- what was read is written back
 
-one-back : (i : LentChains) (extras : Bool) (t : ℕ) (r : List ℕ) (j : ℕ) → i .type ≡ t → Below 256 r → Good extras t r → byteOrder r ≡ i .order
+one-back : (i : LentChains) (t : ℕ) (r : List ℕ) (j : ℕ) → i .type ≡ t → Below 256 r → Good t r → byteOrder r ≡ i .order
     → entry (i .table) j 4 ≡ countOf r → numbersAt i j ≡ doublesOf r → chainRecord i j ≡ r
 unfolding chainRecord
-one-back i extras t r j e b g o c n =
+one-back i t r j e b g o c n =
     ap (λ (x : ℕ). recordBy (i .order) x (entry (i .table) j 4) (numbersAt i j)) e ∙ ap₂ (λ (x : ℕ) (y : List ℕ). recordBy (i .order) t x y) c n
-    ∙ record-back extras (i .order) t r b g o
+    ∙ record-back (i .order) t r b g o
 
-back-run : (i : LentChains) (extras : Bool) (t : ℕ) (lengths run : List ℕ) (j : ℕ) → i .type ≡ t → total lengths ≡ length run → Below 256 run
-    → recordsRefusal extras t (recordsOf lengths run) ≡ 0 → Ordered (i .order) (recordsOf lengths run) → Named i j (recordsOf lengths run)
+back-run : (i : LentChains) (t : ℕ) (lengths run : List ℕ) (j : ℕ) → i .type ≡ t → total lengths ≡ length run → Below 256 run
+    → recordsRefusal t (recordsOf lengths run) ≡ 0 → Ordered (i .order) (recordsOf lengths run) → Named i j (recordsOf lengths run)
     → (flatMap (chainRecord i) (from j (length lengths)) ≡ run) × (map (λ k. length (chainRecord i k)) (from j (length lengths)) ≡ lengths)
 unfolding recordsOf Ordered Named total flatMap from
-back-run i extras t [] [] j e s b r o n = (refl, refl)
-back-run i extras t [] (x ∷ run) j e s b r o n = absurd (omega arith)
-back-run i extras t (m ∷ lengths) run j e s b r o n =
-    let g = first-good extras t (take m run) (recordsOf lengths (drop m run)) r in
+back-run i t [] [] j e s b r o n = (refl, refl)
+back-run i t [] (x ∷ run) j e s b r o n = absurd (omega arith)
+back-run i t (m ∷ lengths) run j e s b r o n =
+    let g = first-good t (take m run) (recordsOf lengths (drop m run)) r in
     let k : length (take m run) ≡ m = length-take-le m run (omega arith) in
     let d : length (drop m run) ≡ length run - m = length-drop m run in
-    let here : chainRecord i j ≡ take m run = one-back i extras t (take m run) j e (below-take 256 m run b) (g .0) (o .0) (n .0) (n .1) in
-    let more = back-run i extras t lengths (drop m run) (suc j) e (omega arith) (below-drop 256 m run b) (g .1) (o .1) (n .2) in
+    let here : chainRecord i j ≡ take m run = one-back i t (take m run) j e (below-take 256 m run b) (g .0) (o .0) (n .0) (n .1) in
+    let more = back-run i t lengths (drop m run) (suc j) e (omega arith) (below-drop 256 m run b) (g .1) (o .1) (n .2) in
     (ap₂ (λ (x y : List ℕ). x ++ y) here (more .0) ∙ take-append-drop m run, ap₂ (λ (x : ℕ) (y : List ℕ). x ∷ y) (ap length here ∙ k) (more .1))
 
 -- Writing what was read, in the order that all its records have, gives back the run and its lengths.
-pub write-back : (i : LentChains) (extras : Bool) (run lengths : List ℕ) → Below 256 run → runRefusal extras run lengths ≡ 0
+pub write-back : (i : LentChains) (run lengths : List ℕ) → Below 256 run → runRefusal run lengths ≡ 0
     → i .type ≡ runType (recordsOf lengths run) → i .number ≡ length lengths → Ordered (i .order) (recordsOf lengths run) → Named i 0 (recordsOf lengths run)
     → (runOf i ≡ run) × (lengthsOf i ≡ lengths)
 unfolding runOf lengthsOf
-write-back i extras run lengths b z t k o n =
-    let s = sound extras run lengths z in
-    let q = back-run i extras (runType (recordsOf lengths run)) lengths run 0 t (s .adds) b (s .passed) o n in
+write-back i run lengths b z t k o n =
+    let s = sound run lengths z in
+    let q = back-run i (runType (recordsOf lengths run)) lengths run 0 t (s .adds) b (s .passed) o n in
     (ap (λ (m : ℕ). flatMap (chainRecord i) (from 0 m)) k ∙ q .0, ap (λ (m : ℕ). map (λ (j : ℕ). length (chainRecord i j)) (from 0 m)) k ∙ q .1)

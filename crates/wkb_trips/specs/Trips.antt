@@ -1,7 +1,6 @@
 -- What the two round trips speak of: numbers that fit their types, a table that names the records of a run, and what each trip gives back.
 use Prim.Native.Nat.{ℕ, zero, suc, _+_, _≤_, _<_}
 use mathlib.Core.Path.{_≡_}
-use mathlib.Core.Bool.{Bool, true}
 use mathlib.Core.List.{List, [], _∷_, map, flatMap}
 use lib.ListN.{length, getD}
 use Rattle.rules.specs.declared.Answer.{Answer}
@@ -9,7 +8,7 @@ use Rattle.rules.specs.declared.Answer.the-variants.{Accepted}
 use Rattle.rules.specs.Lists.{from}
 use Rattle.rules.specs.Refusals.{entry}
 use Rattle.rules.specs.Calls.{viewed, written}
-use Rattle.rules.specs.Wkb.{widthOf, byteOrder, countOf, doublesOf, told, LentRun, LentChains}
+use Rattle.rules.specs.Wkb.{byteOrder, countOf, doublesOf, LentRun, LentChains}
 
 -- every number of a list is below b
 unfoldable pub Below : ℕ → List ℕ → Type 0
@@ -27,7 +26,7 @@ pub record Fitting (i : LentChains) : Type 0 where
 
 -- the numbers of chain k, and of all chains one after another
 abbrev pub numbersAt : LentChains → ℕ → List ℕ
-numbersAt i k = viewed (widthOf true (i .type)) (i .input) (i .merged) (i .table) k
+numbersAt i k = viewed (i .type) (i .input) (i .merged) (i .table) k
 
 abbrev pub allNumbers : LentChains → List ℕ
 allNumbers i = flatMap (numbersAt i) (from 0 (i .number))
@@ -36,16 +35,17 @@ abbrev pub allCounts : LentChains → List ℕ
 allCounts i = map (λ k. entry (i .table) k 4) (from 0 (i .number))
 
 -- room for what the chains have
-pub record RoomToRead (extras : Bool) (i : LentChains) (j : LentRun) : Type 0 where
+pub record RoomToRead (i : LentChains) (j : LentRun) : Type 0 where
   pub numbers : length (allNumbers i) ≤ length (j .coordinates)
   pub rows : i .number ≤ length (j .counts)
-  pub type : length (told extras 2) ≤ length (j .type)
+  pub type : 1 ≤ length (j .type)
 
--- the call is accepted, with the chains' coordinates and counts
-pub record Returned (i : LentChains) (j : LentRun) (a : Answer) (coordinates′ counts′ : List ℕ) : Type 0 where
+-- the call is accepted, with the chains' coordinates and counts, and with their type where there is a chain
+pub record Returned (i : LentChains) (j : LentRun) (a : Answer) (coordinates′ counts′ type′ : List ℕ) : Type 0 where
   pub answer : a ≡ Accepted (i .number)
   pub coordinates : coordinates′ ≡ written (allNumbers i) (j .coordinates)
   pub counts : counts′ ≡ written (allCounts i) (j .counts)
+  pub type : 0 < i .number → type′ ≡ written (i .type ∷ []) (j .type)
 
 -- ---- what was read is written
 

@@ -12,7 +12,8 @@ use Rattle.rules.specs.declared.Answer.the-variants.{Accepted, Refused}
 use Rattle.rules.specs.Calls.{viewed, unless, answerOf, written}
 use Rattle.build_refusals.proofs.Laws.{Left}
 use Rattle.build_question.proofs.Laws.{stands}
-use Rattle.rules.specs.Wkb.{widthOf, anyMissing, chainRecord, LentChains, runOf, writeRefusalOf, Wrote}
+use Rattle.rules.specs.Types.{widthOf}
+use Rattle.rules.specs.Wkb.{anyMissing, chainRecord, LentChains, runOf, writeRefusalOf, Wrote}
 use Rattle.wkb_writing.specs.Writing.{bytesFrom, Written}
 use Rattle.wkb_writing.proofs.Laws.{record-length}
 use Rattle.wkb_writing.proofs.Chains.{view-long}
@@ -40,23 +41,23 @@ rows-long w input merged table zero e = omega arith
 rows-long w input merged table (suc k) e = omega (arith, table-long w input merged table 0 k e)
 
 -- the bytes of chains that are there, by their counts
-bytes-are : (i : LentChains) (j n : ℕ) → anyMissing (widthOf true (i .type)) (i .input) (i .merged) (i .table) j n ≡ false
-    → length (flatMap (chainRecord i) (from j n)) ≡ bytesFrom (widthOf true (i .type)) (i .table) j n
+bytes-are : (i : LentChains) (j n : ℕ) → anyMissing (widthOf (i .type)) (i .input) (i .merged) (i .table) j n ≡ false
+    → length (flatMap (chainRecord i) (from j n)) ≡ bytesFrom (widthOf (i .type)) (i .table) j n
 unfolding flatMap from bytesFrom chainRecord
 bytes-are i j zero e = refl
 bytes-are i j (suc n) e =
-    let w = widthOf true (i .type) in
+    let w = widthOf (i .type) in
     let p = first-there w (i .input) (i .merged) (i .table) j n e in
     omega (
       arith,
       length-append (chainRecord i j) (flatMap (chainRecord i) (from (suc j) n)),
       bytes-are i (suc j) n (p .1),
-      record-length (i .order) (i .type) (entry (i .table) j 4) (viewed w (i .input) (i .merged) (i .table) j),
-      ap (λ (m : ℕ). m * 8) (view-long w (i .input) (i .merged) (i .table) j (p .0)),
+      record-length (i .order) (i .type) (entry (i .table) j 4) (viewed (i .type) (i .input) (i .merged) (i .table) j),
+      ap (λ (m : ℕ). m * 8) (view-long (i .type) (i .input) (i .merged) (i .table) j (p .0)),
     )
 
-pub run-long : (i : LentChains) → anyMissing (widthOf true (i .type)) (i .input) (i .merged) (i .table) 0 (i .number) ≡ false
-    → length (runOf i) ≡ bytesFrom (widthOf true (i .type)) (i .table) 0 (i .number)
+pub run-long : (i : LentChains) → anyMissing (widthOf (i .type)) (i .input) (i .merged) (i .table) 0 (i .number) ≡ false
+    → length (runOf i) ≡ bytesFrom (widthOf (i .type)) (i .table) 0 (i .number)
 unfolding runOf
 run-long i e = bytes-are i 0 (i .number) e
 
@@ -64,9 +65,9 @@ run-long i e = bytes-are i 0 (i .number) e
 
 abbrev pub tests : LentChains → List (ℕ × Bool)
 tests i =
-    (12, eqb (widthOf true (i .type)) 0)
+    (12, eqb (widthOf (i .type)) 0)
     ∷ (16, ltb 1 (i .order))
-    ∷ (10, anyMissing (widthOf true (i .type)) (i .input) (i .merged) (i .table) 0 (i .number))
+    ∷ (10, anyMissing (widthOf (i .type)) (i .input) (i .merged) (i .table) 0 (i .number))
     ∷ (14, ltb (length (i .run)) (length (runOf i)) || ltb (length (i .lengths)) (i .number))
     ∷ []
 
@@ -75,7 +76,7 @@ unfolding writeRefusalOf
 opened i = record { is = refl }
 
 -- the test of the run's room, from the sum of the bytes
-pub room-run : (i : LentChains) {w : ℕ} {b : Bool} → w ≡ widthOf true (i .type) → anyMissing (widthOf true (i .type)) (i .input) (i .merged) (i .table) 0 (i .number) ≡ false
+pub room-run : (i : LentChains) {w : ℕ} {b : Bool} → w ≡ widthOf (i .type) → anyMissing (widthOf (i .type)) (i .input) (i .merged) (i .table) 0 (i .number) ≡ false
     → b ≡ ltb (length (i .run)) (bytesFrom w (i .table) 0 (i .number)) → ltb (length (i .run)) (length (runOf i)) ≡ b
 room-run i {w} {b} e m h = ap (ltb (length (i .run))) (run-long i m) ∙ ap (λ (v : ℕ). ltb (length (i .run)) (bytesFrom v (i .table) 0 (i .number))) (sym e) ∙ sym h
 
@@ -93,11 +94,11 @@ module _ (i : LentChains) where
 
 -- ---- the tests, from what the call has at hand: the width of its type
 
-pub width-test : (i : LentChains) (w : ℕ) {b : Bool} → w ≡ widthOf true (i .type) → eqb w 0 ≡ b → eqb (widthOf true (i .type)) 0 ≡ b
+pub width-test : (i : LentChains) (w : ℕ) {b : Bool} → w ≡ widthOf (i .type) → eqb w 0 ≡ b → eqb (widthOf (i .type)) 0 ≡ b
 width-test i w e g = ap (λ (v : ℕ). eqb v 0) (sym e) ∙ g
 
-pub missing-test : (i : LentChains) (w : ℕ) {r b : Bool} → w ≡ widthOf true (i .type) → r ≡ anyMissing w (i .input) (i .merged) (i .table) 0 (i .number) → r ≡ b
-    → anyMissing (widthOf true (i .type)) (i .input) (i .merged) (i .table) 0 (i .number) ≡ b
+pub missing-test : (i : LentChains) (w : ℕ) {r b : Bool} → w ≡ widthOf (i .type) → r ≡ anyMissing w (i .input) (i .merged) (i .table) 0 (i .number) → r ≡ b
+    → anyMissing (widthOf (i .type)) (i .input) (i .merged) (i .table) 0 (i .number) ≡ b
 missing-test i w e f g = ap (λ (v : ℕ). anyMissing v (i .input) (i .merged) (i .table) 0 (i .number)) (sym e) ∙ sym f ∙ g
 
 pub either-first : (a b : Bool) → a ≡ true → a || b ≡ true

@@ -11,35 +11,40 @@ use lib.Seq.{length-take-le}
 use lib.Dec.{ltb}
 use borrow.Author.Tests.{lt-ltb, le-ltb}
 use Rattle.rules.specs.Refusals.{entry, sourceOf, noChain}
-use Rattle.rules.specs.Calls.{viewed, unless}
-use Rattle.rules.specs.Wkb.{widthOf, recordBy, anyMissing, sizeOf}
-use Rattle.build_question.proofs.Laws.{stands, accepted}
+use Rattle.rules.specs.Calls.{viewed}
+use Rattle.rules.specs.Types.{widthOf}
+use Rattle.rules.specs.Wkb.{recordBy, anyMissing, sizeOf}
+use Rattle.build_question.specs.Parts.{partOf}
+use Rattle.build_question.proofs.Laws.{stands, part-there, viewed-part}
 use Rattle.wkb_writing.specs.Writing.{bytesFrom, RecordPut, chainBytes, Chain}
 use Rattle.wkb_writing.proofs.Laws.{record-length}
 
 -- ---- a chain that is there
 
-pub view-long : (w : ℕ) (input merged table : List ℕ) (k : ℕ) → noChain w input merged table k ≡ false
-    → length (viewed w input merged table k) ≡ entry table k 4 * w
-unfolding viewed unless
-view-long w input merged table k e =
+part-long : (w : ℕ) (input merged table : List ℕ) (k : ℕ) → noChain w input merged table k ≡ false
+    → length (partOf w input merged table k) ≡ entry table k 4 * w
+part-long w input merged table k e =
     let s = stands w input merged table k e in
     let inside : entry table k 3 * w + entry table k 4 * w ≤ length (sourceOf (entry table k 2) input merged) = omega (arith, s .part, add-mul (entry table k 3) (entry table k 4) w) in
-    rw (accepted w input merged table k e)
+    rw (part-there w input merged table k e)
     (length-take-le (entry table k 4 * w) (drop (entry table k 3 * w) (sourceOf (entry table k 2) input merged)) (simp length-drop (omega arith)))
+
+pub view-long : (t : ℕ) (input merged table : List ℕ) (k : ℕ) → noChain (widthOf t) input merged table k ≡ false
+    → length (viewed t input merged table k) ≡ entry table k 4 * widthOf t
+view-long t input merged table k e = ap length (viewed-part t input merged table k) ∙ part-long (widthOf t) input merged table k e
 
 module _ {run input merged table : List ℕ} {at t w k : ℕ} (c : Chain run at t w input merged table k) where
   -- the record of its view has room
-  pub view-room : {numbers : List ℕ} → numbers ≡ viewed w input merged table k → at + (9 + length numbers * 8) ≤ length run
+  pub view-room : {numbers : List ℕ} → numbers ≡ partOf w input merged table k → at + (9 + length numbers * 8) ≤ length run
   view-room {numbers} e =
-      let long : length numbers ≡ entry table k 4 * w = ap length e ∙ view-long w input merged table k (c .there) in
+      let long : length numbers ≡ entry table k 4 * w = ap length e ∙ part-long w input merged table k (c .there) in
       omega (arith, long, c .room)
 
-  pub chain-put : {run′ numbers : List ℕ} {r : ℕ} (order : ℕ) → numbers ≡ viewed w input merged table k
+  pub chain-put : {run′ numbers : List ℕ} {r : ℕ} (order : ℕ) → numbers ≡ partOf w input merged table k
       → RecordPut run′ run at r (recordBy order t (entry table k 4) numbers) → RecordPut run′ run at r (chainBytes order t input merged table k)
   chain-put {run′} {numbers} {r} order e p =
       subst (λ (l : List ℕ). RecordPut run′ run at r (recordBy order t (entry table k 4) l))
-      (e ∙ ap (λ (v : ℕ). viewed v input merged table k) (c .wide)) p
+      (e ∙ ap (λ (v : ℕ). partOf v input merged table k) (c .wide) ∙ sym (viewed-part t input merged table k)) p
 
 -- ---- chains from j on, of k
 

@@ -11,7 +11,8 @@ use Rattle.rules.specs.Refusals.{noChain, entry}
 use Rattle.point_slices.specs.Holds.{Holds}
 use Rattle.point_slices.proofs.Laws.{from-length}
 use Rattle.rules.specs.Calls.{viewed}
-use Rattle.rules.specs.Wkb.{widthOf, sizeOf, anyMissing, chainRecord, LentChains, runOf, lengthsOf}
+use Rattle.rules.specs.Types.{widthOf}
+use Rattle.rules.specs.Wkb.{sizeOf, anyMissing, chainRecord, LentChains, runOf, lengthsOf}
 use Rattle.wkb_records.proofs.Beginnings.{holds-more, holds-set, whole}
 use Rattle.wkb_writing.specs.Writing.{bytesFrom, RecordPut, chainBytes, Chain, Writable, Written}
 use Rattle.wkb_writing.proofs.Laws.{record-length}
@@ -94,8 +95,9 @@ module _ {w : ℕ} {i : LentChains} {run lengths : List ℕ} {at j : ℕ} (a : W
   size : length (chainRecord i j) ≡ sizeOf w (entry (i .table) j 4)
   unfolding chainRecord
   size =
-      record-length (i .order) (i .type) (entry (i .table) j 4) (viewed (widthOf true (i .type)) (i .input) (i .merged) (i .table) j)
-      ∙ ap (λ (n : ℕ). 9 + n * 8) (ap (λ (v : ℕ). length (viewed v (i .input) (i .merged) (i .table) j)) (sym (a .wide)) ∙ view-long w (i .input) (i .merged) (i .table) j here)
+      record-length (i .order) (i .type) (entry (i .table) j 4) (viewed (i .type) (i .input) (i .merged) (i .table) j)
+      ∙ ap (λ (n : ℕ). 9 + n * 8) (view-long (i .type) (i .input) (i .merged) (i .table) j (ap (λ (v : ℕ). noChain v (i .input) (i .merged) (i .table) j) (sym (a .wide)) ∙ here)
+      ∙ ap (λ (v : ℕ). entry (i .table) j 4 * v) (sym (a .wide)))
 
   put : {run′ : List ℕ} {r : ℕ} → RecordPut run′ run at r (chainBytes (i .order) (i .type) (i .input) (i .merged) (i .table) j) → RecordPut run′ run at r (chainRecord i j)
   unfolding chainRecord

@@ -6,7 +6,8 @@ use mathlib.Core.List.{List}
 use lib.ListN.{length}
 use Rattle.rules.specs.Refusals.{entry, noChain}
 use Rattle.rules.specs.Calls.{written, viewed}
-use Rattle.rules.specs.Wkb.{sizeOf, widthOf, anyMissing, recordBy, LentChains, runOf, lengthsOf}
+use Rattle.rules.specs.Types.{widthOf}
+use Rattle.rules.specs.Wkb.{sizeOf, anyMissing, recordBy, LentChains, runOf, lengthsOf}
 use Rattle.point_slices.specs.Holds.{HoldsFrom}
 
 -- the bytes stand from `at` up to r
@@ -16,11 +17,11 @@ pub record RecordPut (run′ run : List ℕ) (at r : ℕ) (bytes : List ℕ) : T
 
 -- chain k as a record of type t
 abbrev pub chainBytes : ℕ → ℕ → List ℕ → List ℕ → List ℕ → ℕ → List ℕ
-chainBytes order t input merged table k = recordBy order t (entry table k 4) (viewed (widthOf true t) input merged table k)
+chainBytes order t input merged table k = recordBy order t (entry table k 4) (viewed t input merged table k)
 
 -- chain k is there, with room for its record
 pub record Chain (run : List ℕ) (at t w : ℕ) (input merged table : List ℕ) (k : ℕ) : Type 0 where
-  pub wide : w ≡ widthOf true t
+  pub wide : w ≡ widthOf t
   pub narrow : w ≤ 4
   pub there : noChain w input merged table k ≡ false
   pub room : at + sizeOf w (entry table k 4) ≤ length run
@@ -32,7 +33,7 @@ bytesFrom w table j (suc n) = sizeOf w (entry table j 4) + bytesFrom w table (su
 
 -- all chains are there, with room for their records and lengths
 pub record Writable (w : ℕ) (i : LentChains) : Type 0 where
-  pub wide : w ≡ widthOf true (i .type)
+  pub wide : w ≡ widthOf (i .type)
   pub narrow : w ≤ 4
   pub there : anyMissing w (i .input) (i .merged) (i .table) 0 (i .number) ≡ false
   pub room : bytesFrom w (i .table) 0 (i .number) ≤ length (i .run)

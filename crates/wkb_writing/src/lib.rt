@@ -205,7 +205,7 @@ pub fn write<'a>(
     ensures { λ r. ⌜ Wrote (chainsAs «wkb_type» (now (coordinates .entry)) (now (merged .entry)) (now (table .entry)) k order
         (now (run .entry)) (now (lengths .entry))) r (now (run .exit)) (now (lengths .exit)) ⌝ }
 {
-    let width = wkb_records::width_of(true, wkb_type) as usize;
+    let width = point_numbers::width_of(wkb_type);
     if width == 0 {
         return Answer::Refused(12);
     }

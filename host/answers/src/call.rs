@@ -2,12 +2,22 @@
 
 use std::fmt;
 
+/// The types of lines: of x and y, with a height, with a measure, and with both.
+pub const TYPES: [u32; 4] = [2, 1002, 2002, 3002];
+
+/// The numbers of a coordinate of a type, if it is one of the four.
+pub fn stride_of(wkb_type: u32) -> Option<usize> {
+    TYPES.iter().position(|&known| known == wkb_type).map(|place| [2, 3, 3, 4][place])
+}
+
 /// A building call. Coordinates, tolerance and limit are the 64 bits of their floats.
-#[derive(Clone, Debug, Default, PartialEq, Eq)]
+#[derive(Clone, Debug, PartialEq, Eq)]
 pub struct BuildCall {
-    /// x, y, x, y .. of all lines, one line after another.
+    /// The type of all lines: 2, or 1002, 2002 and 3002 with heights, measures and both.
+    pub wkb_type: u32,
+    /// x, y and the extras of each coordinate of all lines, one line after another.
     pub coordinates: Vec<u64>,
-    /// Coordinates per line, counted in pairs.
+    /// Coordinates per line.
     pub counts: Vec<u32>,
     /// One group per line; lines of different groups never meet.
     pub groups: Vec<u32>,
@@ -21,11 +31,39 @@ pub struct BuildCall {
     pub limit: u64,
 }
 
+impl Default for BuildCall {
+    /// A call of no lines, of x and y.
+    fn default() -> Self {
+        BuildCall {
+            wkb_type: TYPES[0],
+            coordinates: vec![],
+            counts: vec![],
+            groups: vec![],
+            kinds: vec![],
+            tolerance: 0,
+            switch: 0,
+            limit: 0,
+        }
+    }
+}
+
 impl BuildCall {
-    /// Adds a line by the bits of its coordinates.
+    /// The numbers of a coordinate; those of x and y where the type is none of the four.
+    pub fn stride(&self) -> usize {
+        stride_of(self.wkb_type).unwrap_or(2)
+    }
+
+    /// Adds a line by the bits of x and y. Extras, where the type has them, are 0.
     pub fn push(&mut self, line: &[[u64; 2]], group: u32, kind: u8) {
-        self.coordinates.extend(line.iter().flatten());
-        self.counts.push(line.len() as u32);
+        let stride = self.stride();
+        let numbers = line.iter().flat_map(|&[x, y]| [x, y, 0, 0].into_iter().take(stride));
+        self.push_numbers(&numbers.collect::<Vec<u64>>(), group, kind);
+    }
+
+    /// Adds a line by the bits of all its numbers.
+    pub fn push_numbers(&mut self, line: &[u64], group: u32, kind: u8) {
+        self.counts.push((line.len() / self.stride()) as u32);
+        self.coordinates.extend(line);
         self.groups.push(group);
         self.kinds.push(kind);
     }
@@ -41,7 +79,7 @@ impl BuildCall {
         self.counts.len()
     }
 
-    /// The first coordinate of each line, counted in pairs.
+    /// The first coordinate of each line.
     pub fn firsts(&self) -> Vec<usize> {
         let mut sum = 0;
         let before = |&count: &u32| {
@@ -52,21 +90,47 @@ impl BuildCall {
         self.counts.iter().map(before).collect()
     }
 
-    /// The points of a line that begins at the given pair.
-    pub fn points(&self, line: usize, first: usize) -> Vec<[u64; 2]> {
-        let last = first + self.counts[line] as usize;
-        self.coordinates[2 * first..2 * last].chunks(2).map(|p| [p[0], p[1]]).collect()
+    /// All numbers of a line that begins at the given coordinate.
+    pub fn numbers(&self, line: usize, first: usize) -> &[u64] {
+        let (stride, last) = (self.stride(), first + self.counts[line] as usize);
+        &self.coordinates[stride * first..stride * last]
     }
 
-    /// True where a coordinate is NaN or infinite, of whichever line: it is no place.
+    /// The points of a line that begins at the given coordinate: x and y of each.
+    pub fn points(&self, line: usize, first: usize) -> Vec<[u64; 2]> {
+        self.numbers(line, first).chunks(self.stride()).map(|p| [p[0], p[1]]).collect()
+    }
+
+    /// True where an x or a y is NaN or infinite, of whichever line: it is no place.
     pub fn nowhere(&self) -> bool {
-        self.coordinates.iter().any(|&bits| !f64::from_bits(bits).is_finite())
+        let places = self.coordinates.chunks(self.stride());
+        places.flat_map(|p| p.iter().take(2)).any(|&bits| !f64::from_bits(bits).is_finite())
+    }
+
+    /// The refusal of the model's that applies, if one does: a type that is none of the four, or a
+    /// coordinate that is no place.
+    pub fn refusal(&self) -> Option<Refusal> {
+        match stride_of(self.wkb_type) {
+            None => Some(NO_TYPE),
+            Some(_) => self.nowhere().then_some(NO_PLACE),
+        }
+    }
+
+    /// The same call without extras, of type 2.
+    pub fn flat(&self) -> BuildCall {
+        let coordinates = without_extras(&self.coordinates, self.stride());
+        BuildCall { wkb_type: TYPES[0], coordinates, ..self.clone() }
     }
 
     /// True where a line passes through unjoined: by its kind, or for want of two coordinates.
     pub fn passes(&self, line: usize) -> bool {
         self.kinds[line] == 1 || self.counts[line] < 2
     }
+}
+
+/// x and y of each coordinate of so many numbers.
+pub fn without_extras(numbers: &[u64], stride: usize) -> Vec<u64> {
+    numbers.chunks(stride).flat_map(|p| p.iter().take(2)).copied().collect()
 }
 
 /// The answer of an accepted building call.
@@ -80,6 +144,13 @@ pub struct Built {
     pub marks: Vec<u8>,
     /// The coordinates of the chains of more than one line, one after another.
     pub merged: Vec<u64>,
+}
+
+impl Built {
+    /// The same answer to the call without extras, of coordinates of so many numbers.
+    pub fn flat(&self, stride: usize) -> Built {
+        Built { merged: without_extras(&self.merged, stride), ..self.clone() }
+    }
 }
 
 /// A pairing call over the ends at one node. Directions and limit are bits.
@@ -163,6 +234,9 @@ impl Route {
 #[derive(Clone, Copy, Debug, PartialEq, Eq)]
 pub struct Refusal(pub u32);
 
+/// The refusal of a type that is none of the four.
+pub const NO_TYPE: Refusal = Refusal(12);
+
 /// The refusal of a coordinate that is no place.
 pub const NO_PLACE: Refusal = Refusal(15);
 
@@ -183,12 +257,16 @@ fn word(bits: u64) -> String {
 impl fmt::Display for BuildCall {
     fn fmt(&self, f: &mut fmt::Formatter<'_>) -> fmt::Result {
         let (tolerance, limit) = (word(self.tolerance), word(self.limit));
+        if self.wkb_type != TYPES[0] {
+            writeln!(f, "type {}", self.wkb_type)?;
+        }
         writeln!(f, "tolerance {tolerance}, switch {}, limit {limit}", self.switch)?;
         for (line, first) in self.firsts().into_iter().enumerate() {
             let (group, kind) = (self.groups[line], self.kinds[line]);
             writeln!(f, "line {line}, group {group}, kind {kind}")?;
-            for [x, y] in self.points(line, first) {
-                writeln!(f, "  {} {}", word(x), word(y))?;
+            for numbers in self.numbers(line, first).chunks(self.stride()) {
+                let words: Vec<String> = numbers.iter().map(|&bits| word(bits)).collect();
+                writeln!(f, "  {}", words.join(" "))?;
             }
         }
         Ok(())

@@ -1,6 +1,6 @@
 //! What holds of every accepted call and of its answer by their form alone.
 
-use crate::call::{BuildCall, Built, Pair, PairingCall};
+use crate::call::{stride_of, BuildCall, Built, Pair, PairingCall};
 use std::collections::HashMap;
 
 /// A sentence about the first thing that does not hold.
@@ -20,12 +20,13 @@ fn in_range(limit: u64) -> bool {
 /// No refusal applies to the building call but that of coordinates that are no place.
 pub fn build_call(call: &BuildCall) -> Checked {
     let n = call.lines();
-    let pairs: usize = call.counts.iter().map(|&count| count as usize).sum();
+    let points: usize = call.counts.iter().map(|&count| count as usize).sum();
+    ensure(stride_of(call.wkb_type).is_some(), "the type is none of the four")?;
     ensure(n <= 4096, "there are more than 4,096 lines")?;
     ensure(call.groups.len() == n && call.kinds.len() == n, "the tables differ in length")?;
     ensure(call.kinds.iter().all(|&kind| kind <= 1), "a kind is above 1")?;
-    ensure(2 * pairs == call.coordinates.len(), "the counts do not add up")?;
-    ensure(pairs <= 65536, "there are more than 65,536 coordinates")?;
+    ensure(call.stride() * points == call.coordinates.len(), "the counts do not add up")?;
+    ensure(points <= 65536, "there are more than 65,536 coordinates")?;
     ensure(call.switch <= 1, "the switch is above 1")?;
     ensure(call.switch == 0 || in_range(call.limit), "the limit is out of range")
 }
@@ -52,7 +53,7 @@ pub fn built(call: &BuildCall, built: &Built) -> Checked {
         merged += if record[2] == 1 { record[4] as usize } else { 0 };
     }
     ensure(members == built.members.len(), "the last members are in no chain")?;
-    ensure(2 * merged == built.merged.len(), "the merged coordinates do not add up")?;
+    ensure(call.stride() * merged == built.merged.len(), "the merged coordinates do not add up")?;
     passing(call, built)
 }
 

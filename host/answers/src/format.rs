@@ -1,6 +1,6 @@
 //! The recorded files. `data/oracle/README.md` describes their bytes.
 
-use crate::call::{BuildCall, Built, Pair, PairingCall, Refusal};
+use crate::call::{BuildCall, Built, Pair, PairingCall, Refusal, TYPES};
 use std::collections::HashMap;
 
 /// A building call with its answer, or with the refusal that turns it away.
@@ -21,7 +21,11 @@ pub enum Recorded {
 /// The eight bytes with which every file begins.
 const MAGIC: &[u8; 8] = b"lovasuku";
 
-/// The bytes of a file.
+/// The bytes of a file. The Rust, whose answers are recorded, knows no extras, so that no type is.
+///
+/// # Panics
+///
+/// Panics where a building call is not of type 2.
 pub fn write(recorded: &Recorded) -> Vec<u8> {
     let mut body = Writer::default();
     let kind = match recorded {
@@ -114,6 +118,7 @@ impl Writer {
     }
 
     fn build_entry(&mut self, (call, answer): &BuildEntry) {
+        assert_eq!(call.wkb_type, TYPES[0], "only lines of x and y are recorded");
         self.list(&call.coordinates, Self::word);
         self.list(&call.counts, Self::middle);
         self.list(&call.groups, Self::middle);
@@ -205,6 +210,7 @@ impl<'a> Reader<'a> {
 
     fn build_entry(&mut self) -> Read<BuildEntry> {
         let call = BuildCall {
+            wkb_type: TYPES[0],
             coordinates: self.list(Self::word)?,
             counts: self.list(Self::within)?,
             groups: self.list(Self::within)?,

@@ -22,4 +22,7 @@ pub mod replay;
 pub mod styles;
 pub mod wkb;
 
-pub use call::{BuildCall, Built, Pair, PairingCall, Port, Refusal, Route, WhyCall, NO_PLACE};
+pub use call::{stride_of, TYPES};
+pub use call::{
+    BuildCall, Built, Pair, PairingCall, Port, Refusal, Route, WhyCall, NO_PLACE, NO_TYPE,
+};

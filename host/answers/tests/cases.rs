@@ -2,7 +2,7 @@
 
 use answers::model::plane::{cell, direction};
 use answers::model::Model;
-use answers::{BuildCall, Built, Pair, PairingCall, Port, Route, NO_PLACE};
+use answers::{BuildCall, Built, Pair, PairingCall, Port, Route, NO_PLACE, NO_TYPE, TYPES};
 
 type Line = [(f64, f64)];
 
@@ -165,4 +165,68 @@ fn differences_of_places_overflow() {
 #[test]
 fn n_cells_below_and_at_zero() {
     assert_eq!((cell(-0.25, 1.0), cell(-0.0, 1.0)), (-1, 0));
+}
+
+/// A call of a type without lines.
+fn of_type(wkb_type: u32) -> BuildCall {
+    BuildCall { wkb_type, ..BuildCall::default() }
+}
+
+/// The bits of numbers.
+fn words<const N: usize>(numbers: [f64; N]) -> [u64; N] {
+    numbers.map(f64::to_bits)
+}
+
+#[test]
+fn of_repeats_the_earlier_one_keeps_its_extras() {
+    let mut call = of_type(1002);
+    call.push_numbers(&words([0.0, 0.0, 1.0, 1.0, 0.0, 2.0, 1.0, 0.0, 3.0]), 0, 0);
+    call.push_numbers(&words([1.0, 0.0, 4.0, 2.0, 0.0, 5.0]), 0, 0);
+    let built = Model.build(&call).expect("every coordinate is a place");
+    assert_eq!(built.table, [[0, 2, 1, 0, 3]]);
+    assert_eq!(built.merged, words([0.0, 0.0, 1.0, 1.0, 0.0, 2.0, 2.0, 0.0, 5.0]));
+}
+
+#[test]
+fn the_earlier_one_is_that_of_each_round_s_own_laying() {
+    // Round one lays line 1 and then line 2, turned, and keeps line 1's height at 3.5. Round two
+    // walks that piece backwards: laid afresh, it would be line 2's.
+    let mut call = BuildCall { tolerance: 1f64.to_bits(), ..of_type(1002) };
+    call.push_numbers(&words([0.0, 0.0, 1.0, 1.25, 0.0, 2.0]), 0, 0);
+    call.push_numbers(&words([4.5, 0.0, 3.0, 3.5, 0.0, 4.0]), 0, 0);
+    call.push_numbers(&words([3.5, 0.0, 5.0, 1.75, 0.0, 6.0]), 0, 0);
+    let built = Model.build(&call).expect("every coordinate is a place");
+    assert_eq!((built.members, built.marks), (vec![0, 1, 2], vec![0, 1, 1]));
+    let heights: Vec<f64> = built.merged.chunks(3).map(|p| f64::from_bits(p[2])).collect();
+    assert_eq!(heights, [1.0, 2.0, 6.0, 4.0, 3.0]);
+}
+
+#[test]
+fn extras_may_be_anything_and_a_type_is_one_of_four() {
+    let lost = [f64::NAN, f64::NEG_INFINITY];
+    for wkb_type in TYPES {
+        let mut call = of_type(wkb_type);
+        let stride = call.stride();
+        let line: Vec<u64> = [0.0, 1.0]
+            .iter()
+            .flat_map(|&x| words([x, 0.0, lost[0], lost[1]])[..stride].to_vec())
+            .collect();
+        call.push_numbers(&line, 0, 0);
+        assert!(Model.build(&call).is_ok());
+        call.coordinates[stride] = lost[0].to_bits();
+        assert_eq!(Model.build(&call), Err(NO_PLACE));
+    }
+    for wkb_type in [0, 1, 3, 1001, 1003, 2003, 4002, 0x8000_0002, u32::MAX] {
+        assert_eq!(Model.build(&of_type(wkb_type)), Err(NO_TYPE));
+    }
+}
+
+#[test]
+fn without_extras_everything_else_is_the_same() {
+    let mut call = of_type(3002);
+    call.push_numbers(&words([0.0, 0.0, 1.0, 2.0, 1.0, 0.0, 3.0, 4.0]), 0, 0);
+    call.push_numbers(&words([2.0, 0.0, 5.0, 6.0, 1.0, -0.0, 7.0, 8.0, 1.0, 0.0, 9.0, 9.5]), 0, 0);
+    let built = Model.build(&call).expect("every coordinate is a place");
+    assert_eq!(Model.build(&call.flat()), Ok(built.flat(4)));
+    assert_eq!(built.merged.len(), 12);
 }

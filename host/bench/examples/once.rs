@@ -7,7 +7,7 @@
 //! ```
 
 use bench::workloads::{MODES, WORKLOADS};
-use lovasuku_chains::{Lines, Rooms, Settings};
+use lovasuku_chains::{Dimension, Lines, Rooms, Settings};
 use std::process::ExitCode;
 
 const USAGE: &str = "once WORKLOAD LINES MODE";
@@ -31,6 +31,7 @@ fn once(mut words: impl Iterator<Item = String>) -> Option<usize> {
     let call = (workload.make)(lines).call(mode);
     let coordinates: Vec<f64> = call.coordinates.iter().map(|&bits| f64::from_bits(bits)).collect();
     let lent = Lines {
+        dimension: Dimension::Xy,
         coordinates: &coordinates,
         counts: &call.counts,
         groups: &call.groups,

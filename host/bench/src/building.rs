@@ -4,10 +4,10 @@
 use crate::clock::{best, hidden, timed, Patience};
 use crate::geos::Geos;
 use crate::times::{measured, Times};
-use answers::{BuildCall, Built};
+use answers::{model, BuildCall, Built};
 use lovasuku_chains::door::{self, RawSettings};
 use lovasuku_chains::size::{LINE_WORKSPACE, RECORD};
-use lovasuku_chains::Lines;
+use lovasuku_chains::{Dimension, Lines};
 use oracle::{chains::without_marks, switch, Oracle};
 
 /// The times of a call, taken after both sides have been seen to answer alike. The error is a
@@ -24,6 +24,27 @@ pub fn compare(oracle: Oracle, call: &BuildCall, patience: Patience) -> Result<T
     let mut rust = || timed(|| hidden(&ready).run());
     let times = || measured(&mut [&mut port, &mut rust], patience);
     Ok(switch::under(call.switch == 1, times))
+}
+
+/// The nanoseconds of the port on a call and on the same with extras of each type, run in turn, after
+/// each has been seen to answer as the model does.
+pub fn with_extras(calls: &[BuildCall], patience: Patience) -> Result<Vec<f64>, String> {
+    let mut works = Vec::new();
+    for call in calls {
+        let coordinates: Vec<f64> =
+            call.coordinates.iter().map(|&bits| f64::from_bits(bits)).collect();
+        let mut rooms = Rooms::dirty(call);
+        let chains = build(call, &coordinates, &mut rooms);
+        rooms.check(chains, &model::built(call))?;
+        works.push((call, coordinates, rooms));
+    }
+    let port = |(call, coordinates, rooms): &'_ mut (&BuildCall, Vec<f64>, Rooms)| {
+        timed(|| build(call, coordinates, rooms))
+    };
+    let mut clocks: Vec<_> = works.iter_mut().map(|work| move || port(work)).collect();
+    let mut turns: Vec<&mut dyn FnMut() -> f64> = Vec::new();
+    turns.extend(clocks.iter_mut().map(|clock| clock as &mut dyn FnMut() -> f64));
+    Ok(best(&mut turns, patience))
 }
 
 /// The nanoseconds of GEOS's LineMerger on the lines of a call, which has to give as many lines as
@@ -55,14 +76,19 @@ pub fn zeroing(call: &BuildCall, patience: Patience) -> f64 {
 
 /// The port's call, with the rooms as the call before left them.
 fn build(call: &BuildCall, coordinates: &[f64], rooms: &mut Rooms) -> i64 {
-    let lines =
-        Lines { coordinates, counts: &call.counts, groups: &call.groups, kinds: &call.kinds };
+    let lines = Lines {
+        dimension: Dimension::of_wkb_type(call.wkb_type).unwrap_or_default(),
+        coordinates,
+        counts: &call.counts,
+        groups: &call.groups,
+        kinds: &call.kinds,
+    };
     let settings = RawSettings {
         tolerance: f64::from_bits(call.tolerance),
         switch: call.switch,
         limit: f64::from_bits(call.limit),
     };
-    door::build(hidden(lines), settings, rooms.lent())
+    door::build(call.wkb_type, hidden(lines), settings, rooms.lent())
 }
 
 /// The rooms of a call, each as long as the rules ask for.

@@ -24,6 +24,9 @@ const LAZY: c_int = 1;
 /// The names under which systems have the library.
 const NAMES: [&str; 3] = ["libgeos_c.so.1", "libgeos_c.so", "libgeos_c.dylib"];
 
+/// GEOS's number for the flavour of WKB that is ISO's.
+const ISO: c_int = 2;
+
 /// GEOS's number for a geometry of several lines.
 const MULTI_LINE: c_int = 5;
 
@@ -35,6 +38,7 @@ pub struct Geos {
     sequence: unsafe extern "C" fn(Pointer, c_uint, c_uint) -> Pointer,
     set_x: unsafe extern "C" fn(Pointer, Pointer, c_uint, c_double) -> c_int,
     set_y: unsafe extern "C" fn(Pointer, Pointer, c_uint, c_double) -> c_int,
+    set_z: unsafe extern "C" fn(Pointer, Pointer, c_uint, c_double) -> c_int,
     line: unsafe extern "C" fn(Pointer, Pointer) -> Pointer,
     collection: unsafe extern "C" fn(Pointer, c_int, *mut Pointer, c_uint) -> Pointer,
     merge: unsafe extern "C" fn(Pointer, Pointer) -> Pointer,
@@ -57,6 +61,7 @@ impl Geos {
                 sequence: function(library, "GEOSCoordSeq_create_r")?,
                 set_x: function(library, "GEOSCoordSeq_setX_r")?,
                 set_y: function(library, "GEOSCoordSeq_setY_r")?,
+                set_z: function(library, "GEOSCoordSeq_setZ_r")?,
                 line: function(library, "GEOSGeom_createLineString_r")?,
                 collection: function(library, "GEOSGeom_createCollection_r")?,
                 merge: function(library, "GEOSLineMerge_r")?,
@@ -74,7 +79,7 @@ impl Geos {
     /// The lines of a call, made ready to be merged.
     pub fn merging(&self, call: &BuildCall) -> Result<Merging<'_>, String> {
         let firsts = call.firsts();
-        let line = |line: usize| self.line(&call.points(line, firsts[line]));
+        let line = |line: usize| self.line(call.numbers(line, firsts[line]), call.stride());
         let mut lines: Vec<Pointer> = (0..call.lines()).map(line).collect();
         let count = lines.len() as c_uint;
         let lines =
@@ -99,13 +104,14 @@ impl Geos {
         }
     }
 
-    /// The library's writer of WKB in a byte order.
-    pub fn wkb_writer(&self, order: u8) -> Option<WkbWriter<'_>> {
+    /// The library's writer of WKB in a byte order, of coordinates of so many numbers. That of heights
+    /// writes ISO's flavour, which GEOS has from 3.10 on.
+    pub fn wkb_writer(&self, order: u8, stride: usize) -> Option<WkbWriter<'_>> {
+        type Set = unsafe extern "C" fn(Pointer, Pointer, c_int);
         unsafe {
             let create: unsafe extern "C" fn(Pointer) -> Pointer =
                 function(self.library, "GEOSWKBWriter_create_r")?;
-            let set_order: unsafe extern "C" fn(Pointer, Pointer, c_int) =
-                function(self.library, "GEOSWKBWriter_setByteOrder_r")?;
+            let set_order: Set = function(self.library, "GEOSWKBWriter_setByteOrder_r")?;
             let writer = WkbWriter {
                 geos: self,
                 write: function(self.library, "GEOSWKBWriter_write_r")?,
@@ -114,19 +120,25 @@ impl Geos {
                 writer: create(self.handle),
             };
             set_order(self.handle, writer.writer, c_int::from(order));
+            if stride > 2 {
+                let set_flavour: Set = function(self.library, "GEOSWKBWriter_setFlavor_r")?;
+                let set_dimension: Set =
+                    function(self.library, "GEOSWKBWriter_setOutputDimension_r")?;
+                set_flavour(self.handle, writer.writer, ISO);
+                set_dimension(self.handle, writer.writer, 3);
+            }
             Some(writer)
         }
     }
 
-    /// A line by the bits of its coordinates, if GEOS takes it.
-    pub fn geometry(&self, coordinates: &[u64]) -> Option<Geometry<'_>> {
-        let points: Vec<[u64; 2]> = coordinates.chunks_exact(2).map(|p| [p[0], p[1]]).collect();
-        let pointer = self.line(&points);
+    /// A line by the bits of its coordinates of so many numbers, if GEOS takes it.
+    pub fn geometry(&self, coordinates: &[u64], stride: usize) -> Option<Geometry<'_>> {
+        let pointer = self.line(coordinates, stride);
         (!pointer.is_null()).then_some(Geometry { geos: self, pointer })
     }
 
-    /// x and y of all coordinates of a line, by their bits.
-    pub fn coordinates(&self, line: &Geometry<'_>) -> Option<Vec<u64>> {
+    /// So many numbers of each coordinate of a line, x, y and the height, by their bits.
+    pub fn coordinates(&self, line: &Geometry<'_>, stride: usize) -> Option<Vec<u64>> {
         type Get = unsafe extern "C" fn(Pointer, Pointer, c_uint, *mut c_double) -> c_int;
         unsafe {
             let sequence: unsafe extern "C" fn(Pointer, Pointer) -> Pointer =
@@ -135,6 +147,8 @@ impl Geos {
                 function(self.library, "GEOSCoordSeq_getSize_r")?;
             let get_x: Get = function(self.library, "GEOSCoordSeq_getX_r")?;
             let get_y: Get = function(self.library, "GEOSCoordSeq_getY_r")?;
+            let get_z: Get = function(self.library, "GEOSCoordSeq_getZ_r")?;
+            let gets = [get_x, get_y, get_z];
             let sequence = sequence(self.handle, line.pointer);
             let mut count = 0;
             size(self.handle, sequence, &mut count);
@@ -143,16 +157,20 @@ impl Geos {
                 get(self.handle, sequence, k, &mut number);
                 number.to_bits()
             };
-            Some((0..count).flat_map(|k| [number(get_x, k), number(get_y, k)]).collect())
+            let of = |k| gets.into_iter().take(stride).map(move |get| (get, k));
+            Some((0..count).flat_map(of).map(|(get, k)| number(get, k)).collect())
         }
     }
 
-    fn line(&self, points: &[[u64; 2]]) -> Pointer {
+    fn line(&self, coordinates: &[u64], stride: usize) -> Pointer {
+        let count = (coordinates.len() / stride) as c_uint;
         unsafe {
-            let sequence = (self.sequence)(self.handle, points.len() as c_uint, 2);
-            for (k, &[x, y]) in (0..).zip(points) {
-                (self.set_x)(self.handle, sequence, k, f64::from_bits(x));
-                (self.set_y)(self.handle, sequence, k, f64::from_bits(y));
+            let sequence = (self.sequence)(self.handle, count, stride as c_uint);
+            for (k, numbers) in (0..).zip(coordinates.chunks_exact(stride)) {
+                let sets = [self.set_x, self.set_y, self.set_z];
+                for (set, &bits) in sets.into_iter().zip(numbers) {
+                    set(self.handle, sequence, k, f64::from_bits(bits));
+                }
             }
             (self.line)(self.handle, sequence)
         }

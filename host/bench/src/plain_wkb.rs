@@ -6,27 +6,39 @@ use std::convert::TryInto;
 /// Byte order, type and count.
 const HEADER: usize = 9;
 
-/// Reads lines of x and y from a run of records, whose lengths stand in a table, or gives the
+/// The numbers of a coordinate of a type, if it is a line's.
+fn stride_of(wkb_type: u32) -> Option<usize> {
+    match wkb_type {
+        2 => Some(2),
+        1002 | 2002 => Some(3),
+        3002 => Some(4),
+        _ => None,
+    }
+}
+
+/// Reads lines from a run of records, whose lengths stand in a table, with their type, or gives the
 /// number of the refusal. Nothing is stored before all records have been looked at.
 pub fn read(
     run: &[u8],
     lengths: &[u64],
     coordinates: &mut [f64],
     counts: &mut [u32],
+    wkb_type: &mut [u32],
 ) -> Result<usize, u8> {
     let sum = lengths.iter().try_fold(0u64, |sum, &length| sum.checked_add(length));
     if sum != Some(run.len() as u64) {
         return Err(13);
     }
-    let (mut rest, mut numbers) = (run, 0);
+    let (mut rest, mut numbers, mut first) = (run, 0, None);
     for &length in lengths {
         let (record, behind) = rest.split_at(length as usize);
-        numbers += 2 * count(record)? as usize;
+        numbers += numbers_of(record, &mut first)?;
         rest = behind;
     }
-    if coordinates.len() < numbers || counts.len() < lengths.len() {
+    if coordinates.len() < numbers || counts.len() < lengths.len() || wkb_type.is_empty() {
         return Err(14);
     }
+    wkb_type[0] = first.unwrap_or(2);
     let (mut rest, mut room) = (run, coordinates);
     for (&length, row) in lengths.iter().zip(counts) {
         let (record, behind) = rest.split_at(length as usize);
@@ -47,20 +59,22 @@ pub fn read(
     Ok(lengths.len())
 }
 
-/// The count of a record, if it is a line.
-fn count(record: &[u8]) -> Result<u32, u8> {
+/// How many numbers a record has, if it is a line of the first one's type.
+fn numbers_of(record: &[u8], first: &mut Option<u32>) -> Result<usize, u8> {
     if record.len() < HEADER {
         return Err(13);
     }
     if record[0] > 1 {
         return Err(11);
     }
-    if word(record, 1) != 2 {
-        return Err(12);
+    let wkb_type = word(record, 1);
+    let stride = stride_of(wkb_type).ok_or(12)?;
+    if *first.get_or_insert(wkb_type) != wkb_type {
+        return Err(25);
     }
-    let count = word(record, 5);
-    match record.len() as u64 == HEADER as u64 + 16 * u64::from(count) {
-        true => Ok(count),
+    let numbers = stride * word(record, 5) as usize;
+    match record.len() == HEADER + 8 * numbers {
+        true => Ok(numbers),
         false => Err(13),
     }
 }
@@ -78,9 +92,11 @@ fn eight(bytes: &[u8]) -> [u8; 8] {
     bytes.try_into().unwrap_or_default()
 }
 
-/// Writes the first k chains of a table as records in a byte order, with their lengths, or gives
-/// the number of the refusal. Nothing is stored before all rows have been looked at.
+/// Writes the first k chains of a table as records of a type in a byte order, with their lengths, or
+/// gives the number of the refusal. Nothing is stored before all rows have been looked at.
+#[allow(clippy::too_many_arguments)]
 pub fn write(
+    wkb_type: u32,
     coordinates: &[f64],
     merged: &[f64],
     table: &[u32],
@@ -89,13 +105,14 @@ pub fn write(
     run: &mut [u8],
     lengths: &mut [u64],
 ) -> Result<usize, u8> {
+    let stride = stride_of(wkb_type).ok_or(12)?;
     if order > 1 {
         return Err(16);
     }
     let rows = usize::try_from(k).ok().and_then(|k| table.get(..k.checked_mul(5)?)).ok_or(10)?;
     let mut bytes = 0u64;
     for row in rows.chunks_exact(5) {
-        let numbers = line(coordinates, merged, row).ok_or(10)?.len();
+        let numbers = line(coordinates, merged, row, stride).ok_or(10)?.len();
         bytes = bytes.checked_add(HEADER as u64 + 8 * numbers as u64).ok_or(14)?;
     }
     if bytes > run.len() as u64 || lengths.len() < rows.len() / 5 {
@@ -103,19 +120,19 @@ pub fn write(
     }
     let mut rest = run;
     for (row, length) in rows.chunks_exact(5).zip(lengths) {
-        let numbers = line(coordinates, merged, row).ok_or(10)?;
+        let numbers = line(coordinates, merged, row, stride).ok_or(10)?;
         let (record, behind) = rest.split_at_mut(HEADER + 8 * numbers.len());
         let (header, body) = record.split_at_mut(HEADER);
         let doubles = body.chunks_exact_mut(8).zip(numbers);
         header[0] = order;
         match order {
             0 => {
-                header[1..5].copy_from_slice(&2u32.to_be_bytes());
+                header[1..5].copy_from_slice(&wkb_type.to_be_bytes());
                 header[5..].copy_from_slice(&row[4].to_be_bytes());
                 doubles.for_each(|(to, from)| to.copy_from_slice(&from.to_bits().to_be_bytes()));
             }
             _ => {
-                header[1..5].copy_from_slice(&2u32.to_le_bytes());
+                header[1..5].copy_from_slice(&wkb_type.to_le_bytes());
                 header[5..].copy_from_slice(&row[4].to_le_bytes());
                 doubles.for_each(|(to, from)| to.copy_from_slice(&from.to_bits().to_le_bytes()));
             }
@@ -126,13 +143,18 @@ pub fn write(
     Ok(bytes as usize)
 }
 
-/// The coordinates that a row of a table names, if they are there.
-fn line<'a>(coordinates: &'a [f64], merged: &'a [f64], row: &[u32]) -> Option<&'a [f64]> {
+/// The numbers of the coordinates that a row of a table names, if they are there.
+fn line<'a>(
+    coordinates: &'a [f64],
+    merged: &'a [f64],
+    row: &[u32],
+    stride: usize,
+) -> Option<&'a [f64]> {
     let from = match row[2] {
         0 => coordinates,
         1 => merged,
         _ => return None,
     };
-    let first = 2 * row[3] as usize;
-    from.get(first..first + 2 * row[4] as usize)
+    let first = stride * row[3] as usize;
+    from.get(first..first + stride * row[4] as usize)
 }

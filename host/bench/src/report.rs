@@ -5,11 +5,13 @@ use crate::ends::{Directions, Rivals, DIRECTIONS, ROUTES, SIZES};
 use crate::geos::Geos;
 use crate::options::Options;
 use crate::summary::Summary;
-use crate::table::{head, measured, row, short, whole, Column};
+use crate::table::{head, measured, row, short, time, whole, Column};
 use crate::times::Times;
 use crate::wkb::{self, Run};
 use crate::workloads::{Workload, MODES, WORKLOADS};
 use crate::{building, pairing};
+use answers::random::Random;
+use answers::styles::heights::with_extras;
 use answers::{BuildCall, Route};
 use oracle::Oracle;
 
@@ -39,13 +41,26 @@ const PAIRING: [Column; 7] = [
 ];
 
 const WKB: [Column; 6] = [
-    Column::words("WKB", 15),
+    Column::words("WKB", 19),
     Column::numbers("records", 7),
     Column::numbers("points", 6),
     Column::numbers("of plain Rust", 15),
     Column::numbers("copy alone", 15),
     Column::numbers("of GEOS", 7),
 ];
+
+const EXTRAS: [Column; 6] = [
+    Column::words("extras", 26),
+    Column::numbers("lines", 6),
+    Column::numbers("points", 6),
+    Column::numbers("type 2", 7),
+    Column::numbers("Z, of its bytes", 15),
+    Column::numbers("ZM, of its bytes", 16),
+];
+
+/// The workloads of building with extras, with their modes.
+const HIGH: [(&str, usize, usize); 3] =
+    [("borders", 4_096, 0), ("borders", 4_096, 3), ("long lines", 16, 0)];
 
 /// A run in the making.
 pub struct Report<'a> {
@@ -61,7 +76,8 @@ impl Report<'_> {
     pub fn run(&mut self) -> Result<(), String> {
         self.building()?;
         self.pairing()?;
-        self.wkb()
+        self.wkb()?;
+        self.extras()
     }
 
     fn building(&mut self) -> Result<(), String> {
@@ -89,18 +105,87 @@ impl Report<'_> {
 
     fn wkb(&mut self) -> Result<(), String> {
         let rows = |&way: &WkbWay| {
-            let of = move |&(name, order): &(&'static str, u8)| {
-                wkb::RECORDS.iter().map(move |&records| (way, name, order, records))
+            let of = move |&(order, number): &(&'static str, u8)| {
+                // Heights and measures in one order: the other differs by as much as that of x and y.
+                let types = if number == 1 { &wkb::TYPES[..] } else { &wkb::TYPES[..1] };
+                let named = move |&(kind, wkb_type): &(&'static str, u32)| {
+                    let name = format!("WKB {}, {order}{kind}", way.name);
+                    let of = move |&records| (way, name.clone(), wkb_type, records, number);
+                    wkb::RECORDS.iter().map(of)
+                };
+                types.iter().flat_map(named)
             };
             wkb::ORDERS.iter().flat_map(of)
         };
-        let mut rows: Vec<(WkbWay, &str, u8, usize)> = WKB_WAYS.iter().flat_map(rows).collect();
-        rows.retain(|(way, order, ..)| self.options.asks_for(&wkb_name(way, order)));
+        let mut rows: Vec<(WkbWay, String, u32, usize, u8)> =
+            WKB_WAYS.iter().flat_map(rows).collect();
+        rows.retain(|(_, name, ..)| self.options.asks_for(name));
         self.head(&WKB, rows.is_empty());
-        for (way, name, order, records) in rows {
-            self.wkb_row(way, &wkb_name(&way, name), &Run::of(records, order))?;
+        for (way, name, wkb_type, records, order) in rows {
+            self.wkb_row(way, &name, &Run::of(wkb_type, records, order))?;
         }
         Ok(())
+    }
+
+    /// The library's times with extras as parts of those without.
+    fn extras(&mut self) -> Result<(), String> {
+        let named = |(name, lines, mode): &(&str, usize, usize)| {
+            (format!("extras, {name}, {}", MODES[*mode].name), *lines)
+        };
+        let building: Vec<_> =
+            HIGH.iter().filter(|high| self.options.asks_for(&named(high).0)).collect();
+        let wkb: Vec<_> = WKB_WAYS
+            .iter()
+            .flat_map(|way| wkb::RECORDS.iter().map(move |&records| (way, records)))
+            .filter(|(way, _)| self.options.asks_for(&format!("extras, WKB {}", way.name)))
+            .collect();
+        self.head(&EXTRAS, building.is_empty() && wkb.is_empty());
+        let patience = self.options.patience();
+        for high in building {
+            let ((name, lines), mode) = (named(high), &MODES[high.2]);
+            let workload = WORKLOADS.iter().find(|workload| workload.name == high.0);
+            let flat =
+                workload.map(|workload| (workload.make)(lines).call(mode)).unwrap_or_default();
+            let of = |&(_, wkb_type): &(&str, u32)| match wkb_type {
+                2 => flat.clone(),
+                _ => with_extras(&mut Random::new(7), &flat, wkb_type),
+            };
+            let calls: Vec<BuildCall> = wkb::TYPES.iter().map(of).collect();
+            let times = building::with_extras(&calls, patience);
+            let bytes: Vec<f64> = calls.iter().map(|call| call.coordinates.len() as f64).collect();
+            let points = flat.coordinates.len() / 2;
+            let times = times.map_err(|fault| format!("{name}: {fault}"))?;
+            self.extras_row(&name, lines, points, &times, &bytes);
+        }
+        for (way, records) in wkb {
+            let name = format!("extras, WKB {}", way.name);
+            let runs: Vec<Run> =
+                wkb::TYPES.map(|(_, t)| Run::of_points(t, wkb::FEW_POINTS, records, 1)).into();
+            let times =
+                (way.times_of)(&runs, patience).map_err(|fault| format!("{name}: {fault}"))?;
+            let bytes: Vec<f64> = runs.iter().map(|run| run.bytes.len() as f64).collect();
+            self.extras_row(&name, records, wkb::FEW_POINTS, &times, &bytes);
+        }
+        Ok(())
+    }
+
+    /// A row of times of type 2, Z and ZM, with the bytes of each.
+    fn extras_row(
+        &mut self,
+        name: &str,
+        lines: usize,
+        points: usize,
+        times: &[f64],
+        bytes: &[f64],
+    ) {
+        let short_name = name.strip_prefix("extras, ").unwrap_or(name);
+        let mut cells = vec![short_name.to_string(), whole(lines), whole(points), time(times[0])];
+        for (k, kind) in [(1, "Z"), (2, "ZM")] {
+            let ratio = times[k] / times[0] / (bytes[k] / bytes[0]);
+            cells.push(measured(self.options.form, ratio, times[k]));
+            self.summary.extras.push(format!("{kind}, {short_name} of {}", whole(lines)), ratio);
+        }
+        println!("{}", row(self.options.form, &EXTRAS, &cells));
     }
 
     /// The head of a table that has a row.
@@ -182,9 +267,10 @@ impl Report<'_> {
         let mut cells = vec![name.to_string(), records.clone(), whole(wkb::POINTS)];
         cells.push(measured(self.options.form, times.ratio(), times.port));
         cells.push(measured(self.options.form, copying / times.rust, copying));
-        cells.push(match self.geos {
+        let geos = self.geos.map(|geos| (way.geos)(geos, run, patience).map_err(in_this));
+        cells.push(match geos.transpose()?.flatten() {
             Some(geos) => {
-                let ratio = times.port / (way.geos)(geos, run, patience).map_err(in_this)?;
+                let ratio = times.port / geos;
                 self.summary.wkb_geos.push(full_name.clone(), ratio);
                 short(ratio)
             }
@@ -201,18 +287,14 @@ impl Report<'_> {
 struct WkbWay {
     name: &'static str,
     times: fn(&Run, Patience) -> Result<Times, String>,
-    geos: fn(&Geos, &Run, Patience) -> Result<f64, String>,
+    times_of: fn(&[Run], Patience) -> Result<Vec<f64>, String>,
+    geos: fn(&Geos, &Run, Patience) -> Result<Option<f64>, String>,
 }
 
 const WKB_WAYS: [WkbWay; 2] = [
-    WkbWay { name: "in", times: wkb::reading, geos: wkb::geos_reading },
-    WkbWay { name: "out", times: wkb::writing, geos: wkb::geos_writing },
+    WkbWay { name: "in", times: wkb::reading, times_of: wkb::readings, geos: wkb::geos_reading },
+    WkbWay { name: "out", times: wkb::writing, times_of: wkb::writings, geos: wkb::geos_writing },
 ];
-
-/// The name of a run of records that is read or written in a byte order.
-fn wkb_name(way: &WkbWay, order: &str) -> String {
-    format!("WKB {}, {order}", way.name)
-}
 
 /// The Rust's sorted route takes seconds for the most ends.
 fn too_long(route: Route, ends: usize) -> bool {

@@ -8,6 +8,10 @@ pub const MOST_RATIO: f64 = 1.0;
 /// No ratio to GEOS's reading of WKB may be above this.
 pub const MOST_OF_GEOS: f64 = 0.2;
 
+/// No time with extras may be above this part of that without, by the bytes of both: 1, and a tenth for
+/// what a clock does not tell apart.
+pub const MOST_OF_BYTES: f64 = 1.1;
+
 /// The geometric mean of building may not be above this.
 pub const MOST_MEAN: f64 = 0.5;
 
@@ -55,6 +59,8 @@ pub struct Summary {
     pub geos: Ratios,
     pub wkb: Ratios,
     pub wkb_geos: Ratios,
+    /// The port's time with extras as a part of that without, each by its bytes.
+    pub extras: Ratios,
 }
 
 impl Summary {
@@ -66,6 +72,7 @@ impl Summary {
             ("building, of GEOS", &self.geos),
             ("WKB, of plain Rust", &self.wkb),
             ("WKB, of GEOS", &self.wkb_geos),
+            ("extras, of their bytes", &self.extras),
         ];
         let mut lines: Vec<_> =
             titles.iter().filter_map(|(title, ratios)| ratios.line(title)).collect();
@@ -78,12 +85,13 @@ impl Summary {
     }
 
     /// The ratios that the gate looks at one by one, with the most that each may be.
-    fn gated(&self) -> [(&Ratios, f64); 4] {
+    fn gated(&self) -> [(&Ratios, f64); 5] {
         [
             (&self.building, MOST_RATIO),
             (&self.pairing, MOST_RATIO),
             (&self.wkb, MOST_RATIO),
             (&self.wkb_geos, MOST_OF_GEOS),
+            (&self.extras, MOST_OF_BYTES),
         ]
     }
 

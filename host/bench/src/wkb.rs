@@ -5,14 +5,22 @@ use crate::geos::Geos;
 use crate::plain_wkb;
 use crate::times::{measured, Times};
 use answers::random::Random;
-use answers::wkb::{record, Records};
+use answers::stride_of;
+use answers::wkb::{record_of, Records};
 use lovasuku_chains::door::{self, ReadRooms, WriteRooms};
 
 /// The coordinates of every run.
 pub const POINTS: usize = 65_536;
 
+/// The coordinates of the runs by which extras are held to their bytes: so few that a processor's cache
+/// has them all with a height and a measure too, since a copy of more takes more than its bytes say.
+pub const FEW_POINTS: usize = 16_384;
+
 /// How many records they stand in.
 pub const RECORDS: [usize; 2] = [4_096, 16];
+
+/// The types whose records are held to plain Rust: x and y, with a height, and with a measure too.
+pub const TYPES: [(&str, u32); 3] = [("", 2), (", Z", 1002), (", ZM", 3002)];
 
 /// The byte orders by their names.
 pub const ORDERS: [(&str, u8); 2] = [("little", 1), ("big", 0)];
@@ -26,19 +34,34 @@ pub struct Run {
 }
 
 impl Run {
-    /// All coordinates in so many records of one length, in a byte order.
-    pub fn of(records: usize, order: u8) -> Self {
+    /// All coordinates of a type in so many records of one length, in a byte order.
+    pub fn of(wkb_type: u32, records: usize, order: u8) -> Self {
+        Run::of_points(wkb_type, POINTS, records, order)
+    }
+
+    /// So many coordinates of a type in so many records of one length, in a byte order.
+    pub fn of_points(wkb_type: u32, points: usize, records: usize, order: u8) -> Self {
         let mut random = Random::new(records as u64);
+        let numbers = stride_of(wkb_type).unwrap_or(2) * points;
         let coordinates: Vec<u64> =
-            (0..2 * POINTS).map(|_| (180.0 * random.unit()).to_bits()).collect();
-        let lines: Vec<Vec<u8>> =
-            coordinates.chunks(2 * POINTS / records).map(|line| record(order, line)).collect();
+            (0..numbers).map(|_| (180.0 * random.unit()).to_bits()).collect();
+        let line = |line: &[u64]| record_of(wkb_type, order, line);
+        let lines: Vec<Vec<u8>> = coordinates.chunks(numbers / records).map(line).collect();
         Run {
             order,
             bytes: lines.concat(),
             lengths: lines.iter().map(|line| line.len() as u64).collect(),
-            read: Records { counts: vec![(POINTS / records) as u32; records], coordinates },
+            read: Records {
+                wkb_type,
+                counts: vec![(points / records) as u32; records],
+                coordinates,
+            },
         }
+    }
+
+    /// The numbers of a coordinate.
+    fn stride(&self) -> usize {
+        stride_of(self.read.wkb_type).unwrap_or(2)
     }
 
     /// The records, each by itself.
@@ -58,26 +81,30 @@ fn next_record<'a>(rest: &mut &'a [u8], length: &u64) -> Option<&'a [u8]> {
 struct Rooms {
     coordinates: Vec<f64>,
     counts: Vec<u32>,
+    wkb_type: [u32; 1],
 }
 
 impl Rooms {
     /// Rooms in which no number is one of the run's.
     fn dirty(run: &Run) -> Self {
-        let Records { coordinates, counts } = &run.read;
+        let Records { coordinates, counts, .. } = &run.read;
         Rooms {
             coordinates: vec![f64::NAN; coordinates.len()],
             counts: vec![u32::MAX; counts.len()],
+            wkb_type: [u32::MAX],
         }
     }
 
     fn read(&mut self, run: &Run) -> i64 {
-        let Rooms { coordinates, counts } = self;
-        door::read_wkb(hidden(&run.bytes), &run.lengths, ReadRooms { coordinates, counts })
+        let Rooms { coordinates, counts, wkb_type } = self;
+        let rooms = ReadRooms { coordinates, counts, wkb_type };
+        door::read_wkb(hidden(&run.bytes), &run.lengths, rooms)
     }
 
     fn read_plainly(&mut self, run: &Run) -> i64 {
-        let Rooms { coordinates, counts } = self;
-        match plain_wkb::read(hidden(&run.bytes), &run.lengths, coordinates, counts) {
+        let Rooms { coordinates, counts, wkb_type } = self;
+        let bytes = hidden(&run.bytes);
+        match plain_wkb::read(bytes, &run.lengths, coordinates, counts, wkb_type) {
             Ok(records) => records as i64,
             Err(refusal) => -i64::from(refusal),
         }
@@ -88,6 +115,7 @@ impl Rooms {
         let coordinates = self.coordinates.iter().map(|number| number.to_bits());
         let alike = answer == run.lengths.len() as i64
             && self.counts == run.read.counts
+            && self.wkb_type == [run.read.wkb_type]
             && coordinates.eq(run.read.coordinates.iter().copied());
         match alike {
             true => Ok(()),
@@ -117,23 +145,45 @@ pub fn copying(run: &Run, patience: Patience) -> f64 {
     best(&mut [&mut copy], patience)[0]
 }
 
+/// The nanoseconds of the library's reader on each run, run in turn.
+pub fn readings(runs: &[Run], patience: Patience) -> Result<Vec<f64>, String> {
+    let mut rooms: Vec<Rooms> = runs.iter().map(Rooms::dirty).collect();
+    for (rooms, run) in rooms.iter_mut().zip(runs) {
+        let answer = rooms.read(run);
+        rooms.check(answer, run, "the library")?;
+    }
+    Ok(each(rooms.iter_mut().zip(runs).map(|(rooms, run)| move || rooms.read(run)), patience))
+}
+
+/// The best nanoseconds of each work, run in turn.
+fn each<W: FnMut() -> i64>(works: impl Iterator<Item = W>, patience: Patience) -> Vec<f64> {
+    let mut clocks: Vec<_> = works.map(|mut work| move || timed(&mut work)).collect();
+    let mut works: Vec<&mut dyn FnMut() -> f64> = Vec::new();
+    works.extend(clocks.iter_mut().map(|clock| clock as &mut dyn FnMut() -> f64));
+    best(&mut works, patience)
+}
+
 /// The nanoseconds of GEOS's WKBReader on the records, one by one, which has to read the same
-/// coordinates.
-pub fn geos_reading(geos: &Geos, run: &Run, patience: Patience) -> Result<f64, String> {
+/// coordinates; nothing of records with measures, which GEOS 3.11 leaves out.
+pub fn geos_reading(geos: &Geos, run: &Run, patience: Patience) -> Result<Option<f64>, String> {
+    if run.stride() > 3 {
+        return Ok(None);
+    }
     let reader = geos.wkb_reader().ok_or("GEOS has no reader of WKB")?;
     let all = || run.records().map(|record| reader.read(record)).collect::<Option<Vec<_>>>();
     let lines = all().ok_or("GEOS does not take the records")?;
     let coordinates: Option<Vec<Vec<u64>>> =
-        lines.iter().map(|line| geos.coordinates(line)).collect();
+        lines.iter().map(|line| geos.coordinates(line, run.stride())).collect();
     if coordinates.map(|lines| lines.concat()).as_ref() != Some(&run.read.coordinates) {
         return Err("GEOS reads other coordinates than were written".to_string());
     }
     let mut read = || timed(all);
-    Ok(best(&mut [&mut read], patience)[0])
+    Ok(Some(best(&mut [&mut read], patience)[0]))
 }
 
 /// The chains that the records of a run are, each a line of the caller's.
 struct Chains {
+    wkb_type: u32,
     coordinates: Vec<f64>,
     table: Vec<u32>,
     order: u8,
@@ -148,7 +198,8 @@ impl Chains {
         let row = |(k, (first, &count)): (usize, (u32, &u32))| [k as u32, 1, 0, first, count];
         let rows: Vec<[u32; 5]> = firsts.zip(&run.read.counts).enumerate().map(row).collect();
         let coordinates = run.read.coordinates.iter().map(|&bits| f64::from_bits(bits)).collect();
-        Chains { coordinates, table: rows.concat(), order: run.order }
+        let wkb_type = run.read.wkb_type;
+        Chains { wkb_type, coordinates, table: rows.concat(), order: run.order }
     }
 
     fn k(&self) -> u64 {
@@ -170,15 +221,16 @@ impl Bytes {
 
     fn write(&mut self, chains: &Chains) -> i64 {
         let Bytes { run, lengths } = self;
-        let Chains { coordinates, table, order } = hidden(chains);
+        let Chains { wkb_type, coordinates, table, order } = hidden(chains);
         let rooms = WriteRooms { run, lengths };
-        door::write_wkb(coordinates, &[], table, chains.k(), *order, rooms)
+        door::write_wkb(*wkb_type, coordinates, &[], table, chains.k(), *order, rooms)
     }
 
     fn write_plainly(&mut self, chains: &Chains) -> i64 {
         let Bytes { run, lengths } = self;
-        let Chains { coordinates, table, order } = hidden(chains);
-        match plain_wkb::write(coordinates, &[], table, chains.k(), *order, run, lengths) {
+        let Chains { wkb_type, coordinates, table, order } = hidden(chains);
+        let k = chains.k();
+        match plain_wkb::write(*wkb_type, coordinates, &[], table, k, *order, run, lengths) {
             Ok(bytes) => bytes as i64,
             Err(refusal) => -i64::from(refusal),
         }
@@ -210,12 +262,32 @@ pub fn writing(run: &Run, patience: Patience) -> Result<Times, String> {
     Ok(measured(&mut [&mut port, &mut rust], patience))
 }
 
+/// The nanoseconds of the library's writer on each run, run in turn.
+pub fn writings(runs: &[Run], patience: Patience) -> Result<Vec<f64>, String> {
+    let mut works: Vec<(Bytes, Chains)> =
+        runs.iter().map(|run| (Bytes::dirty(run), Chains::of(run))).collect();
+    for ((rooms, chains), run) in works.iter_mut().zip(runs) {
+        let answer = rooms.write(chains);
+        rooms.check(answer, run, "the library")?;
+    }
+    Ok(each(works.iter_mut().map(|(rooms, chains)| move || rooms.write(chains)), patience))
+}
+
 /// The nanoseconds of GEOS's WKBWriter on the lines, one by one, which has to write the same
-/// records.
-pub fn geos_writing(geos: &Geos, run: &Run, patience: Patience) -> Result<f64, String> {
-    let writer = geos.wkb_writer(run.order).ok_or("GEOS has no writer of WKB")?;
-    let points = 2 * POINTS / run.lengths.len();
-    let lines = run.read.coordinates.chunks(points).map(|line| geos.geometry(line));
+/// records; nothing of records with measures, which GEOS 3.11 has not, and of heights where it has no
+/// flavour of ISO's.
+pub fn geos_writing(geos: &Geos, run: &Run, patience: Patience) -> Result<Option<f64>, String> {
+    let stride = run.stride();
+    if stride > 3 {
+        return Ok(None);
+    }
+    let writer = match geos.wkb_writer(run.order, stride) {
+        Some(writer) => writer,
+        None if stride > 2 => return Ok(None),
+        None => return Err("GEOS has no writer of WKB".to_string()),
+    };
+    let numbers = stride * POINTS / run.lengths.len();
+    let lines = run.read.coordinates.chunks(numbers).map(|line| geos.geometry(line, stride));
     let lines = lines.collect::<Option<Vec<_>>>().ok_or("GEOS does not take the lines")?;
     let all = || lines.iter().map(|line| writer.write(line)).collect::<Option<Vec<_>>>();
     let records = all().ok_or("GEOS does not write the lines")?;
@@ -223,5 +295,5 @@ pub fn geos_writing(geos: &Geos, run: &Run, patience: Patience) -> Result<f64, S
         return Err("GEOS writes other records".to_string());
     }
     let mut write = || timed(all);
-    Ok(best(&mut [&mut write], patience)[0])
+    Ok(Some(best(&mut [&mut write], patience)[0]))
 }

@@ -1,7 +1,7 @@
 //! A building call, put to the library and held to the judge's answer.
 
 use crate::room::{more, Dirt, Room};
-use crate::{Door, Judge};
+use crate::{extras, Door, Judge};
 use answers::offset::of_limit;
 use answers::random::Random;
 use answers::{BuildCall, Built, Refusal};
@@ -72,7 +72,9 @@ impl BuildRooms {
 }
 
 /// Puts the call to the door, in rooms that the seed determines, and holds it to the judge's
-/// answer; once more with an offset in the limit's place, where the limit is of one. The error is a sentence about the first difference.
+/// answer; once more with an offset in the limit's place, where the limit is of one; and one with
+/// extras to what is known of these without a judge. The error is a sentence about the first
+/// difference.
 pub fn compare_build(
     door: &dyn Door,
     judge: Judge,
@@ -81,9 +83,13 @@ pub fn compare_build(
 ) -> Result<(), String> {
     let wanted = judge.build(call);
     hold_build(door, call, &wanted, seed)?;
-    match door.by_offset().filter(|_| of_limit(call.limit).is_some()) {
-        Some(door) => hold_build(door, call, &wanted, seed).map_err(by_offset),
-        None => Ok(()),
+    if let Some(door) = door.by_offset().filter(|_| of_limit(call.limit).is_some()) {
+        hold_build(door, call, &wanted, seed).map_err(by_offset)?;
+    }
+    match &wanted {
+        // The rooms have been seen to hold this answer.
+        Ok(built) => extras::check(door, call, built, seed),
+        Err(_) => Ok(()),
     }
 }
 

@@ -1,9 +1,10 @@
 //! The calls of a run: every style of the recorded answers and arbitrary bits, with points put into
-//! some of the lines. The seed and the number of a call determine it.
+//! some of the lines, and with heights and measures in some calls. The seed and the number of a call
+//! determine it.
 
 use answers::random::Random;
-use answers::styles::{junctions, pairing, wild, Style, BUILDING, PAIRING};
-use answers::{offset, BuildCall, PairingCall, WhyCall};
+use answers::styles::{heights, junctions, pairing, wild, Style, BUILDING, PAIRING};
+use answers::{offset, BuildCall, PairingCall, WhyCall, TYPES};
 use lovasuku_chains::size::{MOST_ENDS, MOST_LINES, MOST_POINTS};
 
 /// A call of either sort.
@@ -35,6 +36,16 @@ const LOST: usize = 16;
 
 /// One call in so many has the limit of an offset.
 const OFFSETS: usize = 4;
+
+/// One building call in so many has extras: heights, measures or both.
+const HIGH: usize = 3;
+
+/// One building call in so many has a type that is none of the four.
+const UNTYPED: usize = 128;
+
+/// Numbers that are no type of a line: those beside the four, what others write for heights, and any.
+const NO_TYPES: [u32; 12] =
+    [0, 1, 3, 1001, 1003, 2001, 2003, 3001, 4002, 0x8000_0002, 0x4000_0002, u32::MAX];
 
 /// The bits of the exponent, which are all set in a NaN and in an infinity.
 const EXPONENT: u64 = 0x7ff0_0000_0000_0000;
@@ -74,6 +85,13 @@ pub fn numbered(seed: u64, number: u64) -> Numbered {
     if random.one_in(LOST) {
         lose(&mut random, &mut call);
     }
+    if random.one_in(HIGH) {
+        let wkb_type = random.pick(&TYPES[1..]);
+        call = heights::with_extras(&mut random, &call, wkb_type);
+    }
+    if random.one_in(UNTYPED) {
+        call.wkb_type = random.pick(&NO_TYPES);
+    }
     bend(&mut random, &mut call.limit);
     Numbered { style, call: Call::Build(call), rooms }
 }
@@ -87,7 +105,7 @@ fn bend(random: &mut Random, limit: &mut u64) {
     }
 }
 
-/// Puts a NaN or an infinity somewhere into a line, which passes through once in two.
+/// Puts a NaN or an infinity somewhere into a line of x and y, which passes through once in two.
 fn lose(random: &mut Random, call: &mut BuildCall) {
     if call.lines() == 0 {
         return;

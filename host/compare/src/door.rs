@@ -4,7 +4,7 @@ use crate::building::BuildRooms;
 use crate::pairing::PairRooms;
 use answers::{offset, BuildCall, PairingCall, Route, WhyCall};
 use lovasuku_chains::door::{self, RawOffset, RawSettings};
-use lovasuku_chains::{Ends, Lines};
+use lovasuku_chains::{Dimension, Ends, Lines};
 
 /// Whatever takes calls in the form of the door: rooms are lent, the answer is a number.
 pub trait Door: Sync {
@@ -33,7 +33,8 @@ impl Door for Library {
             switch: call.switch,
             limit: f64::from_bits(call.limit),
         };
-        door::build(lines(call, &floats(&call.coordinates)), settings, lent(rooms))
+        let coordinates = floats(&call.coordinates);
+        door::build(call.wkb_type, lines(call, &coordinates), settings, lent(rooms))
     }
 
     fn pairs(&self, route: Route, call: &PairingCall, rooms: &mut PairRooms) -> i64 {
@@ -63,7 +64,8 @@ impl Door for ByOffset {
             switch: call.switch,
             offset: offset_of(call.limit),
         };
-        door::build_offset(lines(call, &floats(&call.coordinates)), settings, lent(rooms))
+        let coordinates = floats(&call.coordinates);
+        door::build_offset(call.wkb_type, lines(call, &coordinates), settings, lent(rooms))
     }
 
     fn pairs(&self, route: Route, call: &PairingCall, rooms: &mut PairRooms) -> i64 {
@@ -84,7 +86,13 @@ pub fn offset_of(limit: u64) -> u32 {
 }
 
 fn lines<'a>(call: &'a BuildCall, coordinates: &'a [f64]) -> Lines<'a> {
-    Lines { coordinates, counts: &call.counts, groups: &call.groups, kinds: &call.kinds }
+    Lines {
+        dimension: Dimension::of_wkb_type(call.wkb_type).unwrap_or_default(),
+        coordinates,
+        counts: &call.counts,
+        groups: &call.groups,
+        kinds: &call.kinds,
+    }
 }
 
 fn lent(rooms: &mut BuildRooms) -> door::BuildRooms<'_> {

@@ -11,6 +11,7 @@
 //! - [`judge`]: who says what the answer is.
 //! - [`room`]: rooms that show what was written into them.
 //! - [`building`], [`pairing`], [`why`]: one call, compared.
+//! - [`extras`]: what holds of heights and measures, judged apart from the model.
 //! - [`shrink`]: a call that differs, made small.
 //! - [`run`]: a whole run, on all cores.
 
@@ -20,6 +21,7 @@
 pub mod building;
 pub mod calls;
 pub mod door;
+pub mod extras;
 pub mod judge;
 pub mod pairing;
 pub mod room;

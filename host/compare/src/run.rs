@@ -7,6 +7,7 @@ use crate::shrink::shrink;
 use crate::why::compare_why;
 use crate::{Door, Judge};
 use answers::offset::of_limit;
+use answers::stride_of;
 use std::collections::BTreeMap;
 use std::fmt;
 use std::panic::resume_unwind;
@@ -40,8 +41,10 @@ pub struct Tally {
     pub why: Styles,
     /// What these were answered with.
     pub told: Styles,
-    /// The calls whose limit is that of an offset.
+    /// The building and pairing calls whose limit is that of an offset.
     pub offsets: u64,
+    /// The building calls by their types; those that are none of the four stand under 0.
+    pub types: BTreeMap<u32, u64>,
     /// The most lines, points and ends of a call.
     pub most: [usize; 3],
 }
@@ -50,12 +53,16 @@ impl Tally {
     fn add(&mut self, numbered: &Numbered) {
         let (styles, sizes, limit) = match &numbered.call {
             Call::Build(call) => {
-                (&mut self.building, [call.lines(), call.coordinates.len() / 2, 0], call.limit)
+                let known = stride_of(call.wkb_type).map_or(0, |_| call.wkb_type);
+                *self.types.entry(known).or_default() += 1;
+                let points = call.coordinates.len() / call.stride();
+                (&mut self.building, [call.lines(), points, 0], Some(call.limit))
             }
-            Call::Pairs(call) => (&mut self.pairing, [0, 0, call.ends()], call.limit),
-            Call::Why(call) => (&mut self.why, [0, 0, call.pairing.ends()], call.pairing.limit),
+            Call::Pairs(call) => (&mut self.pairing, [0, 0, call.ends()], Some(call.limit)),
+            // The question has no call with an offset.
+            Call::Why(call) => (&mut self.why, [0, 0, call.pairing.ends()], None),
         };
-        self.offsets += u64::from(of_limit(limit).is_some());
+        self.offsets += u64::from(limit.and_then(of_limit).is_some());
         *styles.entry(numbered.style).or_default() += 1;
         self.grow(sizes);
     }
@@ -78,6 +85,9 @@ impl Tally {
             }
         }
         self.offsets += other.offsets;
+        for (wkb_type, calls) in other.types {
+            *self.types.entry(wkb_type).or_default() += calls;
+        }
         self.grow(other.most);
         self
     }
@@ -96,6 +106,11 @@ impl fmt::Display for Tally {
             each.collect::<Vec<_>>().join(", ")
         };
         writeln!(f, "building, up to {lines} lines and {points} points: {}", list(&self.building))?;
+        let types = self.types.iter().map(|(wkb_type, calls)| match wkb_type {
+            0 => format!("none {calls}"),
+            _ => format!("{wkb_type} {calls}"),
+        });
+        writeln!(f, "types: {}", types.collect::<Vec<_>>().join(", "))?;
         write!(f, "pairing, up to {ends} ends: {}", list(&self.pairing))?;
         writeln!(f, "; {} of all with an offset in the limit's place too", self.offsets)?;
         writeln!(f, "two ends asked about: {}", list(&self.why))?;

@@ -2,7 +2,8 @@
 //! limit's place.
 
 use answers::random::Random;
-use answers::{offset, BuildCall, PairingCall, Route};
+use answers::styles::heights::with_extras;
+use answers::{offset, BuildCall, PairingCall, Route, TYPES};
 use compare::building::{compare_build, hold_build, BuildRooms};
 use compare::door::offset_of;
 use compare::pairing::{compare_pairs, PairRooms, ROUTES};
@@ -123,6 +124,8 @@ fn chains_by_every_offset() {
     let mut random = Random::new(17);
     for millimetres in 0..=offset::MOST {
         let call = crossing(&mut random, millimetres);
+        let wkb_type = random.pick(&TYPES);
+        let call = with_extras(&mut random, &call, wkb_type);
         assert_eq!(compare_build(&Library, Judge::Model, &call, 5), Ok(()), "{millimetres}");
     }
 }

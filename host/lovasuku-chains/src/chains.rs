@@ -1,9 +1,8 @@
 //! The chains of an accepted building call.
 
 use crate::rooms::first;
-use crate::size::{POINT, RECORD};
-use crate::two::by_two;
-use crate::Lines;
+use crate::size::RECORD;
+use crate::{Dimension, Lines, Points};
 use std::slice::ChunksExact;
 
 /// The chains of an accepted building call, borrowed from the rooms and from the caller's lines.
@@ -62,7 +61,7 @@ impl<'a> Chains<'a> {
         self.marks
     }
 
-    /// The coordinates of all chains of several lines, one chain after another.
+    /// All numbers of the coordinates of all chains of several lines, one chain after another.
     pub fn merged(&self) -> &'a [f64] {
         self.merged
     }
@@ -79,10 +78,12 @@ impl<'a> Chains<'a> {
         };
         let merged = source == 1;
         let from = if merged { self.merged } else { self.lines.coordinates };
+        let dimension = self.lines.dimension;
         Chain {
             members: part(self.members, member, members, 1),
             marks: part(self.marks, member, members, 1),
-            coordinates: part(from, first, count, POINT),
+            coordinates: part(from, first, count, dimension.stride()),
+            dimension,
             merged,
         }
     }
@@ -141,6 +142,7 @@ pub struct Chain<'a> {
     members: &'a [u32],
     marks: &'a [u8],
     coordinates: &'a [f64],
+    dimension: Dimension,
     merged: bool,
 }
 
@@ -162,15 +164,25 @@ impl<'a> Chain<'a> {
         self.marks.iter().map(|&mark| mark == 1)
     }
 
-    /// x, y, x, y .. of the chain: a part of the caller's coordinates for a chain of one line, and
-    /// of the merged ones for any other.
+    /// The numbers of the chain, x, y, x, y .. with each coordinate's extras behind its y: a part of
+    /// the caller's coordinates for a chain of one line, and of the merged ones for any other.
     pub fn coordinates(&self) -> &'a [f64] {
         self.coordinates
     }
 
-    /// The same coordinates as points.
-    pub fn points(&self) -> &'a [[f64; POINT]] {
-        by_two(self.coordinates)
+    /// The same coordinates one by one, each with its extras.
+    pub fn positions(&self) -> ChunksExact<'a, f64> {
+        self.coordinates.chunks_exact(self.dimension.stride())
+    }
+
+    /// x and y of each coordinate.
+    pub fn points(&self) -> Points<'a> {
+        Points::of(self.coordinates, self.dimension)
+    }
+
+    /// What each coordinate has.
+    pub fn dimension(&self) -> Dimension {
+        self.dimension
     }
 
     /// True where the chain has several lines, false where it is a line of the caller's, untouched.

@@ -3,6 +3,7 @@
 
 extern "C" {
     pub fn lovasuku_build(
+        wkb_type: u32,
         coordinates: *const f64,
         coordinates_length: usize,
         counts: *const u32,
@@ -31,6 +32,7 @@ extern "C" {
     pub fn lovasuku_offset_limit(offset: u32) -> i64;
 
     pub fn lovasuku_build_offset(
+        wkb_type: u32,
         coordinates: *const f64,
         coordinates_length: usize,
         counts: *const u32,
@@ -57,6 +59,7 @@ extern "C" {
     ) -> i64;
 
     pub fn lovasuku_chain(
+        wkb_type: u32,
         coordinates: *const f64,
         coordinates_length: usize,
         merged: *const f64,
@@ -91,9 +94,12 @@ extern "C" {
         coordinates_length: usize,
         counts: *mut u32,
         counts_length: usize,
+        wkb_type: *mut u32,
+        wkb_type_length: usize,
     ) -> i64;
 
     pub fn lovasuku_write_wkb(
+        wkb_type: u32,
         coordinates: *const f64,
         coordinates_length: usize,
         merged: *const f64,

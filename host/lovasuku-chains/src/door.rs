@@ -35,7 +35,8 @@ pub struct RawOffset {
     pub offset: u32,
 }
 
-/// The rooms of a building call, for n lines and c coordinates (pairs of x and y).
+/// The rooms of a building call, for n lines and c coordinates of w numbers each: 2 for type 2, 3 for
+/// 1002 and 2002, 4 for 3002.
 #[derive(Debug)]
 pub struct BuildRooms<'a> {
     /// 5 n numbers: the chains' records.
@@ -44,9 +45,9 @@ pub struct BuildRooms<'a> {
     pub members: &'a mut [u32],
     /// n bytes: the members' turned marks.
     pub marks: &'a mut [u8],
-    /// 2 c numbers: the coordinates of the chains of several lines.
+    /// w c numbers: the coordinates of the chains of several lines.
     pub merged: &'a mut [f64],
-    /// 2 c numbers, 0 after an accepted call.
+    /// w c numbers, 0 after an accepted call.
     pub spare: &'a mut [f64],
     /// 192 n words, 0 after an accepted call.
     pub workspace: &'a mut [u64],
@@ -64,16 +65,18 @@ pub struct PairRooms<'a> {
 /// The rooms of a reading call.
 #[derive(Debug)]
 pub struct ReadRooms<'a> {
-    /// Two numbers for each coordinate of the records.
+    /// Two numbers, three or four for each coordinate of the records.
     pub coordinates: &'a mut [f64],
     /// One number for each record.
     pub counts: &'a mut [u32],
+    /// One number: the type of all records, 2 where there is none.
+    pub wkb_type: &'a mut [u32],
 }
 
 /// The rooms of a writing call, for k chains.
 #[derive(Debug)]
 pub struct WriteRooms<'a> {
-    /// 9 bytes for each chain and 16 for each of its coordinates.
+    /// 9 bytes for each chain and 8 for each number of its coordinates.
     pub run: &'a mut [u8],
     /// k numbers: the records' lengths.
     pub lengths: &'a mut [u64],
@@ -84,10 +87,12 @@ pub fn result(answer: i64) -> Result<u64, Refusal> {
     u64::try_from(answer).map_err(|_| Refusal::of_number(answer.wrapping_neg()))
 }
 
-/// Builds the chains. The result is their number.
-pub fn build(lines: Lines<'_>, settings: RawSettings, rooms: BuildRooms<'_>) -> i64 {
+/// Builds the chains of lines of a type, which the library takes by its number, whatever dimension
+/// the lines have. The result is the number of chains.
+pub fn build(wkb_type: u32, lines: Lines<'_>, settings: RawSettings, rooms: BuildRooms<'_>) -> i64 {
     unsafe {
         declared::lovasuku_build(
+            wkb_type,
             lines.coordinates.as_ptr(),
             lines.coordinates.len(),
             lines.counts.as_ptr(),
@@ -170,9 +175,15 @@ pub fn offset_limit(offset: u32) -> i64 {
 }
 
 /// Builds the chains with an offset in the limit's place. The result is their number.
-pub fn build_offset(lines: Lines<'_>, settings: RawOffset, rooms: BuildRooms<'_>) -> i64 {
+pub fn build_offset(
+    wkb_type: u32,
+    lines: Lines<'_>,
+    settings: RawOffset,
+    rooms: BuildRooms<'_>,
+) -> i64 {
     unsafe {
         declared::lovasuku_build_offset(
+            wkb_type,
             lines.coordinates.as_ptr(),
             lines.coordinates.len(),
             lines.counts.as_ptr(),
@@ -225,10 +236,11 @@ pub fn pairs_offset(route: Route, ends: Ends<'_>, offset: u32, rooms: PairRooms<
     }
 }
 
-/// Asks whether record k of a table names a chain. The result is 0.
-pub fn chain(coordinates: &[f64], merged: &[f64], table: &[u32], k: u64) -> i64 {
+/// Asks whether record k of a table names a chain in coordinates of a type. The result is 0.
+pub fn chain(wkb_type: u32, coordinates: &[f64], merged: &[f64], table: &[u32], k: u64) -> i64 {
     unsafe {
         declared::lovasuku_chain(
+            wkb_type,
             coordinates.as_ptr(),
             coordinates.len(),
             merged.as_ptr(),
@@ -252,13 +264,16 @@ pub fn read_wkb(run: &[u8], lengths: &[u64], rooms: ReadRooms<'_>) -> i64 {
             rooms.coordinates.len(),
             rooms.counts.as_mut_ptr(),
             rooms.counts.len(),
+            rooms.wkb_type.as_mut_ptr(),
+            rooms.wkb_type.len(),
         )
     }
 }
 
-/// Writes the first k chains of a table as WKB records in a byte order. The result is the number of
-/// bytes.
+/// Writes the first k chains of a table as WKB records of a type in a byte order. The result is the
+/// number of bytes.
 pub fn write_wkb(
+    wkb_type: u32,
     coordinates: &[f64],
     merged: &[f64],
     table: &[u32],
@@ -268,6 +283,7 @@ pub fn write_wkb(
 ) -> i64 {
     unsafe {
         declared::lovasuku_write_wkb(
+            wkb_type,
             coordinates.as_ptr(),
             coordinates.len(),
             merged.as_ptr(),

@@ -34,6 +34,7 @@
 //! | look up a chain in a stored table | [`chain_question`], [`chain_coordinates`] |
 //! | read lines from the records of a store | [`read_wkb`], which gives [`WkbLines`] |
 //! | write chains as records for a map | [`Chains::write_wkb`], which gives [`WkbRecords`] |
+//! | carry heights and measures along | [`Dimension`], in [`Lines`] and [`LinesBuf::of`] |
 //! | keep the chains, as tylertoo does | [`build_chains`] |
 //! | join more lines than a call holds, with what joined them and the gaps left | [`large`] |
 //! | look for ends near one another | [`Nearest`] |
@@ -47,6 +48,7 @@
 
 mod chains;
 mod declared;
+mod dimension;
 pub mod door;
 pub mod large;
 mod lines;
@@ -54,6 +56,7 @@ mod nearest;
 mod offset;
 mod owned;
 mod pairing;
+mod points;
 mod question;
 mod records;
 mod refusal;
@@ -64,11 +67,13 @@ mod two;
 mod wkb;
 
 pub use chains::{Chain, Chains, Iter};
+pub use dimension::Dimension;
 pub use lines::{Lines, LinesBuf, PASSING, PLAIN};
 pub use nearest::Nearest;
 pub use offset::Offset;
 pub use owned::{build_chains, LineInput, OwnedChain};
 pub use pairing::{Ends, Reason, Route};
+pub use points::Points;
 pub use question::{chain_coordinates, chain_question};
 pub use records::{ByteOrder, WkbBuf, WkbRecords, WkbRecordsIter};
 pub use refusal::Refusal;

@@ -1,7 +1,8 @@
 //! The lines of a building call.
 
 use crate::size::{MOST_LINES, MOST_POINTS, POINT};
-use crate::Refusal;
+use crate::{Dimension, Refusal};
+use std::iter::repeat;
 
 /// A line that may be joined.
 pub const PLAIN: u8 = 0;
@@ -12,10 +13,11 @@ pub const PASSING: u8 = 1;
 /// The lines of a building call, as four slices of the caller's. One line follows another.
 ///
 /// ```
-/// use lovasuku_chains::{Lines, PLAIN};
+/// use lovasuku_chains::{Dimension, Lines, PLAIN};
 ///
 /// // Two lines, of two and of three coordinates.
 /// let lines = Lines {
+///     dimension: Dimension::Xy,
 ///     coordinates: &[0.0, 0.0, 1.0, 0.0, 1.0, 0.0, 2.0, 0.0, 2.0, 5.0],
 ///     counts: &[2, 3],
 ///     groups: &[0, 0],
@@ -25,9 +27,12 @@ pub const PASSING: u8 = 1;
 /// ```
 #[derive(Clone, Copy, Debug, Default, PartialEq)]
 pub struct Lines<'a> {
-    /// x, y, x, y .. of all lines. Any finite float may stand here; each comes back bit for bit.
+    /// What each coordinate has: x and y, and at times a height, a measure or both.
+    pub dimension: Dimension,
+    /// x, y, x, y .. of all lines, with each coordinate's extras behind its y. x and y may be any finite
+    /// float, extras any float; each comes back bit for bit.
     pub coordinates: &'a [f64],
-    /// The number of coordinates of each line, counted in pairs of x and y.
+    /// The number of coordinates of each line.
     pub counts: &'a [u32],
     /// The group of each line. Lines of different groups are never joined.
     pub groups: &'a [u32],
@@ -49,15 +54,16 @@ impl Lines<'_> {
     /// Refusals 1 to 5: those that speak of the lengths, and the one about kinds between them.
     pub(crate) fn test_lengths(&self) -> Result<(), Refusal> {
         let (n, numbers) = (self.len(), self.coordinates.len());
+        let stride = self.dimension.stride();
         if n > MOST_LINES {
             Err(Refusal::TooMany)
         } else if self.groups.len() != n || self.kinds.len() != n {
             Err(Refusal::TablesDiffer)
         } else if self.kinds.iter().any(|&kind| kind > PASSING) {
             Err(Refusal::MarkAboveOne)
-        } else if POINT as u64 * self.points() != numbers as u64 {
+        } else if stride as u64 * self.points() != numbers as u64 {
             Err(Refusal::CountsDoNotAddUp)
-        } else if numbers > POINT * MOST_POINTS {
+        } else if numbers > stride * MOST_POINTS {
             Err(Refusal::TooManyCoordinates)
         } else {
             Ok(())
@@ -84,8 +90,26 @@ impl Lines<'_> {
 /// # Ok(())
 /// # }
 /// ```
+///
+/// With heights:
+///
+/// ```
+/// use lovasuku_chains::{Dimension, LinesBuf, Rooms, Settings};
+///
+/// # fn main() -> Result<(), lovasuku_chains::Refusal> {
+/// let mut lines = LinesBuf::of(Dimension::Xyz);
+/// lines.push([[0.0, 0.0, 210.5], [1.0, 0.0, 211.0]], 0);
+/// lines.push([[2.0, 0.0, 214.0], [1.0, 0.0, 213.0]], 0);
+/// let mut rooms = Rooms::default();
+/// let chains = rooms.build(lines.lines(), Settings::default())?;
+/// // Where they meet, the height of the line that comes first stays.
+/// assert_eq!(chains.merged(), [0.0, 0.0, 210.5, 1.0, 0.0, 211.0, 2.0, 0.0, 214.0]);
+/// # Ok(())
+/// # }
+/// ```
 #[derive(Clone, Debug, Default, PartialEq)]
 pub struct LinesBuf {
+    dimension: Dimension,
     coordinates: Vec<f64>,
     counts: Vec<u32>,
     groups: Vec<u32>,
@@ -93,20 +117,66 @@ pub struct LinesBuf {
 }
 
 impl LinesBuf {
-    /// Adds a plain line of a group.
-    pub fn push(&mut self, points: impl IntoIterator<Item = [f64; POINT]>, group: u32) {
-        self.push_kind(points, group, PLAIN);
+    /// No lines so far, of coordinates of a dimension. Those of [`default`](Default::default) are x
+    /// and y.
+    pub fn of(dimension: Dimension) -> Self {
+        LinesBuf { dimension, ..LinesBuf::default() }
     }
 
-    /// Adds a line that passes through unjoined.
-    pub fn push_passing(&mut self, points: impl IntoIterator<Item = [f64; POINT]>, group: u32) {
-        self.push_kind(points, group, PASSING);
+    /// Adds a plain line of a group. A number that a coordinate lacks becomes NaN, and one that it has
+    /// too many is left out.
+    pub fn push<const N: usize>(
+        &mut self,
+        coordinates: impl IntoIterator<Item = [f64; N]>,
+        group: u32,
+    ) {
+        self.push_kind(coordinates, group, PLAIN);
     }
 
-    fn push_kind(&mut self, points: impl IntoIterator<Item = [f64; POINT]>, group: u32, kind: u8) {
+    /// Adds a line that passes through unjoined; its coordinates as with [`push`](LinesBuf::push).
+    pub fn push_passing<const N: usize>(
+        &mut self,
+        coordinates: impl IntoIterator<Item = [f64; N]>,
+        group: u32,
+    ) {
+        self.push_kind(coordinates, group, PASSING);
+    }
+
+    /// Adds a line of no coordinates that passes through.
+    pub(crate) fn push_empty(&mut self, group: u32) {
+        self.push_kind([[0.0; POINT]; 0], group, PASSING);
+    }
+
+    /// Adds a plain line whose extras stand apart from its points, those that are not there as NaN.
+    pub(crate) fn push_apart(&mut self, points: &[[f64; POINT]], extras: &[f64], group: u32) {
+        let width = self.dimension.extras();
         let first = self.coordinates.len();
-        self.coordinates.extend(points.into_iter().flatten());
-        let count = (self.coordinates.len() - first) / POINT;
+        let mut rest = extras.iter().copied().chain(repeat(f64::NAN));
+        for point in points {
+            self.coordinates.extend(point);
+            self.coordinates.extend(rest.by_ref().take(width));
+        }
+        self.end_line(first, group, PLAIN);
+    }
+
+    fn push_kind<const N: usize>(
+        &mut self,
+        coordinates: impl IntoIterator<Item = [f64; N]>,
+        group: u32,
+        kind: u8,
+    ) {
+        let first = self.coordinates.len();
+        let stride = self.dimension.stride();
+        for numbers in coordinates {
+            self.coordinates.extend(numbers.get(..stride).unwrap_or(&numbers));
+            self.coordinates.extend(repeat(f64::NAN).take(stride.saturating_sub(N)));
+        }
+        self.end_line(first, group, kind);
+    }
+
+    /// Ends the line whose numbers begin at the given one.
+    fn end_line(&mut self, first: usize, group: u32, kind: u8) {
+        let count = (self.coordinates.len() - first) / self.dimension.stride();
         // A count beyond u32 cannot add up to the coordinates, so the call is refused.
         self.counts.push(u32::try_from(count).unwrap_or(u32::MAX));
         self.groups.push(group);
@@ -116,6 +186,7 @@ impl LinesBuf {
     /// All lines so far.
     pub fn lines(&self) -> Lines<'_> {
         Lines {
+            dimension: self.dimension,
             coordinates: &self.coordinates,
             counts: &self.counts,
             groups: &self.groups,
@@ -133,7 +204,7 @@ impl LinesBuf {
         self.counts.is_empty()
     }
 
-    /// Takes all lines out and keeps the room that they had.
+    /// Takes all lines out and keeps the dimension and the room that they had.
     pub fn clear(&mut self) {
         self.coordinates.clear();
         self.counts.clear();

@@ -20,7 +20,7 @@ pub struct OwnedChain {
     pub members: Vec<usize>,
     /// The turned mark of each member.
     pub turned: Vec<bool>,
-    /// The chain's points. A line that was given without points has none.
+    /// The chain's points, x and y of each. A line that was given without points has none.
     pub points: Vec<(f64, f64)>,
 }
 
@@ -29,7 +29,7 @@ impl From<Chain<'_>> for OwnedChain {
         OwnedChain {
             members: chain.members().iter().map(|&line| line as usize).collect(),
             turned: chain.turned().collect(),
-            points: chain.points().iter().map(|&[x, y]| (x, y)).collect(),
+            points: chain.points().map(|[x, y]| (x, y)).collect(),
         }
     }
 }
@@ -92,7 +92,7 @@ where
     for line in lines {
         match line.points {
             Some(points) => all.push(points.into_iter().map(point), line.group),
-            None => all.push_passing([], line.group),
+            None => all.push_empty(line.group),
         }
     }
     let limit = limit_of_bend(junction_angle_deg);

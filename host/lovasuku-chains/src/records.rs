@@ -47,8 +47,8 @@ impl Chains<'_> {
         self.iter().map(|chain| WKB_HEADER + WKB_NUMBER * chain.coordinates().len()).sum()
     }
 
-    /// Writes each chain as a WKB record (OGC 06-103r4, type 2) into a buffer, which grows where it
-    /// has to.
+    /// Writes each chain as a WKB record (OGC 06-103r4) into a buffer, which grows where it has to. The
+    /// records' type is that of the lines' [`Dimension`](crate::Dimension).
     ///
     /// Every bit of a coordinate is kept: [`read_wkb`](crate::read_wkb) gives the same ones. A line
     /// of one coordinate, which GEOS and PostGIS do not take, is written as it is.
@@ -98,10 +98,11 @@ impl Chains<'_> {
         run: &'b mut [u8],
         lengths: &'b mut [u64],
     ) -> Result<WkbRecords<'b>, Refusal> {
-        let (coordinates, k) = (self.lines().coordinates, self.len());
+        let (lines, k) = (self.lines(), self.len());
         let rooms = WriteRooms { run: &mut *run, lengths: &mut *lengths };
         let answer = door::write_wkb(
-            coordinates,
+            lines.dimension.wkb_type(),
+            lines.coordinates,
             self.merged(),
             self.table(),
             k as u64,

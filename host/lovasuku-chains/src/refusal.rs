@@ -6,7 +6,7 @@ use std::fmt;
 /// Why a call was turned away. A refused call reports nothing and stores nothing.
 ///
 /// The refusals are tested in the order in which they stand here, and the first that applies is
-/// given.
+/// given. At the [`door`](crate::door), where a type is given, 12 is the first of all.
 ///
 /// ```
 /// use lovasuku_chains::Refusal;
@@ -14,7 +14,7 @@ use std::fmt;
 /// assert_eq!(Refusal::CountsDoNotAddUp.number(), 4);
 /// assert_eq!(
 ///     Refusal::CountsDoNotAddUp.to_string(),
-///     "the counts do not add up to half the number of coordinates (refusal 4)"
+///     "the counts do not add up to the coordinates (refusal 4)"
 /// );
 /// ```
 #[derive(Clone, Copy, Debug, PartialEq, Eq, Hash)]
@@ -26,11 +26,12 @@ pub enum Refusal {
     TablesDiffer,
     /// 3: a kind or a presence mark is above 1.
     MarkAboveOne,
-    /// 4: the counts do not add up to half the number of coordinates.
+    /// 4: the counts do not add up to the coordinates: as many numbers for each as its
+    /// [`Dimension`](crate::Dimension) has.
     CountsDoNotAddUp,
-    /// 5: more than 65,536 coordinates, counted in pairs.
+    /// 5: more than 65,536 coordinates.
     TooManyCoordinates,
-    /// 15: a coordinate is NaN or infinite, of whichever line.
+    /// 15: an x or a y is NaN or infinite, of whichever line. Heights and measures are not looked at.
     NoPlace,
     /// 6: the limit is NaN, below -1 or above 1. At the [`door`](crate::door) also: the switch is
     /// above 1.
@@ -47,13 +48,16 @@ pub enum Refusal {
     NoSuchChain,
     /// 11: a record's byte order is neither 0 nor 1.
     BadByteOrder,
-    /// 12: a record's type is not 2, a line of x and y.
+    /// 12: a record's type is none of a line's, 2, 1002, 2002 and 3002. At the
+    /// [`door`](crate::door) also: the type that was given is none of these.
     BadType,
+    /// 25: a record's type differs from the first record's.
+    MixedTypes,
     /// 13: the lengths do not add up to the run, or a record is not as long as its header and its
     /// count say.
     BadLength,
-    /// 14: a room is shorter than the records need: for coordinates or counts where they are read,
-    /// for bytes or lengths where they are written. [`WkbRooms`](crate::WkbRooms) and
+    /// 14: a room is shorter than the records need: for coordinates, counts or the type where they are
+    /// read, for bytes or lengths where they are written. [`WkbRooms`](crate::WkbRooms) and
     /// [`WkbBuf`](crate::WkbBuf) never lend one that is.
     RecordRoomTooShort,
     /// 16: the byte order to be written is neither 0 nor 1. [`ByteOrder`](crate::ByteOrder) has no
@@ -86,6 +90,7 @@ impl Refusal {
             15 => Refusal::NoPlace,
             16 => Refusal::UnknownOrder,
             22 => Refusal::BadOffset,
+            25 => Refusal::MixedTypes,
             26 => Refusal::NoTwoEnds,
             unknown => Refusal::Unknown(unknown),
         }
@@ -108,6 +113,7 @@ impl Refusal {
             Refusal::NoSuchChain => 10,
             Refusal::BadByteOrder => 11,
             Refusal::BadType => 12,
+            Refusal::MixedTypes => 25,
             Refusal::BadLength => 13,
             Refusal::RecordRoomTooShort => 14,
             Refusal::UnknownOrder => 16,
@@ -122,11 +128,9 @@ impl Refusal {
             Refusal::TooMany => "there are more than 4,096 lines or more than 8,192 ends",
             Refusal::TablesDiffer => "the tables of the lines or ends differ in length",
             Refusal::MarkAboveOne => "a kind or a presence mark is neither 0 nor 1",
-            Refusal::CountsDoNotAddUp => {
-                "the counts do not add up to half the number of coordinates"
-            }
+            Refusal::CountsDoNotAddUp => "the counts do not add up to the coordinates",
             Refusal::TooManyCoordinates => "there are more than 65,536 coordinates",
-            Refusal::NoPlace => "a coordinate is not finite, so that it is no place",
+            Refusal::NoPlace => "an x or a y is not finite, so that it is no place",
             Refusal::BadLimit => "the limit is not a number from -1 to 1",
             Refusal::BadOffset => "the offset is above 1,000 millimetres per metre run",
             Refusal::RoomTooShort => "a room is too short",
@@ -136,7 +140,8 @@ impl Refusal {
             }
             Refusal::NoSuchChain => "there is no such chain",
             Refusal::BadByteOrder => "a record's byte order is neither 0 nor 1",
-            Refusal::BadType => "a record's type is not 2, a line of x and y",
+            Refusal::BadType => "a record's type is none of 2, 1002, 2002 and 3002",
+            Refusal::MixedTypes => "a record's type differs from the first record's",
             Refusal::BadLength => {
                 "the lengths do not add up to the run, or a record's count and length disagree"
             }
@@ -165,7 +170,7 @@ mod tests {
         for number in 1..=30 {
             let refusal = Refusal::of_number(number);
             assert_eq!(refusal.number(), number);
-            let known = number <= 16 || number == 22 || number == 26;
+            let known = number <= 16 || [22, 25, 26].contains(&number);
             assert_eq!(!known, matches!(refusal, Refusal::Unknown(_)));
         }
     }

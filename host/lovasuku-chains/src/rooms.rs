@@ -2,23 +2,22 @@
 
 use crate::chains::Chains;
 use crate::door::{self, BuildRooms, PairRooms, RawSettings};
-use crate::size::{
-    END_WORKSPACE, LINE_WORKSPACE, MOST_ENDS, MOST_LINES, MOST_POINTS, POINT, RECORD,
-};
+use crate::size::{END_WORKSPACE, LINE_WORKSPACE, MOST_ENDS, MOST_LINES, MOST_POINTS, RECORD};
 use crate::two::by_two;
-use crate::{Ends, Lines, Reason, Refusal, Route, Settings};
+use crate::{Dimension, Ends, Lines, Reason, Refusal, Route, Settings};
 
 /// The rooms that are lent to every call, again and again.
 ///
 /// They grow where a call needs more than any before it, and never shrink, so that a run of calls
-/// soon allocates nothing: 1,561 bytes for each line and 32 for each coordinate of the largest
-/// call, at most 8.5 megabytes.
+/// soon allocates nothing: 1,561 bytes for each line and 16 for each number of a coordinate of the
+/// largest call, at most 8.5 megabytes for x and y.
 ///
 /// ```
-/// use lovasuku_chains::{Lines, Rooms, Settings};
+/// use lovasuku_chains::{Dimension, Lines, Rooms, Settings};
 ///
 /// # fn main() -> Result<(), lovasuku_chains::Refusal> {
 /// let lines = Lines {
+///     dimension: Dimension::Xy,
 ///     coordinates: &[1.0, 0.0, 0.0, 0.0, 1.0, 0.0, 2.0, 0.0],
 ///     counts: &[2, 2],
 ///     groups: &[0, 0],
@@ -29,7 +28,7 @@ use crate::{Ends, Lines, Reason, Refusal, Route, Settings};
 /// let chain = chains.get(0).unwrap();
 /// assert_eq!(chain.members(), [1, 0]);
 /// assert_eq!(chain.marks(), [1, 0]);
-/// assert_eq!(chain.points(), [[2.0, 0.0], [1.0, 0.0], [0.0, 0.0]]);
+/// assert!(chain.points().eq([[2.0, 0.0], [1.0, 0.0], [0.0, 0.0]]));
 /// # Ok(())
 /// # }
 /// ```
@@ -50,10 +49,16 @@ impl Rooms {
         Rooms::default()
     }
 
-    /// Rooms for building calls of up to so many lines and coordinates.
+    /// Rooms for building calls of up to so many lines and coordinates of x and y.
     pub fn for_building(lines: usize, points: usize) -> Self {
+        Rooms::for_dimension(Dimension::Xy, lines, points)
+    }
+
+    /// Rooms for building calls of up to so many lines and coordinates of a dimension.
+    pub fn for_dimension(dimension: Dimension, lines: usize, points: usize) -> Self {
         let mut rooms = Rooms::default();
-        rooms.grow_for_building(lines.min(MOST_LINES), POINT * points.min(MOST_POINTS));
+        let numbers = dimension.stride() * points.min(MOST_POINTS);
+        rooms.grow_for_building(lines.min(MOST_LINES), numbers);
         rooms
     }
 
@@ -69,8 +74,9 @@ impl Rooms {
     /// Round one joins ends that agree bit for bit in x, y and group. Round two, where the
     /// tolerance is above 0, joins the ends of what round one left that lie in one cell. Two ends
     /// that meet with no third are joined at any angle, unless they are the two ends of one piece;
-    /// of three or more the straightest pairs are, if a limit is set. The chains borrow from the
-    /// lines and from these rooms.
+    /// of three or more the straightest pairs are, if a limit is set. Heights and measures are not
+    /// looked at and ride along with their points. The chains borrow from the lines and from these
+    /// rooms.
     ///
     /// # Errors
     ///
@@ -89,14 +95,15 @@ impl Rooms {
         let raw = RawSettings { tolerance: settings.tolerance, switch, limit };
         let Rooms { table, members, marks, merged, spare, workspace, .. } = self;
         let rooms = BuildRooms { table, members, marks, merged, spare, workspace };
-        let chains = door::result(door::build(lines, raw, rooms))? as usize;
+        let chains = door::result(door::build(lines.dimension.wkb_type(), lines, raw, rooms))?;
+        let chains = chains as usize;
         let table = first(&self.table, RECORD * chains);
         Ok(Chains {
             lines,
             table,
             members: first(&self.members, n),
             marks: first(&self.marks, n),
-            merged: first(&self.merged, merged_length(table)),
+            merged: first(&self.merged, lines.dimension.stride() * merged_points(table)),
         })
     }
 
@@ -199,10 +206,10 @@ pub(crate) fn grow<T: Clone + Default>(room: &mut Vec<T>, length: usize) {
     }
 }
 
-/// How many numbers the merged coordinates have: they end where those of the last merged chain do.
-fn merged_length(table: &[u32]) -> usize {
+/// How many coordinates are merged: they end where those of the last merged chain do.
+fn merged_points(table: &[u32]) -> usize {
     let end = |record: &[u32]| match *record {
-        [_, _, 1, first, count] => Some(POINT * (first as usize + count as usize)),
+        [_, _, 1, first, count] => Some(first as usize + count as usize),
         _ => None,
     };
     table.chunks_exact(RECORD).rev().find_map(end).unwrap_or(0)

@@ -3,7 +3,7 @@
 /// The most lines of a building call.
 pub const MOST_LINES: usize = 4_096;
 
-/// The most coordinates of a building call, counted in pairs of x and y.
+/// The most coordinates of a building call.
 pub const MOST_POINTS: usize = 65_536;
 
 /// The most ends of a pairing call.
@@ -16,7 +16,7 @@ pub const MOST_OFFSET: u32 = 1_000;
 /// coordinate count.
 pub const RECORD: usize = 5;
 
-/// The numbers of a coordinate: x and y.
+/// The numbers of a point: x and y. A [`Dimension`](crate::Dimension) has the extras.
 pub const POINT: usize = 2;
 
 /// The words of workspace for each line.

@@ -3,14 +3,13 @@
 use crate::chains::part;
 use crate::door::{self, ReadRooms};
 use crate::rooms::{first, grow};
-use crate::size::{POINT, WKB_HEADER, WKB_NUMBER};
-use crate::two::by_two;
-use crate::{Lines, Refusal};
+use crate::size::{WKB_HEADER, WKB_NUMBER};
+use crate::{Dimension, Lines, Points, Refusal};
 
 /// The rooms that runs of records are read into, again and again.
 ///
 /// They grow where a run needs more than any before it, and never shrink: 13 bytes for each record
-/// and 16 for each coordinate of the largest run.
+/// and 8 for each number of a coordinate of the largest run.
 #[derive(Clone, Debug, Default)]
 pub struct WkbRooms {
     coordinates: Vec<f64>,
@@ -22,8 +21,10 @@ pub struct WkbRooms {
 /// Reads lines from a run of WKB records (OGC 06-103r4), one behind another, whose lengths stand in
 /// a table.
 ///
-/// Each record is a line of x and y (type 2) in either byte order. Every bit of a double is kept,
-/// those of a NaN too. The lines borrow from the rooms and go straight into a building call.
+/// Each record is a line in either byte order, all of one [`Dimension`], which the lines have then: x
+/// and y (type 2), with a height (1002), a measure (2002) or both (3002). No records read as no lines
+/// of x and y. Every bit of a double is kept, those of a NaN too. The lines borrow from the rooms and
+/// go straight into a building call.
 ///
 /// ```
 /// use lovasuku_chains::{read_wkb, Rooms, Settings, WkbRooms};
@@ -48,19 +49,23 @@ pub struct WkbRooms {
 ///
 /// The first of these that applies. Before any record [`Refusal::BadLength`], where the lengths do
 /// not add up to the run. Then, of the first bad record: [`Refusal::BadLength`] where its header
-/// does not fit, [`Refusal::BadByteOrder`], [`Refusal::BadType`], and [`Refusal::BadLength`] where
-/// its count and its length disagree. What GEOS, GDAL and PostGIS write for heights and measures is
-/// of another type; so is Shapely 1.8's empty line, a collection.
+/// does not fit, [`Refusal::BadByteOrder`], [`Refusal::BadType`], [`Refusal::MixedTypes`], and
+/// [`Refusal::BadLength`] where its count and its length disagree. What Shapely and GDAL's
+/// `ExportToWkb` write for heights by default is not of ISO's types: ask for the ISO flavour, or use
+/// `ExportToIsoWkb` or PostGIS's `ST_AsBinary`. Shapely 1.8's empty line is a collection.
 pub fn read_wkb<'a>(
     run: &[u8],
     lengths: &[u64],
     rooms: &'a mut WkbRooms,
 ) -> Result<WkbLines<'a>, Refusal> {
     rooms.grow(run.len(), lengths.len());
+    let mut wkb_type = [0];
     let WkbRooms { coordinates, counts, .. } = rooms;
-    let records = door::result(door::read_wkb(run, lengths, ReadRooms { coordinates, counts }))?;
-    let records = records as usize;
+    let lent = ReadRooms { coordinates, counts, wkb_type: &mut wkb_type };
+    let records = door::result(door::read_wkb(run, lengths, lent))? as usize;
+    let [wkb_type] = wkb_type;
     Ok(WkbLines {
+        dimension: Dimension::of_wkb_type(wkb_type).ok_or(Refusal::BadType)?,
         coordinates: first(&rooms.coordinates, numbers(run.len(), records)),
         counts: first(&rooms.counts, records),
         groups: first(&rooms.groups, records),
@@ -93,6 +98,7 @@ fn numbers(bytes: usize, records: usize) -> usize {
 /// The lines of a run of records, borrowed from the rooms that they were read into.
 #[derive(Clone, Copy, Debug, PartialEq)]
 pub struct WkbLines<'a> {
+    dimension: Dimension,
     coordinates: &'a [f64],
     counts: &'a [u32],
     groups: &'a [u32],
@@ -110,23 +116,28 @@ impl<'a> WkbLines<'a> {
         self.counts.is_empty()
     }
 
-    /// x, y, x, y .. of all lines.
+    /// What each coordinate has; x and y where there is no line.
+    pub fn dimension(&self) -> Dimension {
+        self.dimension
+    }
+
+    /// x, y, x, y .. of all lines, with each coordinate's extras behind its y.
     pub fn coordinates(&self) -> &'a [f64] {
         self.coordinates
     }
 
-    /// The number of coordinates of each line, counted in pairs of x and y.
+    /// The number of coordinates of each line.
     pub fn counts(&self) -> &'a [u32] {
         self.counts
     }
 
-    /// The points of each line, in the order of the records.
-    pub fn points(&self) -> impl Iterator<Item = &'a [[f64; POINT]]> {
-        let coordinates = self.coordinates;
+    /// The points of each line, x and y of each, in the order of the records.
+    pub fn points(&self) -> impl Iterator<Item = Points<'a>> {
+        let WkbLines { coordinates, dimension, .. } = *self;
         let line = move |rest: &mut &'a [f64], &count: &u32| {
-            let line = part(rest, 0, count, POINT);
+            let line = part(rest, 0, count, dimension.stride());
             *rest = rest.get(line.len()..).unwrap_or_default();
-            Some(by_two(line))
+            Some(Points::of(line, dimension))
         };
         self.counts.iter().scan(coordinates, line)
     }
@@ -138,6 +149,7 @@ impl<'a> WkbLines<'a> {
 
     /// The lines for a building call, with a group and a kind for each.
     pub fn with(&self, groups: &'a [u32], kinds: &'a [u8]) -> Lines<'a> {
-        Lines { coordinates: self.coordinates, counts: self.counts, groups, kinds }
+        let WkbLines { dimension, coordinates, counts, .. } = *self;
+        Lines { dimension, coordinates, counts, groups, kinds }
     }
 }

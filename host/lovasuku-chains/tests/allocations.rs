@@ -1,8 +1,8 @@
 //! Once the rooms have grown, building, pairing, asking, reading and writing allocate nothing.
 
 use lovasuku_chains::{
-    chain_coordinates, read_wkb, ByteOrder, Ends, LinesBuf, Rooms, Route, Settings, WkbBuf,
-    WkbRooms,
+    chain_coordinates, read_wkb, ByteOrder, Dimension, Ends, LinesBuf, Rooms, Route, Settings,
+    WkbBuf, WkbRooms,
 };
 use std::alloc::{GlobalAlloc, Layout, System};
 use std::cell::Cell;
@@ -56,8 +56,13 @@ fn building_in_grown_rooms_allocates_nothing() {
         let chains = rooms.build(lines.lines(), settings).expect("the call is accepted");
         let table = chains.table();
         for (k, chain) in chains.iter().enumerate() {
-            let named =
-                chain_coordinates(lines.lines().coordinates, chains.merged(), table, k as u64);
+            let named = chain_coordinates(
+                Dimension::Xy,
+                lines.lines().coordinates,
+                chains.merged(),
+                table,
+                k as u64,
+            );
             assert_eq!(named, Ok(chain.coordinates()));
             total += chain.members().len() + chain.points().len();
         }
@@ -133,6 +138,7 @@ fn a_refused_call_allocates_nothing() {
     let coordinates = vec![0.0; 200_000];
     let mut rooms = Rooms::for_building(1, 65_536);
     let lines = lovasuku_chains::Lines {
+        dimension: Dimension::Xy,
         coordinates: &coordinates,
         counts: &[100_000],
         groups: &[0],

@@ -4,8 +4,8 @@
 use lovasuku_chains::large::{join, Capacity, Fault, Line};
 use lovasuku_chains::size::{MOST_ENDS, MOST_LINES, MOST_POINTS};
 use lovasuku_chains::{
-    build_chains, chain_coordinates, chain_question, door, Chains, Ends, LineInput, Lines,
-    LinesBuf, OwnedChain, Reason, Refusal, Rooms, Route, Settings,
+    build_chains, chain_coordinates, chain_question, door, Chains, Dimension, Ends, LineInput,
+    Lines, LinesBuf, OwnedChain, Reason, Refusal, Rooms, Route, Settings,
 };
 
 /// A line that joins the next but one, and between them one that passes through.
@@ -15,6 +15,11 @@ fn three_lines() -> LinesBuf {
     lines.push_passing([[1.0, 0.0], [1.0, 9.0], [5.0, 9.0]], 0);
     lines.push([[1.0, 0.0], [2.0, 0.0]], 0);
     lines
+}
+
+/// A plain line of x and y.
+fn one_line<'a>(coordinates: &'a [f64], counts: &'a [u32]) -> Lines<'a> {
+    Lines { dimension: Dimension::Xy, coordinates, counts, groups: &[0], kinds: &[0] }
 }
 
 /// True where a slice is a part of another, not a copy.
@@ -71,8 +76,13 @@ fn a_coordinate_that_is_no_place_is_refused() {
                 assert_eq!(answers, [Some(Refusal::NoPlace); 2]);
             }
             let lines = [[[5.0, 5.0], [6.0, 5.0]], [[0.0, 0.0], point]];
-            let lines = [0, 1].map(|k| Line { points: Some(&lines[k]), group: 0 });
-            let joined = join(&lines, Settings::default().with_tolerance(1.0), Capacity::default());
+            let lines = [0, 1].map(|k| Line { points: Some(&lines[k]), extras: &[], group: 0 });
+            let joined = join(
+                Dimension::Xy,
+                &lines,
+                Settings::default().with_tolerance(1.0),
+                Capacity::default(),
+            );
             assert_eq!(joined, Err(Fault::Refused(Refusal::NoPlace)));
         }
     }
@@ -120,6 +130,7 @@ fn the_largest_call_is_accepted_and_one_more_is_not() {
     let (groups, kinds) = (vec![0; MOST_LINES + 1], vec![0; MOST_LINES + 1]);
     let coordinates: Vec<f64> = (0..2 * MOST_POINTS).map(|k| k as f64).collect();
     let lines = Lines {
+        dimension: Dimension::Xy,
         coordinates: &coordinates,
         counts: &counts,
         groups: &groups[1..],
@@ -128,17 +139,18 @@ fn the_largest_call_is_accepted_and_one_more_is_not() {
     let mut rooms = Rooms::default();
     assert_eq!(rooms.build(lines, Settings::default()).unwrap().len(), MOST_LINES);
     let counts = vec![0; MOST_LINES + 1];
-    let more = Lines { coordinates: &[], counts: &counts, groups: &groups, kinds: &kinds };
+    let more = Lines { coordinates: &[], counts: &counts, groups: &groups, kinds: &kinds, ..lines };
     assert_eq!(rooms.build(more, Settings::default()).err(), Some(Refusal::TooMany));
     let coordinates = vec![0.0; 2 * MOST_POINTS + 2];
     let counts = [MOST_POINTS as u32 + 1];
-    let long = Lines { coordinates: &coordinates, counts: &counts, groups: &[0], kinds: &[0] };
+    let long =
+        Lines { coordinates: &coordinates, counts: &counts, groups: &[0], kinds: &[0], ..lines };
     assert_eq!(rooms.build(long, Settings::default()).err(), Some(Refusal::TooManyCoordinates));
 }
 
 #[test]
 fn building_names_its_refusals() {
-    let good = Lines { coordinates: &[0.0; 4], counts: &[2], groups: &[0], kinds: &[0] };
+    let good = one_line(&[0.0; 4], &[2]);
     let plain = Settings::default();
     let mut rooms = Rooms::default();
     let mut refused = |lines, settings| rooms.build(lines, settings).err();
@@ -157,7 +169,7 @@ fn building_names_its_refusals() {
 
 #[test]
 fn the_first_refusal_that_applies_is_given() {
-    let wrong = Lines { coordinates: &[0.0; 140_001], counts: &[2], groups: &[0], kinds: &[0] };
+    let wrong = one_line(&[0.0; 140_001], &[2]);
     let wide = Settings::default().with_limit(2.0);
     let mut rooms = Rooms::default();
     let mut refused = |lines| rooms.build(lines, wide).err().map(Refusal::number);
@@ -207,13 +219,17 @@ fn pairing_names_its_refusals() {
 fn the_chain_question_is_about_the_named_slice() {
     let (input, merged) = ([0.0; 6], [1.0; 4]);
     let table = [0, 1, 0, 1, 2, 1, 2, 1, 0, 2, 3, 1, 2, 0, 0, 4, 1, 1, u32::MAX, u32::MAX];
-    let question = |k| chain_question(&input, &merged, &table, k).map_err(Refusal::number);
+    let question =
+        |k| chain_question(Dimension::Xy, &input, &merged, &table, k).map_err(Refusal::number);
     assert_eq!([0, 1, 2, 3, 4].map(question), [Ok(()), Ok(()), Err(10), Err(10), Err(10)]);
     assert_eq!(question(u64::MAX / 5), Err(10));
     assert_eq!(question(u64::MAX), Err(10));
-    assert_eq!(chain_coordinates(&input, &merged, &table, 0), Ok(&[0.0; 4][..]));
-    assert_eq!(chain_coordinates(&input, &merged, &table, 1), Ok(&[1.0; 4][..]));
-    assert_eq!(chain_coordinates(&input, &merged, &table, 4), Err(Refusal::NoSuchChain));
+    assert_eq!(chain_coordinates(Dimension::Xy, &input, &merged, &table, 0), Ok(&[0.0; 4][..]));
+    assert_eq!(chain_coordinates(Dimension::Xy, &input, &merged, &table, 1), Ok(&[1.0; 4][..]));
+    assert_eq!(
+        chain_coordinates(Dimension::Xy, &input, &merged, &table, 4),
+        Err(Refusal::NoSuchChain)
+    );
 }
 
 /// Two ends of piece 7 that point apart, an absent end of piece 8, and two that point as the first

@@ -33,7 +33,7 @@ fn lines_of_both_orders_go_straight_into_building() {
     let mut store = WkbRooms::new();
     let lines = read_wkb(&run, &lengths, &mut store).unwrap();
     assert_eq!((lines.len(), lines.counts()), (3, &[2, 2, 2][..]));
-    assert_eq!(lines.points().nth(1), Some(&[[2.0, 0.0], [1.0, 0.0]][..]));
+    assert!(lines.points().nth(1).unwrap().eq([[2.0, 0.0], [1.0, 0.0]]));
 
     let mut rooms = Rooms::default();
     let settings = Settings::default().with_limit(-0.5);
@@ -65,7 +65,7 @@ fn a_shorter_run_is_read_into_grown_rooms() {
     let short = run(&[record(false, &[1.0, 2.0]), record(true, &[])]);
     let lines = read_wkb(&short.0, &short.1, &mut store).unwrap();
     assert_eq!((lines.coordinates(), lines.counts()), (&[1.0, 2.0][..], &[1, 0][..]));
-    assert_eq!(lines.points().map(<[_]>::len).collect::<Vec<_>>(), [1, 0]);
+    assert_eq!(lines.points().map(|points| points.len()).collect::<Vec<_>>(), [1, 0]);
     let none = read_wkb(&[], &[], &mut store).unwrap();
     assert!(none.is_empty() && none.points().next().is_none());
 }
@@ -115,7 +115,7 @@ fn chains_are_written_and_read_back_in_both_orders() {
         let mut store = WkbRooms::default();
         let back = read_wkb(records.run(), records.lengths(), &mut store).unwrap();
         for (chain, points) in chains.iter().zip(back.points()) {
-            assert_eq!(bits(&points.concat()), bits(chain.coordinates()));
+            assert_eq!(bits(&points.flatten().collect::<Vec<_>>()), bits(chain.coordinates()));
         }
     }
 }

@@ -11,6 +11,7 @@ use crate::summary::{of_degrees, Summary};
 use crate::tally::{length_of, Tally};
 use crate::writing;
 use anyhow::{anyhow, Context, Error, Result};
+use lovasuku_chains::Dimension;
 use std::path::Path;
 use std::time::Instant;
 
@@ -26,7 +27,8 @@ pub fn run(request: &Request) -> Result<String> {
     let classes = &Classes::of(delivery, request.class.as_deref()).with_context(input)?;
     let measure = &Measure::of(delivery, request.units.as_deref());
     let lines = lines(delivery, classes);
-    let chains = join(&lines, request.settings, Capacity::default(), &progress)
+    let dimension = if delivery.has_heights() { Dimension::Xyz } else { Dimension::Xy };
+    let chains = join(dimension, &lines, request.settings, Capacity::default(), &progress)
         .map_err(|fault| named(delivery, classes, fault))
         .with_context(input)?;
     let lengths: &Vec<f64> =
@@ -51,8 +53,8 @@ pub fn name_of_input(request: &Request, name: impl Fn(&Path) -> String) -> Strin
 
 fn lines<'d>(delivery: &'d Delivery, classes: &Classes) -> Vec<Line<'d>> {
     let line = |(geometry, &group): (&'d Geometry, &u32)| match geometry {
-        Geometry::Line(points) => Line { points: Some(points), group },
-        Geometry::Lines(_) | Geometry::Other(_) => Line { points: None, group },
+        Geometry::Line(run) => Line { points: Some(&run.points), extras: &run.heights, group },
+        Geometry::Lines(_) | Geometry::Other(_) => Line { points: None, extras: &[], group },
     };
     let geometries = delivery.features.iter().map(|feature| &feature.geometry);
     geometries.zip(&classes.groups).map(line).collect()

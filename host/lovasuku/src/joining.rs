@@ -2,11 +2,12 @@
 
 use crate::progress::Progress;
 pub use lovasuku_chains::large::*;
-use lovasuku_chains::Settings;
+use lovasuku_chains::{Dimension, Settings};
 use rayon::prelude::*;
 
-/// Joins lines. No call gets more than the capacity.
+/// Joins lines of a dimension. No call gets more than the capacity.
 pub fn join(
+    dimension: Dimension,
     lines: &[Line],
     settings: Settings,
     capacity: Capacity,
@@ -19,6 +20,6 @@ pub fn join(
         progress.add(batch.len());
         chains
     };
-    let built = batches.par_iter().map_init(|| Caller::new(settings), build);
+    let built = batches.par_iter().map_init(|| Caller::new(dimension, settings), build);
     Ok(in_order(lines, built.collect::<Result<_, Fault>>()?))
 }

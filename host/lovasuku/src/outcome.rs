@@ -86,12 +86,13 @@ impl Outcome<'_> {
     }
 
     /// The members of the input's collection. Its box is that of the chains only where nothing was
-    /// left out.
+    /// left out, and where there are heights, of which a joint leaves one out, it may not be.
     fn members(&self) -> Object<'_> {
         let mut members = self.delivery.members.clone();
         let whole = self.delivery.left_out.is_nothing();
-        let flat = self.request.reading.heights == Heights::Refused;
-        members.retain(|name, _| name != "bbox" || whole && flat);
+        let dropped = self.request.reading.heights == Heights::Dropped;
+        let as_it_was = whole && !dropped && !self.delivery.has_heights();
+        members.retain(|name, _| name != "bbox" || as_it_was);
         members
     }
 

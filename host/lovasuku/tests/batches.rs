@@ -2,7 +2,7 @@
 
 mod networks;
 
-use lovasuku_chains::{large, Settings};
+use lovasuku_chains::{large, Dimension, Settings};
 use lovasuku_command::delivery::Point;
 use lovasuku_command::joining::{join, Capacity, Chain, Fault, Joint, JointKind, Line};
 use lovasuku_command::progress::Progress;
@@ -19,7 +19,7 @@ const SETTINGS: [Settings; 6] = [
 ];
 
 fn chains(network: &Network, settings: Settings, capacity: Capacity) -> Option<Vec<Chain>> {
-    match join(&network.lines(), settings, capacity, &Progress::new(false)) {
+    match join(Dimension::Xy, &network.lines(), settings, capacity, &Progress::new(false)) {
         Ok(chains) => Some(chains),
         Err(fault) => {
             assert!(matches!(fault, Fault::TooLarge(_)), "{fault}");
@@ -50,7 +50,8 @@ fn batches_equal_one_call() {
     let mut compared = 0;
     for (seed, network, settings) in networks(400, 60) {
         let whole = chains(&network, settings, Capacity::default()).unwrap();
-        let one_core = large::join(&network.lines(), settings, Capacity::default()).unwrap();
+        let one_core =
+            large::join(Dimension::Xy, &network.lines(), settings, Capacity::default()).unwrap();
         assert!(whole.iter().map(bits).eq(one_core.iter().map(bits)), "seed {seed}, one core");
         for lines in [4, 8, 16, 48] {
             let capacity = Capacity { lines, points: 6 * lines };
@@ -121,8 +122,8 @@ fn check_bridges(lines: &[Line], chain: &Chain) -> usize {
 
 fn joined(lines: &[&[Point]], settings: Settings) -> Vec<Chain> {
     let lines: Vec<Line> =
-        lines.iter().map(|points| Line { points: Some(points), group: 0 }).collect();
-    join(&lines, settings, Capacity::default(), &Progress::new(false)).unwrap()
+        lines.iter().map(|points| Line { points: Some(points), extras: &[], group: 0 }).collect();
+    join(Dimension::Xy, &lines, settings, Capacity::default(), &Progress::new(false)).unwrap()
 }
 
 #[test]

@@ -90,16 +90,6 @@ fn the_greatest_places_are_places() {
 }
 
 #[test]
-fn heights_name_their_feature() {
-    let told = "lovasuku: standard input: feature 1 (line 2): its position 1 has a height (--drop-heights leaves heights out)\n";
-    let text = three(&feature("LineString", "[[1,0],[2,0,35.5]]"));
-    assert_eq!(fault("heights", &text, &[]), told);
-    let run = run(&["join", "-", "-o", "-", "-q", "--drop-heights"], &text);
-    assert_eq!((run.status, &run.err[..]), (0, ""));
-    assert!(run.out.contains("[[1.0,0.0],[2.0,0.0]]"), "{}", run.out);
-}
-
-#[test]
 fn bad_json_is_placed() {
     let told = fault("json", &three("{\"type\":\"Feature\",}"), &[]);
     assert_eq!(

@@ -3,7 +3,7 @@
 mod networks;
 
 use lovasuku_chains::large::{distance, gaps, join, Capacity, Chain, Gap, Line, Point};
-use lovasuku_chains::Settings;
+use lovasuku_chains::{Dimension, Settings};
 use networks::network;
 
 /// An end of a chain: its chain, its point, the chain's other end and its group.
@@ -61,7 +61,7 @@ fn every_open_end_and_its_nearest() {
         let tolerance = [0.5, 1.0, 2.0][seed as usize % 3];
         let lines = network.lines();
         let settings = Settings { tolerance, limit: None };
-        let chains = join(&lines, settings, Capacity::default()).unwrap();
+        let chains = join(Dimension::Xy, &lines, settings, Capacity::default()).unwrap();
         let found = gaps(&lines, &chains, tolerance);
         let ends = ends(&lines, &chains);
         let open = ends.iter().filter(|(_, point, _, group)| at(&lines, *group, *point) == 1);

@@ -10,7 +10,8 @@ pub struct Chain {
     pub points: Vec<Point>,
 }
 
-/// The table, members and merged coordinates of the chains. The original knows no marks.
+/// The table, members and merged coordinates of the chains. The original knows no marks and no extras,
+/// so that the merged coordinates are x and y alone, whatever the call's type is.
 ///
 /// A chain of one line names the line's own coordinates; the others stand in the merged
 /// coordinates one after another.
@@ -38,4 +39,11 @@ pub fn without_marks(call: &BuildCall, chains: &[Chain]) -> Built {
         }
     }
     built
+}
+
+/// Merged points with the extras of other merged coordinates of so many numbers, place by place.
+pub fn with_extras(points: &[u64], others: &[u64], stride: usize) -> Vec<u64> {
+    let others =
+        others.chunks(stride).map(|numbers| &numbers[2..]).chain(std::iter::repeat(&[][..]));
+    points.chunks(2).zip(others).flat_map(|(point, extras)| [point, extras].concat()).collect()
 }

@@ -20,7 +20,7 @@ include!(concat!(env!("OUT_DIR"), "/modules.rs"));
 
 use answers::model::{plane::Point, Model};
 use answers::{BuildCall, Built, Pair, PairingCall, Port, Refusal, Route};
-use chains::{without_marks, Chain};
+use chains::{with_extras, without_marks, Chain};
 pub use edited::coalesce::window::{RawChains, ReadyBuild, ReadyPairs};
 
 /// The way to both originals. Whoever has one may call them.
@@ -93,12 +93,14 @@ impl Oracle {
     }
 }
 
-/// The edited original as something that answers calls. The marks, which it does not know, are
-/// the model's, and so is the refusal of coordinates that are no place.
+/// The edited original as something that answers calls. The marks and the extras, which it does not
+/// know, are the model's, and so are the refusals of types that are none and of coordinates that are
+/// no place.
 impl Port for Oracle {
     fn build(&mut self, call: &BuildCall) -> Result<Built, Refusal> {
-        let marks = Model.build(call)?.marks;
-        Ok(Built { marks, ..without_marks(call, &self.chains(call)) })
+        let Built { marks, merged, .. } = Model.build(call)?;
+        let flat = without_marks(call, &self.chains(call));
+        Ok(Built { marks, merged: with_extras(&flat.merged, &merged, call.stride()), ..flat })
     }
 
     fn pairs(&mut self, route: Route, call: &PairingCall) -> Result<Vec<Pair>, Refusal> {

@@ -27,7 +27,7 @@ same-length-6 : tie.Need-same-length-6
 same-length-6 c = search needs
 
 returns : tie.Need-returns
-returns c = refused _ _ _ _ (c .before .refusal .ensures) (c .if1 .taken)
+returns c = refused _ _ _ _ _ (c .before .refusal .ensures) (c .if1 .taken)
 
 build-admitted-requires : tie.Need-build-admitted-requires
 build-admitted-requires c κs = search needs

@@ -3,16 +3,19 @@ use borrow.Author.Needs.{needs}
 use Rattle.build_chains.proofs.build_admitted.Statement.{statement}
 use Rattle.build_chains.proofs.build_admitted.Tie as tie
 use native.Mathlib.Omega.{arith}
-use Rattle.build_chains.proofs.Built.{joinable, spare-long, layable, accepted}
+use Rattle.build_chains.proofs.Built.{joinable, joinable-by, left-by, spare-long, layable, accepted}
+
+width-of-requires : tie.Need-width-of-requires
+width-of-requires c κs = search needs
 
 join-lines-requires : tie.Need-join-lines-requires
-join-lines-requires c κs = (joinable _ _ _ (c .before .before .before .before .before .before .before .before .before .before .before .before .before .pre), spare-long _ _ _ (c .before .before .before .before .before .before .before .before .before .before .before .before .before .pre))
+join-lines-requires c κs = (joinable-by _ _ _ _ (c .before .before .before .before .before .before .before .before .before .before .before .before .before .before .pre) (c .before .before .before .width-of .ensures .0), spare-long _ _ _ _ (c .before .before .before .before .before .before .before .before .before .before .before .before .before .before .pre))
 
 mul-end : tie.Need-mul-end
-mul-end c = omega (arith, joinable _ _ _ (c .before .before .before .before .before .before .before .before .before .before .before .before .before .before .before .before .before .before .before .before .pre) .few)
+mul-end c = omega (arith, joinable _ _ _ _ (c .before .before .before .before .before .before .before .before .before .before .before .before .before .before .before .before .before .before .before .before .before .pre) .few)
 
 mul-lay-out : tie.Need-mul-lay-out
-mul-lay-out c = omega (arith, joinable _ _ _ (c .before .before .before .before .before .before .before .before .before .before .before .before .before .before .before .before .before .before .before .before .pre) .few)
+mul-lay-out c = omega (arith, joinable _ _ _ _ (c .before .before .before .before .before .before .before .before .before .before .before .before .before .before .before .before .before .before .before .before .before .pre) .few)
 
 sub-lay-out : tie.Need-sub-lay-out
 sub-lay-out c = search needs
@@ -21,16 +24,18 @@ part-lay-out-start : tie.Need-part-lay-out-start
 part-lay-out-start c = search needs
 
 part-lay-out-end : tie.Need-part-lay-out-end
-part-lay-out-end c = omega (arith, joinable _ _ _ (c .before .before .before .before .before .before .before .before .before .before .before .before .before .before .before .before .before .before .before .before .before .pre) .workspace-long)
+part-lay-out-end c = omega (arith, joinable _ _ _ _ (c .before .before .before .before .before .before .before .before .before .before .before .before .before .before .before .before .before .before .before .before .before .before .pre) .workspace-long)
 
 lay-out-requires : tie.Need-lay-out-requires
-lay-out-requires c κs = layable _ _ _ (c .before .before .before .before .before .before .before .before .before .before .before .before .before .before .before .before .before .before .before .before .before .before .before .before .before .pre) (c .before .before .before .before .before .before .before .before .before .before .before .join-lines .ensures)
+lay-out-requires c κs =
+    let z = c .before .before .before .before .before .before .before .before .before .before .before .before .before .before .before .before .before .before .before .before .before .before .before .before .before .before .pre in
+    layable _ _ _ _ z (left-by _ _ _ _ z (c .before .before .before .before .before .before .before .before .before .before .before .before .before .before .before .width-of .ensures .0) (c .before .before .before .before .before .before .before .before .before .before .before .join-lines .ensures))
 
 clear-requires : tie.Need-clear-requires
-clear-requires c κs = omega (arith, spare-long _ _ _ (c .before .before .before .before .before .before .before .before .before .before .before .before .before .before .before .before .before .before .before .before .before .before .before .before .before .before .before .before .before .before .before .before .before .pre))
+clear-requires c κs = omega (arith, spare-long _ _ _ _ (c .before .before .before .before .before .before .before .before .before .before .before .before .before .before .before .before .before .before .before .before .before .before .before .before .before .before .before .before .before .before .before .before .before .before .pre))
 
 clear-requires-2 : tie.Need-clear-requires-2
-clear-requires-2 c κs = omega (arith, joinable _ _ _ (c .before .before .before .before .before .before .before .before .before .before .before .before .before .before .before .before .before .before .before .before .before .before .before .before .before .before .before .before .before .before .before .before .before .before .before .before .before .pre) .workspace-long)
+clear-requires-2 c κs = omega (arith, joinable _ _ _ _ (c .before .before .before .before .before .before .before .before .before .before .before .before .before .before .before .before .before .before .before .before .before .before .before .before .before .before .before .before .before .before .before .before .before .before .before .before .before .before .pre) .workspace-long)
 
 same-length : tie.Need-same-length
 same-length c = search needs
@@ -53,14 +58,15 @@ same-length-6 c = search needs
 returns : tie.Need-returns
 unfolding layable
 returns c =
-    let z = c .before .before .before .before .before .before .before .before .before .before .before .before .before .before .before .before .before .before .before .before .before .before .before .before .before .before .before .before .before .before .before .before .before .before .before .before .before .before .before .before .pre in
-    let l = c .before .before .before .before .before .before .before .before .before .before .before .before .before .before .before .before .before .before .before .before .before .before .before .before .before .before .join-lines .ensures in
-    accepted _ _ _ z l (c .before .before .before .before .before .before .before .before .before .before .before .before .before .before .lay-out .ensures (layable _ _ _ z l)) (c .before .before .before .before .before .before .clear .ensures) (c .before .before .clear2 .ensures)
+    let z = c .before .before .before .before .before .before .before .before .before .before .before .before .before .before .before .before .before .before .before .before .before .before .before .before .before .before .before .before .before .before .before .before .before .before .before .before .before .before .before .before .before .pre in
+    let l = left-by _ _ _ _ z (c .before .before .before .before .before .before .before .before .before .before .before .before .before .before .before .before .before .before .before .before .before .before .before .before .before .before .before .before .before .before .width-of .ensures .0) (c .before .before .before .before .before .before .before .before .before .before .before .before .before .before .before .before .before .before .before .before .before .before .before .before .before .before .join-lines .ensures) in
+    accepted _ _ _ _ z l (c .before .before .before .before .before .before .before .before .before .before .before .before .before .before .lay-out .ensures (layable _ _ _ _ z l)) (c .before .before .before .before .before .before .clear .ensures) (c .before .before .clear2 .ensures)
 
 pub build-admitted-spec : {M : Type 1} → statement M
 build-admitted-spec =
     tie.close
     (tie.spec
+    width-of-requires
     join-lines-requires
     mul-end
     mul-lay-out

@@ -12,7 +12,7 @@ use native.Mathlib.Omega.{arith}
 use native.Mathlib.Nat.{add-mul}
 use denote.Ref.{now}
 use Rattle.rules.specs.Refusals.{entry}
-use Rattle.build_question.proofs.Laws.{few-numbers, Stands, stands, view-none, view-input, view-merged, inside-input, inside-merged, one}
+use Rattle.build_question.proofs.Laws.{few-numbers, Stands, stands, part-none, part-input, part-merged, inside-input, inside-merged, one}
 
 abbrev Past : Type 0
 Past = lts.Else1 (no-chain-reads.Asked, no-chain-reads.Learnt) reads.Pre reads.Post
@@ -36,7 +36,7 @@ slice-aggregate-result : tie.Need-slice-aggregate-result
 slice-aggregate-result c = search needs
 
 returns : tie.Need-returns
-returns c = view-none _ _ _ _ _ (sym (c .before .before .no-chain .ensures) ∙ c .before .if1 .taken)
+returns c = part-none _ _ _ _ _ (sym (c .before .before .no-chain .ensures) ∙ c .before .if1 .taken)
 
 mul-from : tie.Need-mul-from
 mul-from c = let s = stood c in omega arith
@@ -114,7 +114,7 @@ part-result-end : tie.Need-part-result-end
 part-result-end c = let z = stood (c .before .before .before .before) in omega (arith, both (c .before .before .before .before), inside-input _ _ _ _ _ z (c .if2 .taken))
 
 returns-2 : tie.Need-returns-2
-returns-2 c = view-input _ _ _ _ _ (sym (c .before .before .before .before .before .before .no-chain .ensures) ∙ c .before .before .before .before .before .if1 .left) (c .before .if2 .taken)
+returns-2 c = part-input _ _ _ _ _ (sym (c .before .before .before .before .before .before .no-chain .ensures) ∙ c .before .before .before .before .before .if1 .left) (c .before .if2 .taken)
 
 mul-result-2 : tie.Need-mul-result-2
 mul-result-2 c = let z = stood (c .before .before .before .before) in omega (arith, both (c .before .before .before .before), inside-merged _ _ _ _ _ z (one z (c .if2 .left)))
@@ -129,7 +129,7 @@ part-result-end-2 : tie.Need-part-result-end-2
 part-result-end-2 c = let z = stood (c .before .before .before .before) in omega (arith, both (c .before .before .before .before), inside-merged _ _ _ _ _ z (one z (c .if2 .left)))
 
 returns-3 : tie.Need-returns-3
-returns-3 c = view-merged _ _ _ _ _ (sym (c .before .before .before .before .before .before .no-chain .ensures) ∙ c .before .before .before .before .before .if1 .left) (one (stood (c .before .before .before .before .before)) (c .before .if2 .left))
+returns-3 c = part-merged _ _ _ _ _ (sym (c .before .before .before .before .before .before .no-chain .ensures) ∙ c .before .before .before .before .before .if1 .left) (one (stood (c .before .before .before .before .before)) (c .before .if2 .left))
 
 pub part-spec : {M : Type 1} → statement M
 part-spec =

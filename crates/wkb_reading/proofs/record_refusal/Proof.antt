@@ -9,14 +9,14 @@ use lib.ListN.{drop}
 use borrow.Author.Tests.{lt-ltb, le-ltb, eq-eqb, ne-eqb}
 use Rattle.build_refusals.proofs.Laws.{Left, rung, halt, top}
 use Rattle.rules.specs.Wkb.{byteOrder, typeOf, countOf, recordRefusal}
-use Rattle.wkb_records.proofs.Widths.{product-small}
+use Rattle.point_numbers.proofs.Widths.{product-small}
 use Rattle.wkb_reading.proofs.Laws.{tests, opened, own-width, own-type, own-size}
 
 abbrev After : ℕ → tie.Start → Type 0
-After k s = Left (recordRefusal (s .args .extras) (s .args .wkb-type) (now (s .args .bytes))) (drop k (tests (s .args .extras) (s .args .wkb-type) (now (s .args .bytes))))
+After k s = Left (recordRefusal (s .args .wkb-type) (now (s .args .bytes))) (drop k (tests (s .args .wkb-type) (now (s .args .bytes))))
 
 left1 : (c : tie.Else1) → After 1 (c .before .before)
-left1 c = rung (opened _ _ _) (le-ltb _ _ (c .if1 .left))
+left1 c = rung (opened _ _) (le-ltb _ _ (c .if1 .left))
 
 left2 : (c : tie.Else2) → After 2 (c .before .before .before .before)
 unfolding byteOrder
@@ -24,14 +24,14 @@ left2 c = rung (left1 (c .before .before)) (le-ltb _ _ (c .if2 .left))
 
 left3 : (c : tie.Else3) → After 3 (c .before .before .before .before .before .before .before)
 unfolding typeOf
-left3 c = rung (left2 (c .before .before .before)) (own-width _ _ _ _ (c .before .before .word .ensures .0) (c .before .width-of .ensures .0) (ne-eqb _ _ (c .if3 .left)))
+left3 c = rung (left2 (c .before .before .before)) (own-width _ _ _ (c .before .before .word .ensures .0) (c .before .width-of .ensures .0) (ne-eqb _ _ (c .if3 .left)))
 
 left4 : (c : tie.Else4) → After 4 (c .before .before .before .before .before .before .before .before)
 unfolding typeOf
 left4 c = rung (left3 (c .before)) (own-type _ _ _ (c .before .before .before .word .ensures .0) (eq-eqb _ _ (c .if4 .left)))
 
 returns : tie.Need-returns
-returns c = halt (opened _ _ _) (lt-ltb _ _ (c .if1 .taken))
+returns c = halt (opened _ _) (lt-ltb _ _ (c .if1 .taken))
 
 shared-slice-read-if2 : tie.Need-shared-slice-read-if2
 shared-slice-read-if2 c = search needs
@@ -48,7 +48,7 @@ width-of-requires c κs = search needs
 
 returns-3 : tie.Need-returns-3
 unfolding typeOf
-returns-3 c = halt (left2 (c .before .before .before)) (own-width _ _ _ _ (c .before .before .word .ensures .0) (c .before .width-of .ensures .0) (eq-eqb _ _ (c .if3 .taken)))
+returns-3 c = halt (left2 (c .before .before .before)) (own-width _ _ _ (c .before .before .word .ensures .0) (c .before .width-of .ensures .0) (eq-eqb _ _ (c .if3 .taken)))
 
 returns-4 : tie.Need-returns-4
 unfolding typeOf
@@ -71,11 +71,11 @@ add-if5 c = omega (arith, product-small (c .word2 .result) (c .before .before .b
 
 returns-5 : tie.Need-returns-5
 unfolding typeOf countOf
-returns-5 c = halt (left4 (c .before .before)) (own-size _ _ _ _ _ _ (c .before .before .before .before .before .word .ensures .0) (c .before .before .before .before .width-of .ensures .0) (c .before .word2 .ensures .0) (ne-eqb _ _ (c .if5 .taken)))
+returns-5 c = halt (left4 (c .before .before)) (own-size _ _ _ _ _ (c .before .before .before .before .before .word .ensures .0) (c .before .before .before .before .width-of .ensures .0) (c .before .word2 .ensures .0) (ne-eqb _ _ (c .if5 .taken)))
 
 returns-6 : tie.Need-returns-6
 unfolding typeOf countOf
-returns-6 c = top (rung (left4 (c .before .before)) (own-size _ _ _ _ _ _ (c .before .before .before .before .before .word .ensures .0) (c .before .before .before .before .width-of .ensures .0) (c .before .word2 .ensures .0) (eq-eqb _ _ (c .if5 .left))))
+returns-6 c = top (rung (left4 (c .before .before)) (own-size _ _ _ _ _ (c .before .before .before .before .before .word .ensures .0) (c .before .before .before .before .width-of .ensures .0) (c .before .word2 .ensures .0) (eq-eqb _ _ (c .if5 .left))))
 
 pub record-refusal-spec : {M : Type 1} → statement M
 record-refusal-spec =

@@ -11,10 +11,10 @@ use denote.Ref.{now}
 use Rattle.wkb_reading.proofs.Laws.{total-drop, stops, passes, nothing-refused}
 
 abbrev Inv-loop : tie.InvT-loop
-Inv-loop extras run lengths wkb-type at₀ i₀ at i = (i ≤ length lengths) × (at + total (drop i lengths) ≡ length run) × (recordsRefusal extras wkb-type (recordsOf lengths run) ≡ recordsRefusal extras wkb-type (recordsOf (drop i lengths) (drop at run)))
+Inv-loop run lengths wkb-type at₀ i₀ at i = (i ≤ length lengths) × (at + total (drop i lengths) ≡ length run) × (recordsRefusal wkb-type (recordsOf lengths run) ≡ recordsRefusal wkb-type (recordsOf (drop i lengths) (drop at run)))
 
 abbrev μ-loop : tie.MeasureT-loop
-μ-loop extras run lengths wkb-type at₀ i₀ at i = length lengths - i
+μ-loop run lengths wkb-type at₀ i₀ at i = length lengths - i
 
 loop-holds : tie.Need-loop-holds Inv-loop μ-loop
 loop-holds c = (omega arith, omega (arith, c .before .before .pre), refl)
@@ -41,7 +41,7 @@ record-refusal-requires : tie.Need-record-refusal-requires Inv-loop μ-loop
 record-refusal-requires c κs = tt
 
 returns : tie.Need-returns Inv-loop μ-loop
-returns c = let l = c .before .before .before .before .before in let a = c .before .before .before .before .before .before .before .before .args in stops (a .extras) (a .wkb-type) (now (a .lengths)) (now (a .run)) (l .loop .i) (l .loop .at) _ _ (c .before .before .before .before .loop-test .taken) (l .loop .inv .2) (c .before .record-refusal .ensures) (c .if1 .taken)
+returns c = let l = c .before .before .before .before .before in let a = c .before .before .before .before .before .before .before .before .args in stops (a .wkb-type) (now (a .lengths)) (now (a .run)) (l .loop .i) (l .loop .at) _ _ (c .before .before .before .before .loop-test .taken) (l .loop .inv .2) (c .before .record-refusal .ensures) (c .if1 .taken)
 
 add-i : tie.Need-add-i Inv-loop μ-loop
 add-i c = omega arith
@@ -55,11 +55,11 @@ loop-again c =
     let a = c .before .before .before .before .before .before .before .before .args in (
       omega arith,
       omega (arith, total-drop (now (a .lengths)) (l .loop .i) (c .before .before .before .before .loop-test .taken)),
-      passes (a .extras) (a .wkb-type) (now (a .lengths)) (now (a .run)) (l .loop .i) (l .loop .at) _ _ (c .before .before .before .before .loop-test .taken) (l .loop .inv .2) (c .before .record-refusal .ensures) (c .if1 .left),
+      passes (a .wkb-type) (now (a .lengths)) (now (a .run)) (l .loop .i) (l .loop .at) _ _ (c .before .before .before .before .loop-test .taken) (l .loop .inv .2) (c .before .record-refusal .ensures) (c .if1 .left),
     )
 
 returns-2 : tie.Need-returns-2 Inv-loop μ-loop
-returns-2 c = let l = c .before in let a = c .before .before .before .before .args in sym (l .loop .inv .2 ∙ nothing-refused (a .extras) (a .wkb-type) (now (a .lengths)) _ (l .loop .i) (c .loop-test .left))
+returns-2 c = let l = c .before in let a = c .before .before .before .before .args in sym (l .loop .inv .2 ∙ nothing-refused (a .wkb-type) (now (a .lengths)) _ (l .loop .i) (c .loop-test .left))
 
 pub records-refusal-spec : {M : Type 1} → statement M
 records-refusal-spec =

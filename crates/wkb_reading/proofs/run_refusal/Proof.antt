@@ -13,7 +13,7 @@ adds-up-requires : tie.Need-adds-up-requires
 adds-up-requires c κs = search needs
 
 returns : tie.Need-returns
-returns c = run-apart _ _ _ (sym (c .before .adds-up .ensures) ∙ not-true _ (c .if1 .taken))
+returns c = run-apart _ _ (sym (c .before .adds-up .ensures) ∙ not-true _ (c .if1 .taken))
 
 run-type-requires : tie.Need-run-type-requires
 run-type-requires c κs = eqb-true _ _ (sym (c .before .adds-up .ensures) ∙ not-false _ (c .if1 .left))
@@ -22,7 +22,7 @@ records-refusal-requires : tie.Need-records-refusal-requires
 records-refusal-requires c κs = eqb-true _ _ (sym (c .before .before .adds-up .ensures) ∙ not-false _ (c .before .if1 .left))
 
 returns-2 : tie.Need-returns-2
-returns-2 c = let a = c .before .before .before .before .before .before .args in c .records-refusal .ensures ∙ ap (λ (t : ℕ). recordsRefusal (a .extras) t (recordsOf (now (a .lengths)) (now (a .run)))) (c .before .run-type .ensures) ∙ run-adds _ _ _ (sym (c .before .before .before .adds-up .ensures) ∙ not-false _ (c .before .before .if1 .left))
+returns-2 c = let a = c .before .before .before .before .before .before .args in c .records-refusal .ensures ∙ ap (λ (t : ℕ). recordsRefusal t (recordsOf (now (a .lengths)) (now (a .run)))) (c .before .run-type .ensures) ∙ run-adds _ _ (sym (c .before .before .before .adds-up .ensures) ∙ not-false _ (c .before .before .if1 .left))
 
 pub run-refusal-spec : {M : Type 1} → statement M
 run-refusal-spec =

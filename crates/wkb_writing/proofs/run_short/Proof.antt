@@ -6,7 +6,7 @@ use mathlib.Core.Path.{_≡_, ap, _∙_}
 use native.Mathlib.Omega.{arith}
 use denote.Ref.{now}
 use lib.ListN.{getD}
-use Rattle.wkb_records.proofs.Widths.{product-small}
+use Rattle.point_numbers.proofs.Widths.{product-small}
 use Rattle.wkb_writing.specs.Writing.{bytesFrom}
 use Rattle.wkb_writing.proofs.Chains.{bytes-start, bytes-next, bytes-none, room-passed, room-enough}
 use Rattle.rules.specs.Refusals.{recordSize}

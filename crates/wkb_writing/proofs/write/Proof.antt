@@ -10,7 +10,8 @@ use denote.Ref.{now}
 use lib.ListN.{drop}
 use borrow.Author.Tests.{lt-ltb, le-ltb, eq-eqb, ne-eqb, ltb-false}
 use Rattle.build_refusals.proofs.Laws.{Left, rung, halt, top}
-use Rattle.rules.specs.Wkb.{LentChains, widthOf, anyMissing, writeRefusalOf}
+use Rattle.rules.specs.Types.{widthOf}
+use Rattle.rules.specs.Wkb.{LentChains, anyMissing, writeRefusalOf}
 use Rattle.wkb_writing.proofs.Answers.{tests, opened, width-test, missing-test, room-run, rows-long, either-first, either-second, neither, wrote-refused, wrote-accepted}
 
 abbrev lent : tie.Start → LentChains
@@ -44,10 +45,10 @@ left3 c = rung (left2 (c .before .before)) (missing-test (lent (start (c .before
 abbrev given : tie.Else3 → LentChains
 given c = lent (start (c .before .before .before))
 
-wide : (c : tie.Else3) → c .before .before .before .before .width-of .result ≡ widthOf true (given c .type)
+wide : (c : tie.Else3) → c .before .before .before .before .width-of .result ≡ widthOf (given c .type)
 wide c = c .before .before .before .before .width-of .ensures .0
 
-there : (c : tie.Else3) → anyMissing (widthOf true (given c .type)) (given c .input) (given c .merged) (given c .table) 0 (given c .number) ≡ false
+there : (c : tie.Else3) → anyMissing (widthOf (given c .type)) (given c .input) (given c .merged) (given c .table) 0 (given c .number) ≡ false
 there c = missing-test (given c) _ (wide c) (c .before .any-missing .ensures) (c .if3 .left)
 
 above : (k : ℕ) → suc k ≡ 0 → ⊥

@@ -2,9 +2,9 @@
 //!
 //! One file per heading of the rules: [`plane`] (keys, directions, the measure), [`selecting`],
 //! [`reasons`] (why two ends are joined or not), [`walking`] (joining and walks), [`layout`] (the
-//! answer's tables). This file has the two rounds. The model refuses coordinates that are no place
-//! and what the question adds, and nothing else: it is put only to calls to which no other refusal
-//! applies.
+//! answer's tables). This file has the two rounds. The model refuses types that are none of the
+//! four, coordinates that are no place and what the question adds, and nothing else: it is put only
+//! to calls to which no other refusal applies.
 
 pub mod layout;
 pub mod plane;
@@ -12,9 +12,18 @@ pub mod reasons;
 pub mod selecting;
 pub mod walking;
 
-use crate::call::{BuildCall, Built, Pair, PairingCall, Port, Refusal, Route, NO_PLACE};
+use crate::call::{BuildCall, Built, Pair, PairingCall, Port, Refusal, Route};
 use plane::{cell_key, exact_key, same, Key, Point};
 use walking::{joins, walks};
+
+/// A coordinate: its point, and the extras that ride along. Those that its type has not are 0.
+#[derive(Clone, Copy, Debug, PartialEq, Eq)]
+pub struct Coordinate {
+    /// x and y, as bits.
+    pub point: Point,
+    /// The height and the measure, or the one of them that there is, as bits.
+    pub extras: [u64; 2],
+}
 
 /// A line, or several joined ones, with one run of coordinates.
 #[derive(Clone, Debug)]
@@ -23,8 +32,8 @@ pub struct Piece {
     pub members: Vec<usize>,
     /// Per member 1 where the last round entered the piece that held it at end 1.
     pub marks: Vec<u8>,
-    /// The coordinates, as bits.
-    pub points: Vec<Point>,
+    /// The coordinates.
+    pub run: Vec<Coordinate>,
     /// The group of all its lines.
     pub group: u32,
 }
@@ -34,9 +43,9 @@ pub struct Model;
 
 impl Port for Model {
     fn build(&mut self, call: &BuildCall) -> Result<Built, Refusal> {
-        match call.nowhere() {
-            true => Err(NO_PLACE),
-            false => Ok(built(call)),
+        match call.refusal() {
+            Some(refusal) => Err(refusal),
+            None => Ok(built(call)),
         }
     }
 
@@ -59,11 +68,20 @@ fn lines(call: &BuildCall) -> (Vec<Piece>, Vec<Piece>) {
     let piece = |(line, first): (usize, usize)| Piece {
         members: vec![line],
         marks: vec![0],
-        points: call.points(line, first),
+        run: run(call, line, first),
         group: call.groups[line],
     };
     let all = call.firsts().into_iter().enumerate().map(piece);
     all.partition(|piece| !call.passes(piece.members[0]))
+}
+
+/// The coordinates of a line that begins at the given one.
+fn run(call: &BuildCall, line: usize, first: usize) -> Vec<Coordinate> {
+    let coordinate = |numbers: &[u64]| {
+        let extra = |k: usize| numbers.get(k).copied().unwrap_or(0);
+        Coordinate { point: [numbers[0], numbers[1]], extras: [extra(2), extra(3)] }
+    };
+    call.numbers(line, first).chunks(call.stride()).map(coordinate).collect()
 }
 
 /// Round one by exact keys and, where the tolerance is above 0, round two by cells.
@@ -87,26 +105,27 @@ fn round(call: &BuildCall, pieces: Vec<Piece>, key: &dyn Fn(u32, Point) -> Key) 
 /// The piece of a walk, which is given by the ends at which it enters its pieces.
 fn merge(pieces: &[Piece], walk: &[usize]) -> Piece {
     let head = &pieces[walk[0] / 2];
-    let mut merged = Piece { members: vec![], marks: vec![], points: vec![], group: head.group };
+    let mut merged = Piece { members: vec![], marks: vec![], run: vec![], group: head.group };
     for &entry in walk {
         let piece = &pieces[entry / 2];
         merged.members.extend(&piece.members);
         merged.marks.extend(piece.members.iter().map(|_| (entry % 2) as u8));
-        append(&mut merged.points, &piece.points, entry % 2 == 1);
+        append(&mut merged.run, &piece.run, entry % 2 == 1);
     }
     if walk.len() == 1 {
-        merged.points = head.points.clone();
+        merged.run = head.run.clone();
     }
     merged
 }
 
-/// Appends a run, turned round if asked, without any coordinate that equals the last written.
-fn append(run: &mut Vec<Point>, points: &[Point], turned: bool) {
-    for k in 0..points.len() {
-        let point = points[if turned { points.len() - 1 - k } else { k }];
-        let repeated = matches!(run.last(), Some(&last) if same(last, point));
+/// Appends a run, turned round if asked, without any coordinate whose x and y equal those of the last
+/// written: that one stays, with its extras.
+fn append(run: &mut Vec<Coordinate>, more: &[Coordinate], turned: bool) {
+    for k in 0..more.len() {
+        let coordinate = more[if turned { more.len() - 1 - k } else { k }];
+        let repeated = matches!(run.last(), Some(last) if same(last.point, coordinate.point));
         if !repeated {
-            run.push(point);
+            run.push(coordinate);
         }
     }
 }

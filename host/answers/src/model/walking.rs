@@ -25,7 +25,7 @@ pub fn joins(
 fn nodes(pieces: &[Piece], key: &dyn Fn(u32, Point) -> Key) -> Vec<Vec<usize>> {
     let mut nodes: BTreeMap<Key, Vec<usize>> = BTreeMap::new();
     for (p, piece) in pieces.iter().enumerate() {
-        let ends = [piece.points[0], piece.points[piece.points.len() - 1]];
+        let ends = [piece.run[0].point, piece.run[piece.run.len() - 1].point];
         for (side, &point) in ends.iter().enumerate() {
             nodes.entry(key(piece.group, point)).or_default().push(2 * p + side);
         }
@@ -41,7 +41,10 @@ fn joined(pieces: &[Piece], node: &[usize], limit: Option<f64>) -> Vec<[usize; 2
         (&[a, b], _) => vec![[a, b]],
         (_, None) => vec![],
         (_, Some(limit)) => {
-            let toward = |&end: &usize| direction(&pieces[end / 2].points, end % 2);
+            let points = |piece: usize| -> Vec<Point> {
+                pieces[piece].run.iter().map(|coordinate| coordinate.point).collect()
+            };
+            let toward = |&end: &usize| direction(&points(end / 2), end % 2);
             let directions: Vec<_> = node.iter().map(toward).collect();
             let owners: Vec<_> = node.iter().map(|&end| (end / 2) as u32).collect();
             let pairs = selected(&directions, &owners, limit);

@@ -1,7 +1,6 @@
 //! Building calls, one step simpler.
 
 use super::{parts, simpler_lists, simpler_words, Shrink};
-use answers::model::plane::Point;
 use answers::BuildCall;
 use std::ops::Range;
 
@@ -13,22 +12,30 @@ impl Shrink for BuildCall {
         });
         let words = simpler_lists(&self.coordinates)
             .map(|coordinates| BuildCall { coordinates, ..self.clone() });
-        Box::new(lines.chain(points).chain(settings(self)).chain(tables(self)).chain(words))
+        let flat = (self.stride() > 2).then(|| self.flat());
+        let smaller = flat.into_iter().chain(lines).chain(points);
+        Box::new(smaller.chain(settings(self)).chain(tables(self)).chain(words))
     }
 }
 
-/// The lines with their points, groups and kinds.
-fn lines(call: &BuildCall) -> Vec<(Vec<Point>, u32, u8)> {
-    let line = |(line, first)| (call.points(line, first), call.groups[line], call.kinds[line]);
+/// A line: its numbers coordinate by coordinate, its group and its kind.
+type Line = (Vec<Vec<u64>>, u32, u8);
+
+/// The lines of a call.
+fn lines(call: &BuildCall) -> Vec<Line> {
+    let numbers =
+        |line, first| call.numbers(line, first).chunks(call.stride()).map(<[u64]>::to_vec);
+    let line =
+        |(line, first)| (numbers(line, first).collect(), call.groups[line], call.kinds[line]);
     call.firsts().into_iter().enumerate().map(line).collect()
 }
 
 /// The call with other lines.
-fn with_lines(call: &BuildCall, lines: Vec<(Vec<Point>, u32, u8)>) -> BuildCall {
-    let (tolerance, switch, limit) = (call.tolerance, call.switch, call.limit);
-    let mut with = BuildCall { tolerance, switch, limit, ..BuildCall::default() };
-    for (points, group, kind) in lines {
-        with.push(&points, group, kind);
+fn with_lines(call: &BuildCall, lines: Vec<Line>) -> BuildCall {
+    let BuildCall { wkb_type, tolerance, switch, limit, .. } = *call;
+    let mut with = BuildCall { wkb_type, tolerance, switch, limit, ..BuildCall::default() };
+    for (numbers, group, kind) in lines {
+        with.push_numbers(&numbers.concat(), group, kind);
     }
     with
 }

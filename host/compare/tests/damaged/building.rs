@@ -1,7 +1,7 @@
 //! Damaged building calls.
 
-use crate::building_damages::{accepted, damages, lengths, LentLines};
-use crate::{bent, damaged, IN_ORDER};
+use crate::building_damages::{accepted, damages, lengths, LentLines, SMALL};
+use crate::{bent, damaged, IN_ORDER, NO_PLACES, NO_TYPES};
 use answers::random::Random;
 use answers::BuildCall;
 use compare::building::{compare_build, hold_build, BuildRooms};
@@ -52,7 +52,7 @@ fn each_damage_at_every_edge() {
 #[test]
 fn two_damages_at_once() {
     let all = damages();
-    for (base, call) in &accepted()[..2] {
+    for (base, call) in &accepted()[1..3] {
         for (k, one) in all.iter().enumerate() {
             for other in all[k + 1..].iter().filter(|other| other.refusal != one.refusal) {
                 let (refusal, lent, name) = damaged(call, &[one, other]);
@@ -75,7 +75,7 @@ fn many_damages_at_once() {
                 some.push(random.pick(&of));
             }
         }
-        let (base, call) = &bases[random.below(2)];
+        let (base, call) = &bases[random.below(SMALL)];
         if !some.is_empty() {
             let (refusal, lent, name) = damaged(call, &some);
             expect(refusal, &lent, &format!("{base}: {name}"));
@@ -103,6 +103,8 @@ fn every_refusal_of_the_empty_call() {
         Library.build(&call, &mut rooms)
     };
     let empty = BuildCall::default;
+    assert_eq!(refused(BuildCall { wkb_type: 0, groups: vec![0], ..empty() }), -12);
+    assert_eq!(refused(BuildCall { wkb_type: 3002, ..empty() }), 0);
     assert_eq!(refused(BuildCall { groups: vec![0], ..empty() }), -2);
     assert_eq!(refused(BuildCall { kinds: vec![2], ..empty() }), -2);
     assert_eq!(refused(BuildCall { coordinates: vec![0], ..empty() }), -4);
@@ -110,6 +112,29 @@ fn every_refusal_of_the_empty_call() {
     assert_eq!(refused(BuildCall { switch: 2, ..empty() }), -6);
     assert_eq!(refused(BuildCall { switch: 1, limit: u64::MAX, ..empty() }), -6);
     assert_eq!(refused(BuildCall { switch: 0, limit: u64::MAX, ..empty() }), 0);
+}
+
+#[test]
+fn every_number_that_is_no_type() {
+    let (name, call) = accepted().remove(0);
+    for wkb_type in NO_TYPES {
+        let call = BuildCall { wkb_type, ..call.clone() };
+        assert_eq!(compare_build(&Library, Judge::Model, &call, 1), Ok(()), "{name} {wkb_type}");
+    }
+}
+
+#[test]
+fn extras_may_be_any_double() {
+    for (name, call) in &accepted()[..SMALL] {
+        let stride = call.stride();
+        for lost in NO_PLACES {
+            let mut call = call.clone();
+            for numbers in call.coordinates.chunks_mut(stride) {
+                numbers[2..].fill(lost);
+            }
+            assert_eq!(compare_build(&Library, Judge::Model, &call, lost), Ok(()), "{name}");
+        }
+    }
 }
 
 #[test]

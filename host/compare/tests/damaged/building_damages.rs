@@ -1,6 +1,8 @@
 //! Building calls that are accepted at the edge, and every damage to one.
 
 use crate::{short_rooms, shorter, Lent, NO_LIMITS, NO_PLACES};
+use answers::random::Random;
+use answers::styles::heights::with_extras;
 use answers::BuildCall;
 use compare::building::BuildRooms;
 
@@ -34,8 +36,19 @@ pub fn accepted() -> Vec<(&'static str, BuildCall)> {
     let mut edge = small.clone();
     edge.kinds.fill(1);
     (edge.switch, edge.limit) = (1, 1f64.to_bits());
-    vec![("small", small), ("kinds of 1, switch 1, limit 1", edge), ("largest", largest())]
+    let high = |call: &BuildCall, wkb_type| with_extras(&mut Random::new(2), call, wkb_type);
+    vec![
+        ("small, heights", high(&small, 1002)),
+        ("kinds of 1, switch 1, limit 1, heights and measures", high(&edge, 3002)),
+        ("small", small),
+        ("kinds of 1, switch 1, limit 1", edge),
+        ("largest, heights and measures", high(&largest(), 3002)),
+        ("largest", largest()),
+    ]
 }
+
+/// How many of these calls are small.
+pub const SMALL: usize = 4;
 
 /// 4,096 lines of 65,536 coordinates in all, switch 1, limit -1.
 fn largest() -> BuildCall {
@@ -49,12 +62,21 @@ fn largest() -> BuildCall {
 
 /// Every damage, in the order of the refusals that they call for.
 pub fn damages() -> Vec<Damage> {
-    let mut all = numbers();
+    let mut all = types();
+    all.extend(numbers());
     all.extend(counts());
     all.extend(places());
     all.extend(settings());
     all.extend(short_rooms(["table", "members", "marks", "merged", "spare", "workspace"]));
     all
+}
+
+/// Refusal 12: a type that is none of the four.
+fn types() -> Vec<Damage> {
+    let of = |wkb_type: u32| {
+        damage(12, &format!("type {wkb_type:#x}"), move |call| call.wkb_type = wkb_type)
+    };
+    [0, 3, 1003, 0x8000_0002].map(of).into_iter().collect()
 }
 
 fn more_lines(call: &mut BuildCall, lines: usize) {
@@ -101,36 +123,47 @@ fn counts() -> Vec<Damage> {
         damage(4, "counts whose double adds up but for 2^32", |call| {
             call.counts[0] = call.counts[0].wrapping_add(1 << 31);
         }),
+        damage(4, "counts whose fourfold adds up but for 2^32", |call| {
+            call.counts[0] = call.counts[0].wrapping_add(1 << 30);
+        }),
+        damage(4, "a type of more numbers, or of fewer", |call| {
+            call.wkb_type = match call.wkb_type {
+                2 => 2002,
+                1002 => 3002,
+                _ => 2,
+            };
+        }),
         damage(5, "65,537 coordinates", |call| {
-            let numbers = call.coordinates.len();
-            let more = 65_537 - numbers / 2;
-            call.coordinates.resize(numbers + 2 * more, 0);
+            let (numbers, stride) = (call.coordinates.len(), call.stride());
+            let more = 65_537 - numbers / stride;
+            call.coordinates.resize(numbers + stride * more, 0);
             call.counts[0] += more as u32;
         }),
         damage(5, "200,000 coordinates", |call| {
-            call.coordinates.extend(vec![0; 400_000]);
+            call.coordinates.extend(vec![0; 200_000 * call.stride()]);
             call.counts[0] += 200_000;
         }),
     ]
 }
 
-/// Refusal 15: a number that is no place's, first, second, last but one and last. In the smallest
-/// call the last two are a line's that passes through, of one coordinate.
+/// Refusal 15: an x or a y that is no place's, of the first coordinate and of the last. In the
+/// smallest call the last is a line's that passes through, of one coordinate.
 fn places() -> Vec<Damage> {
     let mut all = Vec::new();
     for lost in NO_PLACES {
-        let name = |place: &str| format!("{place} number {:?} ({lost:x})", f64::from_bits(lost));
+        let name = |place: &str| format!("{place} {:?} ({lost:x})", f64::from_bits(lost));
         let put = |from_last: bool, k: usize| {
             move |call: &mut BuildCall| {
-                let numbers = &mut call.coordinates;
-                let at = if from_last { numbers.len().checked_sub(k + 1) } else { Some(k) };
+                let (stride, numbers) = (call.stride(), &mut call.coordinates);
+                let last = numbers.len().checked_sub(stride);
+                let at = if from_last { last.map(|first| first + k) } else { Some(k) };
                 at.and_then(|at| numbers.get_mut(at)).into_iter().for_each(|it| *it = lost);
             }
         };
-        all.push(damage(15, &name("first"), put(false, 0)));
-        all.push(damage(15, &name("second"), put(false, 1)));
-        all.push(damage(15, &name("last but one"), put(true, 1)));
-        all.push(damage(15, &name("last"), put(true, 0)));
+        all.push(damage(15, &name("first x"), put(false, 0)));
+        all.push(damage(15, &name("first y"), put(false, 1)));
+        all.push(damage(15, &name("last x"), put(true, 0)));
+        all.push(damage(15, &name("last y"), put(true, 1)));
     }
     all.push(damage(15, "every number NaN", |call| call.coordinates.fill(u64::MAX)));
     all

@@ -83,14 +83,14 @@ pub fn short_rooms<C, const ROOMS: usize>(names: [&str; ROOMS]) -> Vec<Damage<C,
 }
 
 /// The refusals of building in the order of checking.
-pub const IN_ORDER: [i64; 8] = [1, 2, 3, 4, 5, 15, 6, 7];
+pub const IN_ORDER: [i64; 9] = [12, 1, 2, 3, 4, 5, 15, 6, 7];
 
-/// The place of a refusal in the order of checking: 15 stands between 5 and 6.
+/// The place of a refusal in the order of checking: 12 stands first, and 15 between 5 and 6.
 fn place(refusal: i64) -> i64 {
-    if refusal == 15 {
-        11
-    } else {
-        2 * refusal
+    match refusal {
+        12 => 0,
+        15 => 11,
+        _ => 2 * refusal,
     }
 }
 
@@ -135,6 +135,31 @@ pub fn bent(limit: u64) -> u64 {
         false => limit,
     }
 }
+
+/// Numbers that are no type of a line: those beside the four, other geometry, what others write for
+/// heights, measures and an SRID, and the four in other places of the word.
+pub const NO_TYPES: [u32; 20] = [
+    0,
+    1,
+    3,
+    7,
+    1000,
+    1001,
+    1003,
+    2000,
+    2001,
+    2003,
+    3001,
+    3003,
+    4002,
+    0x8000_0002,
+    0x4000_0002,
+    0xc000_0002,
+    0x2000_0002,
+    0x0001_0002,
+    0x0200_0000,
+    u32::MAX,
+];
 
 /// Takes the last number out of a table.
 pub fn shorter<T>(table: &mut Vec<T>) {

@@ -1,10 +1,16 @@
 //! The chain question on tables of any sort.
 
+use crate::NO_TYPES;
 use answers::random::Random;
+use answers::{stride_of, TYPES};
 use lovasuku_chains::door::chain;
 
 /// What the rules say, in numbers that cannot overflow.
-fn wanted(input: usize, merged: usize, table: &[u32], k: u64) -> i64 {
+fn wanted(wkb_type: u32, input: usize, merged: usize, table: &[u32], k: u64) -> i64 {
+    let stride = match stride_of(wkb_type) {
+        Some(stride) => stride as u128,
+        None => return -12,
+    };
     let numbers = table.len() as u128;
     let first = 5 * u128::from(k);
     if first + 5 > numbers {
@@ -12,16 +18,21 @@ fn wanted(input: usize, merged: usize, table: &[u32], k: u64) -> i64 {
     }
     let record = &table[first as usize..];
     let length = [input, merged].get(record[2] as usize).map(|&length| length as u128);
-    let end = 2 * (u128::from(record[3]) + u128::from(record[4]));
+    let end = stride * (u128::from(record[3]) + u128::from(record[4]));
     match length {
         Some(length) if end <= length => 0,
         _ => -10,
     }
 }
 
-/// Asks the library about slices of these lengths.
+/// Asks the library about slices of these lengths, of x and y.
 fn asked(input: usize, merged: usize, table: &[u32], k: u64) -> i64 {
-    chain(&vec![0.0; input], &vec![0.0; merged], table, k)
+    asked_of(2, input, merged, table, k)
+}
+
+/// Asks the library about slices of these lengths, of a type.
+fn asked_of(wkb_type: u32, input: usize, merged: usize, table: &[u32], k: u64) -> i64 {
+    chain(wkb_type, &vec![0.0; input], &vec![0.0; merged], table, k)
 }
 
 #[test]
@@ -40,6 +51,29 @@ fn a_record_at_each_edge() {
     }
     assert_eq!(asked(6, 6, &[good, good].concat()[..9], 1), -10);
     assert_eq!(asked(6, 6, &[good, good].concat(), 1), 0);
+}
+
+#[test]
+fn a_coordinate_has_the_numbers_of_its_type() {
+    let good = [0, 1, 0, 1, 2];
+    for (wkb_type, numbers) in [(2, 6), (1002, 9), (2002, 9), (3002, 12)] {
+        assert_eq!(asked_of(wkb_type, numbers, 0, &good, 0), 0);
+        assert_eq!(asked_of(wkb_type, numbers - 1, 99, &good, 0), -10);
+    }
+    // A fourfold beyond 32 bits, and a threefold.
+    for (first, count) in [(1 << 30, 0), (0, 1 << 30), (0x5555_5556, 0), (1, 0x5555_5555)] {
+        for wkb_type in TYPES {
+            assert_eq!(asked_of(wkb_type, 8, 8, &[0, 1, 1, first, count], 0), -10);
+        }
+    }
+}
+
+#[test]
+fn a_type_that_is_none_is_said_before_all_else() {
+    for wkb_type in NO_TYPES {
+        assert_eq!(asked_of(wkb_type, 6, 0, &[0, 1, 0, 1, 2], 0), -12);
+        assert_eq!(asked_of(wkb_type, 0, 0, &[], u64::MAX), -12);
+    }
 }
 
 #[test]
@@ -81,10 +115,11 @@ fn any_table_at_all() {
         };
         let table: Vec<u32> = (0..random.below(16)).map(|_| number(&mut random)).collect();
         let k = random.below(4) as u64;
+        let wkb_type = if random.one_in(9) { random.pick(&NO_TYPES) } else { random.pick(&TYPES) };
         assert_eq!(
-            asked(input, merged, &table, k),
-            wanted(input, merged, &table, k),
-            "{input} {merged} {table:?} {k}"
+            asked_of(wkb_type, input, merged, &table, k),
+            wanted(wkb_type, input, merged, &table, k),
+            "{wkb_type} {input} {merged} {table:?} {k}"
         );
     }
 }

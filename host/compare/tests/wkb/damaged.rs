@@ -1,7 +1,8 @@
 //! Damaged runs: every refusal from every state, alone and beside every other damage.
 
 use crate::Reading;
-use answers::wkb::record;
+use answers::wkb::{record, record_of};
+use answers::TYPES;
 use std::cmp::Reverse;
 
 /// A run in the making.
@@ -9,7 +10,7 @@ use std::cmp::Reverse;
 struct Run {
     records: Vec<Vec<u8>>,
     lengths: Option<Vec<u64>>,
-    rooms: Option<[usize; 2]>,
+    rooms: Option<[usize; 3]>,
 }
 
 /// A damage: when it is judged, its refusal, what it is, and how it is done to a run.
@@ -37,6 +38,7 @@ enum Test {
     Header,
     Order,
     Type,
+    Mixed,
     Count,
 }
 
@@ -74,6 +76,9 @@ fn states() -> Vec<Vec<Vec<u8>>> {
         vec![line(0, 1)],
         vec![line(1, 3), line(0, 2)],
         vec![line(0, 6), line(1, 0), line(1, 1)],
+        vec![record_of(1002, 1, &numbers[..6])],
+        vec![record_of(2002, 0, &numbers[..9]), record_of(2002, 1, &numbers[..3])],
+        vec![record_of(3002, 1, &numbers), record_of(3002, 0, &[]), record_of(3002, 0, &numbers)],
     ]
 }
 
@@ -120,15 +125,19 @@ fn record_wrong(k: usize) -> Vec<Damage> {
         let set = move |record: &mut Vec<u8>| record[0] = order;
         add(Test::Order, 11, format!("order {order}"), Box::new(set));
     }
-    for wkb_type in [0, 1, 3, 7, 0x0200, 0x8000_0002, 0x2000_0002, 0x0200_0000, 4002, u32::MAX] {
-        let set = move |record: &mut Vec<u8>| {
-            let bytes = match record[0] {
-                0 => u32::to_be_bytes(wkb_type),
-                _ => u32::to_le_bytes(wkb_type),
-            };
-            record[1..5].copy_from_slice(&bytes);
-        };
+    for wkb_type in [0, 1, 1001, 7, 0x0200, 0x8000_0002, 0x2000_0002, 0x0200_0000, 4002, u32::MAX] {
+        let set = move |record: &mut Vec<u8>| set_type(record, wkb_type);
         add(Test::Type, 12, format!("type {wkb_type:#x}"), Box::new(set));
+    }
+    if k > 0 {
+        // Another type of the four, of as many numbers or of others.
+        for more in 1..4 {
+            let set = move |record: &mut Vec<u8>| {
+                let place = TYPES.iter().position(|&known| known == type_of(record));
+                set_type(record, TYPES[(place.unwrap_or(0) + more) % 4]);
+            };
+            add(Test::Mixed, 25, format!("the type {more} on"), Box::new(set));
+        }
     }
     for (count, name) in [(1u32, "count one more"), (u32::MAX, "count one less")] {
         let set = move |record: &mut Vec<u8>| {
@@ -141,21 +150,40 @@ fn record_wrong(k: usize) -> Vec<Damage> {
         };
         add(Test::Count, 13, name.to_string(), Box::new(set));
     }
-    for bytes in [1, 7, 8, 15, 16] {
+    for bytes in [1, 7, 8, 15, 16, 24, 32] {
         let more = move |record: &mut Vec<u8>| record.extend(vec![0; bytes]);
         add(Test::Count, 13, format!("{bytes} bytes more"), Box::new(more));
     }
     all
 }
 
+/// The type in a record's header.
+fn type_of(record: &[u8]) -> u32 {
+    let four = [record[1], record[2], record[3], record[4]];
+    match record[0] {
+        0 => u32::from_be_bytes(four),
+        _ => u32::from_le_bytes(four),
+    }
+}
+
+/// Sets the type in a record's header.
+fn set_type(record: &mut [u8], wkb_type: u32) {
+    let bytes = match record[0] {
+        0 => wkb_type.to_be_bytes(),
+        _ => wkb_type.to_le_bytes(),
+    };
+    record[1..5].copy_from_slice(&bytes);
+}
+
 /// Which rooms can be short; a room that needs nothing can't.
 fn rooms_wrong() -> Vec<Damage> {
-    type Rooms = fn([usize; 2]) -> [usize; 2];
-    let changes: [(&str, Rooms); 4] = [
-        ("coordinates short by one", |[c, n]| [c.saturating_sub(1), n]),
-        ("no room for coordinates", |[_, n]| [0, n]),
-        ("counts short by one", |[c, n]| [c, n - 1]),
-        ("no room for counts", |[c, _]| [c, 0]),
+    type Rooms = fn([usize; 3]) -> [usize; 3];
+    let changes: [(&str, Rooms); 5] = [
+        ("coordinates short by one", |[c, n, t]| [c.saturating_sub(1), n, t]),
+        ("no room for coordinates", |[_, n, t]| [0, n, t]),
+        ("counts short by one", |[c, n, t]| [c, n - 1, t]),
+        ("no room for counts", |[c, _, t]| [c, 0, t]),
+        ("no room for the type", |[c, n, _]| [c, n, 0]),
     ];
     let of = |&(name, change): &(&str, Rooms)| {
         damage(Place::Rooms, 14, name.to_string(), move |run| {
@@ -247,9 +275,39 @@ fn lengths_at_the_edges() {
         (line.clone(), vec![9, u64::MAX, 1], Err(13)),
         ([line.clone(), line].concat(), vec![9, 9], Ok(2)),
     ] {
-        let rooms = [0, lengths.len()];
+        let rooms = [0, lengths.len(), 1];
         let reading = Reading { run, lengths, rooms };
         assert_eq!(reading.agreed().map(|read| read.counts.len()), wanted, "{reading:?}");
+    }
+}
+
+#[test]
+fn no_records_are_of_type_two_and_need_room_for_it() {
+    let none = |types| Reading { run: vec![], lengths: vec![], rooms: [0, 0, types] };
+    assert_eq!(none(1).agreed().map(|read| read.wkb_type), Ok(2));
+    assert_eq!(none(3).agreed().map(|read| read.wkb_type), Ok(2));
+    assert_eq!(none(0).agreed(), Err(14));
+}
+
+#[test]
+fn a_run_has_the_type_of_its_first_record() {
+    for first in TYPES {
+        let mut records = vec![record_of(first, 0, &[]), record_of(first, 1, &[])];
+        assert_eq!(Reading::of(&records).agreed().map(|read| read.wkb_type), Ok(first));
+        for second in TYPES {
+            set_type(&mut records[1], second);
+            let wanted = if first == second { Ok(2) } else { Err(25) };
+            let agreed = Reading::of(&records).agreed();
+            assert_eq!(agreed.map(|read| read.counts.len()), wanted, "{first} {second}");
+        }
+        // What is no type is 12 and never 25, in whichever record, and 25 comes before a wrong length.
+        set_type(&mut records[1], 5);
+        assert_eq!(Reading::of(&records).agreed(), Err(12));
+        records.swap(0, 1);
+        assert_eq!(Reading::of(&records).agreed(), Err(12));
+        let mut other = record_of(if first == 2 { 3002 } else { 2 }, 1, &[]);
+        other.push(0);
+        assert_eq!(Reading::of(&[record_of(first, 0, &[]), other]).agreed(), Err(25));
     }
 }
 
@@ -259,6 +317,21 @@ fn a_count_whose_bytes_pass_32_bits_is_not_taken_for_a_small_one() {
         let mut bytes = record(1, &[1, 2]);
         bytes[5..9].copy_from_slice(&u32::to_le_bytes(count));
         assert_eq!(Reading::of(&[bytes]).agreed(), Err(13), "{count:#x}");
+    }
+}
+
+#[test]
+fn a_record_is_as_long_as_its_type_says() {
+    let numbers = [7u64; 12];
+    for (wkb_type, counts) in [(2, 6), (1002, 4), (2002, 4), (3002, 3)] {
+        let read = Reading::of(&[record_of(wkb_type, 1, &numbers)]).agreed();
+        assert_eq!(read.map(|read| read.counts), Ok(vec![counts]));
+        // Twelve numbers with the count of another width.
+        for count in [3, 4, 6].into_iter().filter(|&count| count != counts as u8) {
+            let mut bytes = record_of(wkb_type, 1, &numbers);
+            bytes[5] = count;
+            assert_eq!(Reading::of(&[bytes]).agreed(), Err(13), "{wkb_type} {count}");
+        }
     }
 }
 

@@ -2,7 +2,8 @@
 
 use crate::Reading;
 use answers::random::Random;
-use answers::wkb::record;
+use answers::wkb::record_of;
+use answers::{stride_of, TYPES};
 
 /// The bits of a double: a small number, one of the edges, or any.
 fn bits(random: &mut Random) -> u64 {
@@ -14,11 +15,15 @@ fn bits(random: &mut Random) -> u64 {
     }
 }
 
-/// A run of up to five records of up to four coordinates, damaged once in two.
-fn made_up(random: &mut Random) -> Reading {
+/// A run of up to five records of up to four coordinates, most of one type, damaged once in two.
+pub fn made_up(random: &mut Random) -> Reading {
+    let (of_most, strays) = (random.pick(&TYPES), random.one_in(6));
     let line = |random: &mut Random| {
-        let coordinates: Vec<u64> = (0..2 * random.below(5)).map(|_| bits(random)).collect();
-        record(random.below(2) as u8, &coordinates)
+        let stray = strays && random.one_in(3);
+        let wkb_type = if stray { random.pick(&TYPES) } else { of_most };
+        let numbers = stride_of(wkb_type).unwrap_or(0) * random.below(5);
+        let coordinates: Vec<u64> = (0..numbers).map(|_| bits(random)).collect();
+        record_of(wkb_type, random.below(2) as u8, &coordinates)
     };
     let records: Vec<Vec<u8>> = (0..random.below(6)).map(|_| line(random)).collect();
     let mut reading = Reading::of(&records);
@@ -61,7 +66,7 @@ fn damage(random: &mut Random, reading: &mut Reading) {
             run.extend(vec![byte; random.below(20)]);
         }
         6 => {
-            let room = random.below(2);
+            let room = random.below(3);
             rooms[room] = random.below(rooms[room] + 3);
         }
         _ => {
@@ -71,9 +76,9 @@ fn damage(random: &mut Random, reading: &mut Reading) {
 }
 
 /// Puts so many runs to the library and to the judge; how many each refusal had, 0 for none.
-fn compare(runs: usize, seed: u64) -> [usize; 15] {
+fn compare(runs: usize, seed: u64) -> [usize; 26] {
     let mut random = Random::new(seed);
-    let mut seen = [0; 15];
+    let mut seen = [0; 26];
     for _ in 0..runs {
         let answer = made_up(&mut random).agreed();
         seen[answer.err().unwrap_or(0) as usize] += 1;
@@ -84,7 +89,7 @@ fn compare(runs: usize, seed: u64) -> [usize; 15] {
 #[test]
 fn made_up_runs_read_alike() {
     let seen = compare(100_000, 1);
-    for refusal in [0, 11, 12, 13, 14] {
+    for refusal in [0, 11, 12, 13, 14, 25] {
         assert!(seen[refusal] > 500, "{refusal}: {seen:?}");
     }
 }

@@ -6,6 +6,7 @@ mod made_up;
 mod recorded;
 mod trips;
 mod writing;
+mod wrong_readers;
 
 use answers::wkb::{self, Records};
 use lovasuku_chains::door::{self, ReadRooms, WriteRooms};
@@ -13,12 +14,12 @@ use lovasuku_chains::door::{self, ReadRooms, WriteRooms};
 /// What stands in a room before a call: no number that a record of these tests has.
 const DIRT: u64 = 0xa5a5_5a5a_dead_beef;
 
-/// A reading call: the run, the lengths, and the rooms for numbers and for counts.
+/// A reading call: the run, the lengths, and the rooms for numbers, for counts and for the type.
 #[derive(Clone, Debug, Default)]
 pub struct Reading {
     pub run: Vec<u8>,
     pub lengths: Vec<u64>,
-    pub rooms: [usize; 2],
+    pub rooms: [usize; 3],
 }
 
 impl Reading {
@@ -27,7 +28,7 @@ impl Reading {
         let run = records.concat();
         let lengths: Vec<u64> = records.iter().map(|record| record.len() as u64).collect();
         let numbers = run.len().saturating_sub(9 * lengths.len()) / 8;
-        Reading { rooms: [numbers, lengths.len()], run, lengths }
+        Reading { rooms: [numbers, lengths.len(), 1], run, lengths }
     }
 
     /// What the judge says.
@@ -37,10 +38,14 @@ impl Reading {
 
     /// What the library says. Panics where it stores anything that it must not.
     pub fn read(&self) -> Result<Records, i64> {
-        let [numbers, rows] = self.rooms;
+        let [numbers, rows, types] = self.rooms;
         let mut coordinates = vec![f64::from_bits(DIRT); numbers];
-        let mut counts = vec![DIRT as u32; rows];
-        let rooms = ReadRooms { coordinates: &mut coordinates, counts: &mut counts };
+        let (mut counts, mut wkb_type) = (vec![DIRT as u32; rows], vec![DIRT as u32; types]);
+        let rooms = ReadRooms {
+            coordinates: &mut coordinates,
+            counts: &mut counts,
+            wkb_type: &mut wkb_type,
+        };
         let answer = door::read_wkb(&self.run, &self.lengths, rooms);
         let coordinates: Vec<u64> = coordinates.iter().map(|number| number.to_bits()).collect();
         let records = match answer {
@@ -53,11 +58,14 @@ impl Reading {
         };
         assert!(coordinates[written..].iter().all(|&number| number == DIRT), "{self:?}");
         assert!(counts[records..].iter().all(|&count| count == DIRT as u32), "{self:?}");
+        let told = usize::from(answer >= 0);
+        assert!(wkb_type[told..].iter().all(|&number| number == DIRT as u32), "{self:?}");
         if answer < 0 {
             return Err(-answer);
         }
         assert_eq!(answer, records as i64, "{self:?}");
         Ok(Records {
+            wkb_type: wkb_type[0],
             coordinates: coordinates[..written].to_vec(),
             counts: counts[..records].to_vec(),
         })
@@ -92,13 +100,13 @@ impl Writing {
     /// What the library says. Panics where it stores anything that it must not.
     pub fn write(&self) -> Result<Written, i64> {
         let [bytes, rows] = self.rooms;
-        let wkb::Chains { coordinates, merged, table, k, order } = &self.chains;
+        let wkb::Chains { wkb_type, coordinates, merged, table, k, order } = &self.chains;
         let floats =
             |bits: &[u64]| -> Vec<f64> { bits.iter().map(|&x| f64::from_bits(x)).collect() };
         let (mut run, mut lengths) = (vec![DIRT as u8; bytes], vec![DIRT; rows]);
         let rooms = WriteRooms { run: &mut run, lengths: &mut lengths };
-        let answer =
-            door::write_wkb(&floats(coordinates), &floats(merged), table, *k, *order, rooms);
+        let (coordinates, merged) = (floats(coordinates), floats(merged));
+        let answer = door::write_wkb(*wkb_type, &coordinates, &merged, table, *k, *order, rooms);
         let (written, records) = match answer {
             0.. => (answer as usize, *k as usize),
             _ => (0, 0),

@@ -1,7 +1,8 @@
 //! Records that GEOS, GDAL and PostGIS wrote, from `data/wkb`.
 
-use crate::Reading;
-use answers::wkb::{record, Records};
+use crate::{Reading, Writing};
+use answers::wkb::{record_of, Chains, Records};
+use answers::TYPES;
 use std::collections::HashMap;
 
 const RECORDS: &str = include_str!("../../../../data/wkb/records");
@@ -30,10 +31,16 @@ fn recorded() -> Vec<Recorded> {
     lines.map(of).collect()
 }
 
-/// Whether a record of this name is a line of x and y.
+/// Whether a record of this name is a line of one of the four types.
 fn is_line(name: &str) -> bool {
-    let others = ["heights", "with SRID", "point", "polygon", "lines", "empty, a collection"];
+    let others = ["not ISO", "with SRID", "point", "polygon", "lines", "empty, a collection"];
     !others.iter().any(|other| name.starts_with(other))
+}
+
+/// The type that a line of this name has.
+fn type_of(name: &str) -> u32 {
+    let high = [("heights", 1002), ("measures", 2002), ("both", 3002)];
+    high.into_iter().find(|(word, _)| name.starts_with(word)).map_or(2, |(_, wkb_type)| wkb_type)
 }
 
 #[test]
@@ -53,11 +60,27 @@ fn lines_are_read_and_others_refused() {
         match is_line(name) {
             true => {
                 let read = read.unwrap_or_else(|refusal| panic!("{maker} {name}: {refusal}"));
-                assert_eq!(record(order, &read.coordinates), bytes, "{maker} {name}");
+                assert_eq!(read.wkb_type, type_of(name), "{maker} {name}");
+                let again = record_of(read.wkb_type, order, &read.coordinates);
+                assert_eq!(again, bytes, "{maker} {name}");
+                assert_eq!(written(&read, order), bytes, "{maker} {name}");
             }
             false => assert_eq!(read, Err(12), "{maker} {name}"),
         }
     }
+}
+
+/// What was read, written by the library as one chain.
+fn written(read: &Records, order: u8) -> Vec<u8> {
+    let chains = Chains {
+        wkb_type: read.wkb_type,
+        coordinates: read.coordinates.clone(),
+        table: vec![0, 1, 0, 0, read.counts[0]],
+        k: 1,
+        order,
+        ..Chains::default()
+    };
+    Writing::of(chains).agreed().expect("a line").0
 }
 
 #[test]
@@ -74,12 +97,20 @@ fn all_makers_and_orders_of_one_line_read_alike() {
     assert_eq!(lines["three"].coordinates, numbers);
     assert_eq!(lines["nan"].coordinates[0], 0x7ff8_0000_0000_0123);
     assert_eq!((lines["one"].counts[0], lines["empty"].counts[0]), (1, 0));
+    let heights = [0.0, 0.0, 5.0, 1.0, 0.0, 6.0].map(f64::to_bits);
+    assert_eq!(lines["heights"].coordinates, heights);
+    assert_eq!(lines["heights, nan"].coordinates[2], 0x7ff8_0000_0000_0123);
+    assert_eq!(lines["measures"].coordinates[5], 250.5f64.to_bits());
+    assert_eq!(lines["both"].coordinates[10..], [-0.125, 7.0].map(f64::to_bits));
 }
 
 #[test]
-fn a_run_of_all_lines() {
-    let lines: Vec<Vec<u8>> =
-        recorded().into_iter().filter(|r| is_line(r.name)).map(|r| r.bytes).collect();
-    let read = Reading::of(&lines).agreed().expect("lines");
-    assert_eq!(read.counts.len(), lines.len());
+fn a_run_of_all_lines_of_each_type() {
+    for wkb_type in TYPES {
+        let of = |record: &Recorded| is_line(record.name) && type_of(record.name) == wkb_type;
+        let lines: Vec<Vec<u8>> = recorded().into_iter().filter(of).map(|r| r.bytes).collect();
+        assert!(lines.len() >= 8, "{wkb_type}");
+        let read = Reading::of(&lines).agreed().expect("lines");
+        assert_eq!((read.counts.len(), read.wkb_type), (lines.len(), wkb_type));
+    }
 }

@@ -2,13 +2,21 @@
 
 use crate::Writing;
 use answers::random::Random;
-use answers::wkb::{record, Chains};
+use answers::wkb::{record, record_of, Chains};
+use answers::{stride_of, TYPES};
 
-/// Chains of both sources: of two coordinates, of none, of one, and of all that is merged.
+/// Chains of both sources, of x and y: of two coordinates, of none, of one, and of all that is merged.
 fn chains(k: u64, order: u8) -> Chains {
+    chains_of(2, k, order)
+}
+
+/// The same chains of a type.
+fn chains_of(wkb_type: u32, k: u64, order: u8) -> Chains {
+    let stride = stride_of(wkb_type).unwrap_or(2) as u64;
     Chains {
-        coordinates: (0..8).map(|k| k << 60 | 0x0123_4567_89ab_cdef).collect(),
-        merged: (0..6).map(|k: u64| (0.5 - k as f64).to_bits()).collect(),
+        wkb_type,
+        coordinates: (0..4 * stride).map(|k| k << 60 | 0x0123_4567_89ab_cdef).collect(),
+        merged: (0..3 * stride).map(|k: u64| (0.5 - k as f64).to_bits()).collect(),
         table: [[0, 1, 0, 1, 2], [1, 2, 1, 3, 0], [3, 1, 0, 3, 1], [4, 9, 1, 0, 3]].concat(),
         k,
         order,
@@ -29,21 +37,24 @@ const FIRST: usize = 3;
 const COUNT: usize = 4;
 
 #[rustfmt::skip]
-const DAMAGES: [Damage; 14] = [
-    Damage { place: 0, refusal: 16, name: "order 2", apply: |w| w.chains.order = 2 },
-    Damage { place: 0, refusal: 16, name: "order 255", apply: |w| w.chains.order = 255 },
-    Damage { place: 1, refusal: 10, name: "k beyond the table", apply: |w| w.chains.k = 5 },
-    Damage { place: 1, refusal: 10, name: "k of 2^64 - 1", apply: |w| w.chains.k = u64::MAX },
-    Damage { place: 1, refusal: 10, name: "k whose fivefold wraps", apply: |w| w.chains.k = u64::MAX / 5 + 2 },
-    Damage { place: 1, refusal: 10, name: "a source of 2", apply: |w| w.chains.table[SOURCE] = 2 },
-    Damage { place: 1, refusal: 10, name: "a first coordinate beyond", apply: |w| w.chains.table[FIRST] = 3 },
-    Damage { place: 1, refusal: 10, name: "a count beyond", apply: |w| w.chains.table[COUNT] = 4 },
-    Damage { place: 1, refusal: 10, name: "a count of 2^32 - 1", apply: |w| w.chains.table[COUNT] = u32::MAX },
-    Damage { place: 1, refusal: 10, name: "the last row cut", apply: |w| w.chains.table.truncate(19) },
-    Damage { place: 2, refusal: 14, name: "the run short by one", apply: |w| w.rooms[0] = w.rooms[0].saturating_sub(1) },
-    Damage { place: 2, refusal: 14, name: "no run", apply: |w| w.rooms[0] = 0 },
-    Damage { place: 2, refusal: 14, name: "the lengths short by one", apply: |w| w.rooms[1] = w.rooms[1].saturating_sub(1) },
-    Damage { place: 2, refusal: 14, name: "no lengths", apply: |w| w.rooms[1] = 0 },
+const DAMAGES: [Damage; 17] = [
+    Damage { place: 0, refusal: 12, name: "type 0", apply: |w| w.chains.wkb_type = 0 },
+    Damage { place: 0, refusal: 12, name: "type 1003", apply: |w| w.chains.wkb_type = 1003 },
+    Damage { place: 0, refusal: 12, name: "type 0x80000002", apply: |w| w.chains.wkb_type = 0x8000_0002 },
+    Damage { place: 1, refusal: 16, name: "order 2", apply: |w| w.chains.order = 2 },
+    Damage { place: 1, refusal: 16, name: "order 255", apply: |w| w.chains.order = 255 },
+    Damage { place: 2, refusal: 10, name: "k beyond the table", apply: |w| w.chains.k = 5 },
+    Damage { place: 2, refusal: 10, name: "k of 2^64 - 1", apply: |w| w.chains.k = u64::MAX },
+    Damage { place: 2, refusal: 10, name: "k whose fivefold wraps", apply: |w| w.chains.k = u64::MAX / 5 + 2 },
+    Damage { place: 2, refusal: 10, name: "a source of 2", apply: |w| w.chains.table[SOURCE] = 2 },
+    Damage { place: 2, refusal: 10, name: "a first coordinate beyond", apply: |w| w.chains.table[FIRST] = 3 },
+    Damage { place: 2, refusal: 10, name: "a count beyond", apply: |w| w.chains.table[COUNT] = 4 },
+    Damage { place: 2, refusal: 10, name: "a count of 2^32 - 1", apply: |w| w.chains.table[COUNT] = u32::MAX },
+    Damage { place: 2, refusal: 10, name: "the last row cut", apply: |w| w.chains.table.truncate(19) },
+    Damage { place: 3, refusal: 14, name: "the run short by one", apply: |w| w.rooms[0] = w.rooms[0].saturating_sub(1) },
+    Damage { place: 3, refusal: 14, name: "no run", apply: |w| w.rooms[0] = 0 },
+    Damage { place: 3, refusal: 14, name: "the lengths short by one", apply: |w| w.rooms[1] = w.rooms[1].saturating_sub(1) },
+    Damage { place: 3, refusal: 14, name: "no lengths", apply: |w| w.rooms[1] = 0 },
 ];
 
 #[test]
@@ -64,9 +75,25 @@ fn chains_are_written_in_both_orders_in_rooms_of_any_length_from_theirs_up() {
 }
 
 #[test]
+fn chains_of_every_type_are_written() {
+    for wkb_type in TYPES {
+        for order in [0, 1] {
+            let chains = chains_of(wkb_type, 4, order);
+            let stride = stride_of(wkb_type).expect("a type");
+            let (run, lengths) = Writing::of(chains.clone()).agreed().expect("chains");
+            let bytes = [2, 0, 1, 3].map(|points| 9 + 8 * (stride * points) as u64);
+            assert_eq!(lengths, bytes);
+            let first = record_of(wkb_type, order, &chains.coordinates[stride..3 * stride]);
+            let last = record_of(wkb_type, order, &chains.merged);
+            assert!(run.starts_with(&first) && run.ends_with(&last));
+        }
+    }
+}
+
+#[test]
 fn every_damage_and_every_pair_of_them() {
-    for order in [0, 1] {
-        let good = Writing::of(chains(4, order));
+    for (order, wkb_type) in [(0, 2), (1, 2), (0, 1002), (1, 3002)] {
+        let good = Writing::of(chains_of(wkb_type, 4, order));
         for (k, one) in DAMAGES.iter().enumerate() {
             for other in &DAMAGES[..=k] {
                 let mut writing = good.clone();
@@ -88,6 +115,9 @@ fn no_chains_need_no_room_but_an_order() {
     }
     let writing = Writing { chains: Chains { order: 2, ..Chains::default() }, rooms: [0; 2] };
     assert_eq!(writing.agreed(), Err(16));
+    let writing =
+        Writing { chains: Chains { order: 2, wkb_type: 1, ..Chains::default() }, rooms: [0; 2] };
+    assert_eq!(writing.agreed(), Err(12));
 }
 
 #[test]
@@ -126,8 +156,9 @@ fn made_up_tables_are_written_alike() {
             table.pop();
         }
         let doubles =
-            |random: &mut Random| (0..8 + random.below(3)).map(|_| random.bits()).collect();
+            |random: &mut Random| (0..16 + random.below(5)).map(|_| random.bits()).collect();
         let chains = Chains {
+            wkb_type: if random.one_in(20) { random.bits() as u32 } else { random.pick(&TYPES) },
             coordinates: doubles(&mut random),
             merged: doubles(&mut random),
             k: (table.len() / 5).saturating_sub(random.below(2)) as u64
@@ -144,7 +175,7 @@ fn made_up_tables_are_written_alike() {
         };
         seen[writing.agreed().err().unwrap_or(0) as usize] += 1;
     }
-    for refusal in [0, 10, 14, 16] {
+    for refusal in [0, 10, 12, 14, 16] {
         assert!(seen[refusal] > 500, "{refusal}: {seen:?}");
     }
 }

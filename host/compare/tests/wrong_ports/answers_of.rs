@@ -68,29 +68,97 @@ fn snaps(call: &BuildCall) -> bool {
     f64::from_bits(call.tolerance) > 0.0
 }
 
-/// Keeps the coordinate that two joined lines share. (Where round two runs the answer is right.)
-pub fn repeats_kept(call: &BuildCall) -> Built {
+/// The lines of each merged chain laid end to end as members and marks say, each coordinate put to the
+/// chain so far by the given rule. (Where round two runs the answer is right.)
+fn laid(call: &BuildCall, next: fn(&mut Vec<u64>, &[u64], usize)) -> Built {
     let mut built = right(call);
     if snaps(call) {
         return built;
     }
-    let firsts = call.firsts();
+    let (firsts, stride) = (call.firsts(), call.stride());
     built.merged.clear();
     for record in built.table.iter_mut().filter(|record| record[2] == 1) {
         let members = record[0] as usize..(record[0] + record[1]) as usize;
-        record[3] = (built.merged.len() / 2) as u32;
-        record[4] = 0;
+        let mut chain = Vec::new();
         for member in members {
             let line = built.members[member] as usize;
-            let mut points = call.points(line, firsts[line]);
+            let mut coordinates: Vec<&[u64]> =
+                call.numbers(line, firsts[line]).chunks(stride).collect();
             if built.marks[member] == 1 {
-                points.reverse();
+                coordinates.reverse();
             }
-            record[4] += points.len() as u32;
-            built.merged.extend(points.iter().flatten());
+            coordinates.iter().for_each(|coordinate| next(&mut chain, coordinate, stride));
+        }
+        record[3] = (built.merged.len() / stride) as u32;
+        record[4] = (chain.len() / stride) as u32;
+        built.merged.extend(chain);
+    }
+    built
+}
+
+/// True where the last coordinate of a chain has the x and y of another.
+fn repeats(chain: &[u64], coordinate: &[u64], stride: usize) -> bool {
+    let place = |numbers: &[u64]| [0, 1].map(|k| f64::from_bits(numbers[k]));
+    !chain.is_empty() && place(&chain[chain.len() - stride..]) == place(coordinate)
+}
+
+/// Keeps the coordinate that two joined lines share.
+pub fn repeats_kept(call: &BuildCall) -> Built {
+    laid(call, |chain, coordinate, _| chain.extend(coordinate))
+}
+
+/// Drops the earlier one of two coordinates with the same x and y, or its extras alone.
+pub fn later_extras_kept(call: &BuildCall) -> Built {
+    laid(call, |chain, coordinate, stride| {
+        if repeats(chain, coordinate, stride) {
+            let last = chain.len() - stride;
+            chain[last + 2..].copy_from_slice(&coordinate[2..]);
+        } else {
+            chain.extend(coordinate);
+        }
+    })
+}
+
+/// Takes two coordinates for a repeat only where their extras agree too.
+pub fn extras_compared(call: &BuildCall) -> Built {
+    laid(call, |chain, coordinate, stride| {
+        let same = repeats(chain, coordinate, stride) && chain.ends_with(&coordinate[2..]);
+        if !same {
+            chain.extend(coordinate);
+        }
+    })
+}
+
+/// Leaves the extras of merged coordinates out, as 0.
+pub fn extras_left_out(call: &BuildCall) -> Built {
+    let mut built = right(call);
+    built.merged.chunks_mut(call.stride()).for_each(|numbers| numbers[2..].fill(0));
+    built
+}
+
+/// Writes a NaN among the extras as the one NaN.
+pub fn one_nan(call: &BuildCall) -> Built {
+    let mut built = right(call);
+    for number in &mut built.merged {
+        if f64::from_bits(*number).is_nan() {
+            *number = f64::NAN.to_bits();
         }
     }
     built
+}
+
+/// Takes the extras of the line that lies at the other end.
+pub fn extras_unturned(call: &BuildCall) -> Built {
+    let mut turned = call.clone();
+    let stride = call.stride();
+    for (line, first) in call.firsts().into_iter().enumerate() {
+        let numbers = stride * first..stride * (first + call.counts[line] as usize);
+        let mut reversed: Vec<&[u64]> = call.coordinates[numbers.clone()].chunks(stride).collect();
+        reversed.reverse();
+        let places = turned.coordinates[numbers].chunks_mut(stride);
+        places.zip(reversed).for_each(|(to, from)| to[2..].copy_from_slice(&from[2..]));
+    }
+    right(&turned)
 }
 
 /// Reverses the members that were turned one after another, as the coordinates are.
@@ -127,9 +195,12 @@ pub fn single_lines(call: &BuildCall) -> Built {
 
 /// Takes both zeros for one key.
 pub fn one_zero(call: &BuildCall) -> Built {
-    let zero = |&bits: &u64| if bits == 1 << 63 { 0 } else { bits };
-    let coordinates = call.coordinates.iter().map(zero).collect();
-    right(&BuildCall { coordinates, ..call.clone() })
+    let mut other = call.clone();
+    for numbers in other.coordinates.chunks_mut(call.stride()) {
+        let zeros = numbers[..2].iter_mut().filter(|bits| **bits == 1 << 63);
+        zeros.for_each(|bits| *bits = 0);
+    }
+    right(&other)
 }
 
 /// Takes, of two pairs with one measure, the one whose higher end is lower.

@@ -1,13 +1,15 @@
 //! The model behind a door, in whole or with something wrong.
 
 use crate::answers_of;
-use answers::{BuildCall, Built, Pair, PairingCall, Route, WhyCall};
+use answers::{stride_of, BuildCall, Built, Pair, PairingCall, Route, WhyCall};
 use compare::building::BuildRooms;
 use compare::pairing::PairRooms;
 use compare::Door;
 
 /// A port in which each part may be replaced by a wrong one.
 pub struct Pretended {
+    /// Whether a type is one of the four.
+    pub typed: fn(u32) -> bool,
     /// Whether a building call is refused for a coordinate that is no place.
     pub nowhere: fn(&BuildCall) -> bool,
     /// The answer to a building call.
@@ -29,6 +31,7 @@ pub struct Pretended {
 impl Default for Pretended {
     fn default() -> Self {
         Pretended {
+            typed: |wkb_type| stride_of(wkb_type).is_some(),
             nowhere: BuildCall::nowhere,
             build: answers_of::right,
             pairs: answers_of::right_pairs,
@@ -45,6 +48,9 @@ impl Door for Pretended {
     fn build(&self, call: &BuildCall, rooms: &mut BuildRooms) -> i64 {
         if let Some(number) = self.refusal {
             return -number;
+        }
+        if !(self.typed)(call.wkb_type) {
+            return -12;
         }
         if (self.nowhere)(call) {
             return -15;
@@ -134,6 +140,7 @@ impl Door for OtherLimit {
         Pretended::default().pairs(route, &call, rooms)
     }
 
+    /// The question has no call with an offset.
     fn why(&self, call: &WhyCall, rooms: &mut PairRooms) -> i64 {
         Pretended::default().why(call, rooms)
     }

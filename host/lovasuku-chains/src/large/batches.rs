@@ -127,7 +127,10 @@ mod tests {
     }
 
     fn lines(points: &[[[f64; 2]; 2]]) -> Vec<Line<'_>> {
-        points.iter().map(|points| Line { points: Some(&points[..]), group: 7 }).collect()
+        points
+            .iter()
+            .map(|points| Line { points: Some(&points[..]), extras: &[], group: 7 })
+            .collect()
     }
 
     #[test]

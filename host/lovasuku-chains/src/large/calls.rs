@@ -6,7 +6,8 @@
 
 use super::joints::{end_counts, joints, EndCounts, Step};
 use super::{at, Chain, Fault, Line};
-use crate::{self as library, LinesBuf, Rooms, Settings};
+use crate::size::POINT;
+use crate::{self as library, Dimension, LinesBuf, Rooms, Settings};
 
 /// Lends batches to the library, one after another, in the same rooms.
 #[derive(Debug)]
@@ -20,9 +21,9 @@ pub struct Caller {
 type Piece = Vec<(u32, bool)>;
 
 impl Caller {
-    /// A caller for batches of one input.
-    pub fn new(settings: Settings) -> Self {
-        Caller { settings, rooms: Rooms::default(), lent: LinesBuf::default() }
+    /// A caller for batches of one input, of lines of a dimension.
+    pub fn new(dimension: Dimension, settings: Settings) -> Self {
+        Caller { settings, rooms: Rooms::default(), lent: LinesBuf::of(dimension) }
     }
 
     /// The chains of a batch, with the positions of the whole input.
@@ -48,8 +49,8 @@ impl Caller {
         self.lent.clear();
         for line in batch.iter().map(|&line| at(lines, line)) {
             match line.points {
-                Some(points) => self.lent.push(points.iter().copied(), line.group),
-                None => self.lent.push_passing([], line.group),
+                Some(points) => self.lent.push_apart(points, line.extras, line.group),
+                None => self.lent.push_empty(line.group),
             }
         }
     }
@@ -121,7 +122,16 @@ fn owned(
     Chain {
         members: chain.members().iter().map(|&line| position(line)).collect(),
         turned: chain.turned().collect(),
-        points: chain.is_merged().then(|| chain.points().to_vec()),
+        points: chain.is_merged().then(|| chain.points().collect()),
+        extras: extras(chain),
         joints: joints(lines, &way, counts),
+    }
+}
+
+/// The extras of a chain of several lines.
+fn extras(chain: &library::Chain) -> Vec<f64> {
+    match chain.is_merged() {
+        true => chain.positions().flat_map(|numbers| numbers.iter().skip(POINT)).copied().collect(),
+        false => Vec::new(),
     }
 }

@@ -78,7 +78,7 @@ mod tests {
     use super::{components, Line};
 
     fn of(points: &[[[f64; 2]; 2]], tolerance: f64) -> Vec<Vec<u32>> {
-        let line = |points| Line { points: Some(points), group: 0 };
+        let line = |points| Line { points: Some(points), extras: &[], group: 0 };
         let lines: Vec<Line> = points.iter().map(|points| line(&points[..])).collect();
         components(&lines, tolerance)
     }
@@ -107,7 +107,7 @@ mod tests {
     #[test]
     fn classes_and_lines_that_pass_through_stay_apart() {
         let points = [[0.0, 0.0], [1.0, 0.0]];
-        let line = |points, group| Line { points, group };
+        let line = |points, group| Line { points, extras: &[], group };
         let lines = [
             line(Some(&points[..]), 0),
             line(None, 0),

@@ -6,13 +6,13 @@
 //!
 //! ```
 //! use lovasuku_chains::large::{join, Capacity, JointKind, Line};
-//! use lovasuku_chains::Settings;
+//! use lovasuku_chains::{Dimension, Settings};
 //!
 //! # fn main() -> Result<(), lovasuku_chains::large::Fault> {
 //! let roads = [[[0.0, 0.0], [1.25, 0.0]], [[3.5, 0.0], [1.75, 0.0]]];
-//! let lines = [0, 1].map(|k| Line { points: Some(&roads[k]), group: 0 });
+//! let lines = [0, 1].map(|k| Line { points: Some(&roads[k]), extras: &[], group: 0 });
 //! let settings = Settings::default().with_tolerance(1.0);
-//! let chains = join(&lines, settings, Capacity::default())?;
+//! let chains = join(Dimension::Xy, &lines, settings, Capacity::default())?;
 //! assert_eq!(chains[0].members, [0, 1]);
 //! // The chain has a segment that is of no line, made by the tolerance.
 //! assert_eq!(chains[0].joints[0].kind, JointKind::Tolerance);
@@ -30,7 +30,7 @@ mod components;
 mod gaps;
 mod joints;
 
-use crate::{Refusal, Settings};
+use crate::{Dimension, Refusal, Settings};
 pub use batches::{batches, Batch, Capacity, TooLarge};
 pub use calls::Caller;
 pub use gaps::{gaps, Gap, Why};
@@ -46,6 +46,9 @@ pub type Point = [f64; 2];
 pub struct Line<'a> {
     /// The points of a line that may be joined. Other geometry has none here.
     pub points: Option<&'a [Point]>,
+    /// The extras of its points, as many for each as the dimension has; those that are not there are
+    /// NaN.
+    pub extras: &'a [f64],
     /// The number of its class. Lines of different classes are never joined.
     pub group: u32,
 }
@@ -76,6 +79,8 @@ pub struct Chain {
     pub turned: Vec<bool>,
     /// Its points, or nothing where it is one line, untouched.
     pub points: Option<Vec<Point>>,
+    /// The extras of its points, as many for each as the dimension has; none where it is one line.
+    pub extras: Vec<f64>,
     /// Where its lines were joined, in the order of its points.
     pub joints: Vec<Joint>,
 }
@@ -115,9 +120,14 @@ impl From<Refusal> for Fault {
     }
 }
 
-/// Joins lines, one batch after another. No call gets more than the capacity.
-pub fn join(lines: &[Line], settings: Settings, capacity: Capacity) -> Result<Vec<Chain>, Fault> {
-    let mut caller = Caller::new(settings);
+/// Joins lines of a dimension, one batch after another. No call gets more than the capacity.
+pub fn join(
+    dimension: Dimension,
+    lines: &[Line],
+    settings: Settings,
+    capacity: Capacity,
+) -> Result<Vec<Chain>, Fault> {
+    let mut caller = Caller::new(dimension, settings);
     let batches = batches(lines, settings.tolerance, capacity)?;
     let built = batches.iter().map(|batch| caller.build(lines, batch));
     Ok(in_order(lines, built.collect::<Result<_, Fault>>()?))

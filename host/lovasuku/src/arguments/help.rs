@@ -69,6 +69,12 @@ Leave out lines without length: no position (else a fault), one, or several at o
 such a line lie at one point, so that two lines that meet there are three or more ends and are not
 joined.";
 
+pub const DROP_HEIGHTS: &str = "\
+Leave the third number of every position out, and all that follows it. Without this heights ride along:
+x and y alone decide what is joined, and lengths are those of x and y; where lines that are joined meet
+in one x and y, one of their heights stays, that of the line that was laid first; a position without a
+height stays without one. A position of more than three numbers is a fault.";
+
 pub const KEEP: &str = "\
 Which properties of its members a chain has, as they are written:
   shared   those that all members share

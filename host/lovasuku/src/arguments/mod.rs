@@ -116,7 +116,7 @@ fn of_join(matches: &ArgMatches) -> Result<Request, String> {
 
 fn reading(matches: &ArgMatches) -> Reading {
     Reading {
-        heights: if matches.get_flag("drop-heights") { Heights::Dropped } else { Heights::Refused },
+        heights: if matches.get_flag("drop-heights") { Heights::Dropped } else { Heights::Kept },
         explode: matches.get_flag("explode"),
         drop_empty: matches.get_flag("drop-empty"),
         skip_other: matches.get_flag("skip-other"),

@@ -114,7 +114,8 @@ fn reading() -> [Arg; 5] {
             .help("Leave out lines without length, which keep others from being joined")
             .long_help(help::DROP_EMPTY),
         flag("drop-heights")
-            .help("Leave heights out; without this a position with a height is a fault"),
+            .help("Leave heights out, which else ride along with their positions")
+            .long_help(help::DROP_HEIGHTS),
         named("id")
             .value_name("PROPERTY")
             .help("Name lines by this property in place of their ids"),

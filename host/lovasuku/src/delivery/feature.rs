@@ -24,12 +24,12 @@ pub struct Feature<'a> {
 const ASKED_FOR: [&str; 4] = ["type", "id", "properties", "geometry"];
 
 /// The geometry of a feature.
-#[derive(Clone, Debug, PartialEq)]
+#[derive(Clone, Debug)]
 pub enum Geometry {
     /// A LineString, which may be joined.
-    Line(Vec<Point>),
+    Line(Run),
     /// A MultiLineString, which passes through.
-    Lines(Vec<Vec<Point>>),
+    Lines(Vec<Run>),
     /// What is no line, in words.
     Other(String),
 }
@@ -37,9 +37,9 @@ pub enum Geometry {
 /// What becomes of heights.
 #[derive(Clone, Copy, Debug, PartialEq)]
 pub enum Heights {
-    /// A position with a height is a fault.
-    Refused,
-    /// Heights are left out.
+    /// Heights ride along with their positions. A position of more than three numbers is a fault.
+    Kept,
+    /// All but x and y is left out.
     Dropped,
 }
 
@@ -47,8 +47,8 @@ impl Geometry {
     /// The runs of points that it is drawn by.
     pub fn runs(&self) -> Box<dyn Iterator<Item = &[Point]> + '_> {
         match self {
-            Geometry::Line(points) => Box::new(std::iter::once(&points[..])),
-            Geometry::Lines(parts) => Box::new(parts.iter().map(|part| &part[..])),
+            Geometry::Line(run) => Box::new(std::iter::once(&run.points[..])),
+            Geometry::Lines(parts) => Box::new(parts.iter().map(|part| &part.points[..])),
             Geometry::Other(_) => Box::new(std::iter::empty()),
         }
     }
@@ -61,7 +61,7 @@ impl Geometry {
     /// True for a line of one position, or of several at one point.
     pub fn has_no_length(&self) -> bool {
         match self {
-            Geometry::Line(points) => points.windows(2).all(|two| two[0] == two[1]),
+            Geometry::Line(run) => run.points.windows(2).all(|two| two[0] == two[1]),
             _ => false,
         }
     }
@@ -143,7 +143,8 @@ const OTHER: [&str; 5] = ["Point", "MultiPoint", "Polygon", "MultiPolygon", "Geo
 
 const NO_POSITIONS: &str = "its coordinates are not positions of finite numbers";
 
-const NO_PLACE: &str = "a number of its coordinates is too large for a double, so that it is no place";
+const NO_PLACE: &str =
+    "a number of its coordinates is too large for a double, so that it is no place";
 
 /// What is wrong with coordinates that cannot be read.
 fn unread(fault: serde_json::Error) -> &'static str {
@@ -155,24 +156,24 @@ fn unread(fault: serde_json::Error) -> &'static str {
 
 fn line(coordinates: &str, heights: Heights) -> Result<Geometry, String> {
     let run: Run = serde_json::from_str(coordinates).map_err(unread)?;
-    match (run.high, heights) {
-        (Some(k), Heights::Refused) => Err(high(k, "")),
-        _ => Ok(Geometry::Line(run.points)),
-    }
+    with_heights(run, heights, "").map(Geometry::Line)
 }
 
 fn lines(coordinates: &str, heights: Heights) -> Result<Geometry, String> {
     let runs: Vec<Run> = serde_json::from_str(coordinates).map_err(unread)?;
-    for (part, run) in runs.iter().enumerate() {
-        if let (Some(k), Heights::Refused) = (run.high, heights) {
-            return Err(high(k, &format!(" of part {part}")));
-        }
-    }
-    Ok(Geometry::Lines(runs.into_iter().map(|run| run.points).collect()))
+    let part = |(part, run)| with_heights(run, heights, &format!(" of part {part}"));
+    runs.into_iter().enumerate().map(part).collect::<Result<_, _>>().map(Geometry::Lines)
 }
 
-fn high(k: usize, of: &str) -> String {
-    format!("its position {k}{of} has a height (--drop-heights leaves heights out)")
+/// The run with its heights or without them.
+fn with_heights(run: Run, heights: Heights, of: &str) -> Result<Run, String> {
+    match (run.beyond, heights) {
+        (Some(k), Heights::Kept) => Err(format!(
+            "its position {k}{of} has more than three numbers (--drop-heights leaves all but x and y out)"
+        )),
+        (None, Heights::Kept) => Ok(run),
+        (_, Heights::Dropped) => Ok(run.flat()),
+    }
 }
 
 #[cfg(test)]
@@ -181,27 +182,37 @@ mod tests {
 
     fn fault(geometry: &str) -> String {
         let text = format!(r#"{{"type": "Feature", "geometry": {geometry}}}"#);
-        Feature::of(&text, Heights::Refused).map(|_| ()).unwrap_err()
+        Feature::of(&text, Heights::Kept).map(|_| ()).unwrap_err()
     }
 
     #[test]
     fn a_line_with_all_that_is_told_about_it() {
         let text = r#"{"geometry": {"coordinates": [[1, 2], [3, 4]], "type": "LineString"},
             "id": "a", "properties": {"kind": "spur", "width": null}, "type": "Feature"}"#;
-        let feature = Feature::of(text, Heights::Refused).unwrap();
+        let feature = Feature::of(text, Heights::Kept).unwrap();
         assert_eq!(feature.id, Some("\"a\""));
         assert_eq!(feature.property("kind"), Some("\"spur\""));
         assert_eq!(feature.property("width"), None);
-        assert_eq!(feature.geometry, Geometry::Line(vec![[1.0, 2.0], [3.0, 4.0]]));
+        assert!(feature.geometry.runs().eq([[[1.0, 2.0], [3.0, 4.0]]]));
     }
 
     #[test]
-    fn heights_are_refused_or_dropped() {
+    fn heights_are_kept_or_dropped() {
+        let heights = |geometry: &str, heights| {
+            let text = format!(r#"{{"type": "Feature", "geometry": {geometry}}}"#);
+            let feature = Feature::of(&text, heights).unwrap();
+            assert!(feature.geometry.runs().eq([[[1.0, 2.0]]; 2]));
+            match feature.geometry {
+                Geometry::Lines(parts) => parts.iter().map(|run| run.height(0)).collect(),
+                _ => Vec::new(),
+            }
+        };
         let geometry = r#"{"type": "MultiLineString", "coordinates": [[[1, 2]], [[1, 2, 3]]]}"#;
-        assert!(fault(geometry).starts_with("its position 0 of part 1 has a height"));
-        let text = format!(r#"{{"type": "Feature", "geometry": {geometry}}}"#);
-        let feature = Feature::of(&text, Heights::Dropped).unwrap();
-        assert_eq!(feature.geometry, Geometry::Lines(vec![vec![[1.0, 2.0]], vec![[1.0, 2.0]]]));
+        assert_eq!(heights(geometry, Heights::Kept), [None, Some(3.0)]);
+        assert_eq!(heights(geometry, Heights::Dropped), [None, None]);
+        let beyond = r#"{"type": "MultiLineString", "coordinates": [[[1, 2]], [[1, 2, 3, 4]]]}"#;
+        assert!(fault(beyond).starts_with("its position 0 of part 1 has more than three numbers"));
+        assert_eq!(heights(beyond, Heights::Dropped), [None, None]);
     }
 
     #[test]
@@ -210,8 +221,8 @@ mod tests {
         let circle = "its geometry is a Circle, which is none of GeoJSON";
         assert_eq!(fault(r#"{"type": "Circle"}"#), circle);
         let polygon = r#"{"type": "Feature", "geometry": {"type": "Polygon"}}"#;
-        let feature = Feature::of(polygon, Heights::Refused).unwrap();
-        assert_eq!(feature.geometry, Geometry::Other("a Polygon".into()));
+        let feature = Feature::of(polygon, Heights::Kept).unwrap();
+        assert!(matches!(feature.geometry, Geometry::Other(what) if what == "a Polygon"));
         assert_eq!(fault(r#"{"type": "LineString"}"#), super::NO_POSITIONS);
         assert_eq!(fault(r#"{"type": "LineString", "coordinates": [[1]]}"#), super::NO_POSITIONS);
     }

@@ -13,6 +13,7 @@ use crate::progress::Progress;
 use anyhow::{anyhow, bail, Result};
 pub use feature::{Feature, Geometry, Heights};
 use object::Object;
+pub use positions::Run;
 use rayon::prelude::*;
 pub use sorting::LeftOut;
 use sorting::Sorted;
@@ -50,6 +51,16 @@ pub struct Reading {
 }
 
 impl<'a> Delivery<'a> {
+    /// True where a position has a height that is kept.
+    pub fn has_heights(&self) -> bool {
+        let high = |run: &Run| !run.heights.is_empty();
+        self.features.iter().any(|feature| match &feature.geometry {
+            Geometry::Line(run) => high(run),
+            Geometry::Lines(parts) => parts.iter().any(high),
+            Geometry::Other(_) => false,
+        })
+    }
+
     /// The member `crs` of the collection as it is written.
     pub fn crs(&self) -> Option<&'a str> {
         self.members.get("crs").filter(|&crs| crs != "null")

@@ -1,14 +1,29 @@
 //! The positions of a line.
 
 use super::Point;
-use serde::de::{Deserialize, Deserializer, Error, SeqAccess, Visitor};
+use serde::de::{Deserialize, Deserializer, Error, IgnoredAny, SeqAccess, Visitor};
 use std::fmt;
 
-/// A run of positions: x and y of each, and the first that has more than these.
-#[derive(Debug, Default, PartialEq)]
+/// A run of positions: x and y of each, their heights, and the first that has more than these.
+#[derive(Clone, Debug, Default)]
 pub struct Run {
     pub points: Vec<Point>,
-    pub high: Option<usize>,
+    /// One for each point where any has a height, NaN where it has none; else empty.
+    pub heights: Vec<f64>,
+    /// The first position of more than three numbers.
+    pub beyond: Option<usize>,
+}
+
+impl Run {
+    /// The height of a point, if it has one.
+    pub fn height(&self, point: usize) -> Option<f64> {
+        self.heights.get(point).copied().filter(|height| !height.is_nan())
+    }
+
+    /// The same without heights and whatever else follows.
+    pub fn flat(self) -> Self {
+        Run { points: self.points, ..Run::default() }
+    }
 }
 
 impl<'de> Deserialize<'de> for Run {
@@ -28,9 +43,13 @@ impl<'de> Visitor<'de> for RunVisitor {
 
     fn visit_seq<A: SeqAccess<'de>>(self, mut positions: A) -> Result<Run, A::Error> {
         let mut run = Run::default();
-        while let Some(Position { point, high }) = positions.next_element()? {
-            if high && run.high.is_none() {
-                run.high = Some(run.points.len());
+        while let Some(Position { point, height, beyond }) = positions.next_element()? {
+            if beyond && run.beyond.is_none() {
+                run.beyond = Some(run.points.len());
+            }
+            if height.is_some() || !run.heights.is_empty() {
+                run.heights.resize(run.points.len(), f64::NAN);
+                run.heights.push(height.unwrap_or(f64::NAN));
             }
             run.points.push(point);
         }
@@ -38,10 +57,11 @@ impl<'de> Visitor<'de> for RunVisitor {
     }
 }
 
-/// One position: x, y, and whether a height or anything else follows.
+/// One position: x, y, a height if there is one, and whether anything else follows.
 struct Position {
     point: Point,
-    high: bool,
+    height: Option<f64>,
+    beyond: bool,
 }
 
 impl<'de> Deserialize<'de> for Position {
@@ -62,11 +82,12 @@ impl<'de> Visitor<'de> for PositionVisitor {
     fn visit_seq<A: SeqAccess<'de>>(self, mut numbers: A) -> Result<Position, A::Error> {
         let x = numbers.next_element()?.ok_or_else(|| A::Error::custom("no x"))?;
         let y = numbers.next_element()?.ok_or_else(|| A::Error::custom("no y"))?;
-        let mut high = false;
-        while numbers.next_element::<f64>()?.is_some() {
-            high = true;
+        let height = numbers.next_element()?;
+        let mut beyond = false;
+        while numbers.next_element::<IgnoredAny>()?.is_some() {
+            beyond = true;
         }
-        Ok(Position { point: [x, y], high })
+        Ok(Position { point: [x, y], height, beyond })
     }
 }
 
@@ -78,13 +99,26 @@ mod tests {
         serde_json::from_str(text).ok()
     }
 
+    /// Points, heights and the first position of more than three numbers.
+    type Parts = (Vec<[f64; 2]>, Vec<Option<f64>>, Option<usize>);
+
+    fn parts(text: &str) -> Option<Parts> {
+        let run = run(text)?;
+        let heights = (0..run.points.len()).map(|point| run.height(point)).collect();
+        Some((run.points, heights, run.beyond))
+    }
+
     #[test]
-    fn positions_and_the_first_height() {
-        let plain = Run { points: vec![[0.0, 1.5], [-2e3, 0.1]], high: None };
-        assert_eq!(run("[[0,1.5], [-2e3, 0.1]]"), Some(plain));
-        let high = Run { points: vec![[0.0, 1.0], [2.0, 3.0], [4.0, 5.0]], high: Some(1) };
-        assert_eq!(run("[[0,1],[2,3,4],[4,5,6,7]]"), Some(high));
-        assert_eq!(run("[]"), Some(Run::default()));
+    fn positions_and_heights() {
+        let plain = (vec![[0.0, 1.5], [-2e3, 0.1]], vec![None; 2], None);
+        assert_eq!(parts("[[0,1.5], [-2e3, 0.1]]"), Some(plain));
+        let points = vec![[0.0, 1.0], [2.0, 3.0], [4.0, 5.0], [6.0, 7.0]];
+        let high = (points, vec![None, Some(4.0), None, Some(-0.5)], None);
+        assert_eq!(parts("[[0,1],[2,3,4],[4,5],[6,7,-0.5]]"), Some(high));
+        let beyond = (vec![[0.0, 1.0], [4.0, 5.0]], vec![Some(2.0), Some(6.0)], Some(1));
+        assert_eq!(parts("[[0,1,2],[4,5,6,7]]"), Some(beyond));
+        assert_eq!(parts("[]"), Some((vec![], vec![], None)));
+        assert!(run("[[0,1],[2,3]]").unwrap().heights.is_empty());
     }
 
     #[test]
@@ -99,9 +133,19 @@ mod tests {
 
     #[test]
     fn what_is_no_position() {
-        for text in ["[[1]]", "[[]]", "[1, 2]", "[[1, null]]", "[[\"1\", 2]]", "[[1e999, 0]]", "3"]
-        {
-            assert_eq!(run(text), None, "{text}");
+        for text in [
+            "[[1]]",
+            "[[]]",
+            "[1, 2]",
+            "[[1, null]]",
+            "[[\"1\", 2]]",
+            "[[1e999, 0]]",
+            "[[1, 2, null]]",
+            "[[1, 2, \"3\"]]",
+            "[[1, 2, 1e999]]",
+            "3",
+        ] {
+            assert!(run(text).is_none(), "{text}");
         }
     }
 }

@@ -1,6 +1,6 @@
 //! What becomes of each feature: a line, several lines, left out, or a fault.
 
-use super::{Feature, Geometry, Reading};
+use super::{Feature, Geometry, Reading, Run};
 use std::collections::BTreeMap;
 
 /// The lines, and what was left out.
@@ -29,7 +29,7 @@ impl LeftOut {
 impl<'a> Sorted<'a> {
     /// Puts a feature where it belongs, or tells what is wrong with it.
     pub fn put(&mut self, mut feature: Feature<'a>, reading: &Reading) -> Result<(), String> {
-        match std::mem::replace(&mut feature.geometry, Geometry::Line(Vec::new())) {
+        match std::mem::replace(&mut feature.geometry, Geometry::Line(Run::default())) {
             Geometry::Other(what) if reading.skip_other => {
                 *self.left_out.others.entry(what).or_default() += 1;
                 Ok(())
@@ -39,8 +39,8 @@ impl<'a> Sorted<'a> {
             )),
             Geometry::Lines(parts) if reading.explode && !parts.is_empty() => {
                 feature.drop_box();
-                for (part, points) in parts.into_iter().enumerate() {
-                    let geometry = Geometry::Line(points);
+                for (part, run) in parts.into_iter().enumerate() {
+                    let geometry = Geometry::Line(run);
                     let part = Feature { part: part as u32, geometry, ..feature.clone() };
                     self.put_line(part, reading)?;
                 }

@@ -1,6 +1,6 @@
 //! The chains as features.
 
-use super::{entry, list, position, value, Keep};
+use super::{entry, list, number, position, value, Keep};
 use crate::delivery::{Delivery, Geometry, Point};
 use crate::joining::Chain;
 use crate::measure::Measure;
@@ -91,19 +91,27 @@ impl Chains<'_> {
 fn geometry(out: &mut Vec<u8>, delivery: &Delivery, chain: &Chain) {
     let alone = chain.members.first().map(|&line| &delivery.features[line as usize].geometry);
     match (&chain.points, alone) {
-        (Some(points), _) | (None, Some(Geometry::Line(points))) => {
+        (Some(points), _) => {
             out.extend(b"{\"type\":\"LineString\",\"coordinates\":");
-            run(out, points);
+            run(out, points, &chain.extras);
+        }
+        (None, Some(Geometry::Line(line))) => {
+            out.extend(b"{\"type\":\"LineString\",\"coordinates\":");
+            run(out, &line.points, &line.heights);
         }
         (None, Some(Geometry::Lines(parts))) => {
             out.extend(b"{\"type\":\"MultiLineString\",\"coordinates\":");
-            list(out, parts, |out, part| run(out, part));
+            list(out, parts, |out, part| run(out, &part.points, &part.heights));
         }
         (None, None | Some(Geometry::Other(_))) => return out.extend(b"null"),
     }
     out.push(b'}');
 }
 
-fn run(out: &mut Vec<u8>, points: &[Point]) {
-    list(out, points, position);
+/// Writes positions with their heights. One without a height, for which NaN stands, is x and y alone.
+fn run(out: &mut Vec<u8>, points: &[Point], heights: &[f64]) {
+    list(out, points.iter().enumerate(), |out, (k, &[x, y])| match heights.get(k) {
+        Some(&height) if !height.is_nan() => list(out, [x, y, height], number),
+        _ => position(out, &[x, y]),
+    });
 }

@@ -9,7 +9,8 @@ pub struct Network(Vec<(Option<Vec<Point>>, u32)>);
 impl Network {
     pub fn lines(&self) -> Vec<Line<'_>> {
         let all = self.0.iter();
-        all.map(|(points, group)| Line { points: points.as_deref(), group: *group }).collect()
+        all.map(|(points, group)| Line { points: points.as_deref(), extras: &[], group: *group })
+            .collect()
     }
 }
 

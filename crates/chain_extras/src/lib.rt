@@ -1,0 +1,1 @@
+// Laws of points with extras: proofs/ has them, and there is no code.
