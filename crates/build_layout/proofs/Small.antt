@@ -16,7 +16,7 @@ use Rattle.rules.specs.Lists.{count, total}
 use Rattle.rules.specs.Plane.{nought, exactKey, cellKey}
 use Rattle.rules.specs.Walking.{sideOf, walks}
 use Rattle.rules.specs.Chaining.{Piece, Rule, pieceAt, merge, join, partner, limitOf, roundOne, roundTwo, ruleOf}
-use Rattle.rules.specs.Layout.{copy, five, table}
+use Rattle.rules.specs.Layout.{copy, five, pieceTable}
 use Rattle.chain_laws.proofs.Counts.{one-same, Each, nil, cons, each-append}
 use Rattle.chain_laws.proofs.Room.{size, copy-size}
 use Rattle.chain_pieces.specs.Held.{linesOf, marksOf, placeOf}
@@ -80,8 +80,8 @@ module _ (b : ℕ) (counts : List ℕ) (one : 1 ≤ b) (places : total counts �
         | no d ↦ rw (five-copied counts m c p d) (cons h₁ (cons h₂ (cons one (cons h₃ (cons h₄ nil)))))
       ]
 
-  pub table-low : (m c : ℕ) (ps : List Piece) → m + length (linesOf ps) ≤ b → c + total (map size ps) ≤ b → Low b (table counts m c ps)
-  unfolding table flatMap total
+  pub table-low : (m c : ℕ) (ps : List Piece) → m + length (linesOf ps) ≤ b → c + total (map size ps) ≤ b → Low b (pieceTable counts m c ps)
+  unfolding pieceTable flatMap total
   table-low m c [] h k = nil
   table-low m c (p ∷ ps) h k =
       let g : m + (length (p .lines) + length (linesOf ps)) ≤ b = omega (arith, length-append (p .lines) (linesOf ps)) in

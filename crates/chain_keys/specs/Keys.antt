@@ -13,7 +13,7 @@ use Rattle.chain_pieces.specs.Held.{recordOf, coordinatesAt, Recorded}
 use Rattle.chain_grouping.specs.Group.{Words, words, wordsAt}
 use Rattle.chain_grouping.specs.Map.{keySize}
 use Rattle.chain_keys.specs.Map.{bothKeys}
-use Rattle.rules.specs.Refusals.{recordSize}
+use Rattle.rules.specs.Refusals.{pieceSize}
 
 -- the group of the first member of the record at p
 unfoldable pub groupAt : List ℕ → ℕ → ℕ → List ℕ → ℕ
@@ -76,7 +76,7 @@ pub record Grouping (w : List ℕ) (p members : ℕ) (groups : List ℕ) : Type 
 -- what the keys of `count` pieces ask: records and members stand below the keys
 pub record Keyable (width : ℕ) (w : List ℕ) (records members keys count : ℕ) (groups input spare : List ℕ) : Type 0 where
   pub room : keys + count * bothKeys ≤ length w
-  pub below : records + count * recordSize ≤ keys
+  pub below : records + count * pieceSize ≤ keys
   pub placed : (q : ℕ) → q < count → PiecePlaced width w (recordOf records q) input spare
   pub member : (q : ℕ) → q < count → members + getD w (recordOf records q) 0 < keys
   pub line : (q : ℕ) → q < count → getD w (members + getD w (recordOf records q) 0) 0 < length groups

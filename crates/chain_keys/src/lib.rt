@@ -1,7 +1,7 @@
 // The keys of a round's ends: for each end three words, its group and one word for each number of its coordinate. Equal words are equal keys.
 use chain_grouping::KEY;
 use rules::Grid;
-use rules::RECORD;
+use rules::PIECE;
 ghost use mathlib.Core.Path.{_≡_};
 ghost use Prim.Native.Nat.{ℕ, _+_, _*_, _/_, _%_, _≤_, _<_};
 ghost use lib.ListN.{length, getD, set};
@@ -68,7 +68,7 @@ fn put_exact<'a>(
     requires { ⌜ PiecePlaced width (now w) (recordOf records q) (now input) (now spare) × Grouping (now w) (recordOf records q) members (now groups) × (keys + q * bothKeys + 6 ≤ length (now w)) ⌝ }
     ensures { λ _. ⌜ now (w .exit) ≡ bothKeyed width (now (w .entry)) records members keys q (now (groups .entry)) (now (input .entry)) (now (spare .entry)) ⌝ }
 {
-    let p = records + q * RECORD;
+    let p = records + q * PIECE;
     let at = keys + q * BOTH_KEYS;
     let behind = at + 3;
     let group = group_of(w, p, members, groups);
@@ -96,7 +96,7 @@ fn put_cells<'a>(
     requires { ⌜ PiecePlaced width (now w) (recordOf records (e / 2)) (now input) (now spare) × Grouping (now w) (recordOf records (e / 2)) members (now groups) × (keys + e * keySize + 3 ≤ length (now w)) ⌝ }
     ensures { λ _. ⌜ now (w .exit) ≡ keyed width (now (w .entry)) records members keys e (now (groups .entry)) (now (input .entry)) (now (spare .entry)) (Cells tolerance) ⌝ }
 {
-    let p = records + e / 2 * RECORD;
+    let p = records + e / 2 * PIECE;
     let group = group_of(w, p, members, groups);
     let x = float_cell::cell_key(number_at(w, p, width, e % 2, 0, input, spare), tolerance);
     let y = float_cell::cell_key(number_at(w, p, width, e % 2, 1, input, spare), tolerance);

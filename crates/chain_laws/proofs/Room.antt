@@ -17,7 +17,7 @@ use Rattle.rules.specs.Plane.{Point, points, equal, nought, exactKey, cellKey}
 use Rattle.rules.specs.Walking.{sideOf, walks}
 use Rattle.rules.specs.Chaining.{Piece, Rule, pieceAt, run, lay, merged, merge, join, partner, Line, plain, alone, pieces, limitOf, roundOne, roundTwo, chains, ruleOf}
 use Rattle.rules.specs.Layout.{lines, copied, copy, Laid, laidOut, build, lent}
-use Rattle.rules.specs.Refusals.{recordSize}
+use Rattle.rules.specs.Refusals.{pieceSize}
 use Rattle.chain_laws.proofs.Counts.{upto-length, Each, nil, cons}
 use Rattle.chain_laws.proofs.Totals.{total-append, same-length}
 use Rattle.chain_laws.proofs.Lines.{chains-count, linesOf, along, spread, pieces-take, pieces-leave}
@@ -154,7 +154,7 @@ lines-size ps (c ∷ cs) gs ks = omega (arith, length-take c ps, lines-size (dro
 
 pub record Fits (n numbers : ℕ) (a : Laid) : Type 0 where
   pub chains : a .number ≤ n
-  pub records : length (a .records) ≡ a .number * recordSize
+  pub records : length (a .records) ≡ a .number * pieceSize
   pub members : length (a .members) ≡ n
   pub marks : length (a .marks) ≡ n
   pub merged : length (a .merged) ≤ numbers
