@@ -110,11 +110,11 @@ module _ (width : ℕ) (two : 2 ≤ width) (w : List ℕ) (base n : ℕ) (input 
 -- ---- the words and the keys
 
 words-told : (grid : Grid) (g k : ℕ) (p q : Point)
-    → sameWords (words g (wordOf grid (p .x)) (wordOf grid (p .y))) (words k (wordOf grid (q .x)) (wordOf grid (q .y))) ≡ sameKey (keyOf grid g p) (keyOf grid k q)
+    → sameWords (words g (wordOf grid 0 (p .x)) (wordOf grid 1 (p .y))) (words k (wordOf grid 0 (q .x)) (wordOf grid 1 (q .y))) ≡ sameKey (keyOf grid g p) (keyOf grid k q)
 unfolding wordOf sameWords sameKey keyOf exactKey cellKey
 words-told Exact g k p q = refl
-words-told (Cells tolerance) g k p q =
-    ap₂ (λ (x y : Bool). eqb g k && (x && y)) (sym (cell-same-is tolerance (p .x) (q .x))) (sym (cell-same-is tolerance (p .y) (q .y)))
+words-told (Cells tolerance ox oy) g k p q =
+    ap₂ (λ (x y : Bool). eqb g k && (x && y)) (sym (cell-same-is tolerance ox (p .x) (q .x))) (sym (cell-same-is tolerance oy (p .y) (q .y)))
 
 -- ---- what collecting the keys asks
 

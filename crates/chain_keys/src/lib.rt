@@ -92,14 +92,24 @@ fn put_cells<'a>(
     input: &'a [u64],
     spare: &'a [u64],
     tolerance: f64,
+    origin_x: f64,
+    origin_y: f64,
 )
     requires { ⌜ PiecePlaced width (now w) (recordOf records (e / 2)) (now input) (now spare) × Grouping (now w) (recordOf records (e / 2)) members (now groups) × (keys + e * keySize + 3 ≤ length (now w)) ⌝ }
-    ensures { λ _. ⌜ now (w .exit) ≡ keyed width (now (w .entry)) records members keys e (now (groups .entry)) (now (input .entry)) (now (spare .entry)) (Cells tolerance) ⌝ }
+    ensures { λ _. ⌜ now (w .exit) ≡ keyed width (now (w .entry)) records members keys e (now (groups .entry)) (now (input .entry)) (now (spare .entry)) (Cells tolerance «origin_x» «origin_y») ⌝ }
 {
     let p = records + e / 2 * PIECE;
     let group = group_of(w, p, members, groups);
-    let x = float_cell::cell_key(number_at(w, p, width, e % 2, 0, input, spare), tolerance);
-    let y = float_cell::cell_key(number_at(w, p, width, e % 2, 1, input, spare), tolerance);
+    let x = float_cell::cell_key(
+        number_at(w, p, width, e % 2, 0, input, spare),
+        origin_x,
+        tolerance,
+    );
+    let y = float_cell::cell_key(
+        number_at(w, p, width, e % 2, 1, input, spare),
+        origin_y,
+        tolerance,
+    );
     put_words(w, keys + e * KEY, group, x, y);
 }
 
@@ -138,9 +148,11 @@ fn collect_cells<'a>(
     input: &'a [u64],
     spare: &'a [u64],
     tolerance: f64,
+    origin_x: f64,
+    origin_y: f64,
 )
     requires { ⌜ Keyable width (now w) records members keys count (now groups) (now input) (now spare) ⌝ }
-    ensures { λ _. ⌜ Keyed width (now (w .exit)) (now (w .entry)) records members keys count (now (groups .entry)) (now (input .entry)) (now (spare .entry)) (Cells tolerance) ⌝ }
+    ensures { λ _. ⌜ Keyed width (now (w .exit)) (now (w .entry)) records members keys count (now (groups .entry)) (now (input .entry)) (now (spare .entry)) (Cells tolerance «origin_x» «origin_y») ⌝ }
 {
     let mut e = 0;
     while e < count * 2 {
@@ -155,6 +167,8 @@ fn collect_cells<'a>(
             input,
             spare,
             tolerance,
+            origin_x,
+            origin_y,
         );
         e += 1;
     }
@@ -188,7 +202,7 @@ pub fn collect_keys<'a>(
             input,
             spare,
         ),
-        Grid::Cells(tolerance) => collect_cells(
+        Grid::Cells(tolerance, origin_x, origin_y) => collect_cells(
             w,
             records,
             members,
@@ -199,6 +213,8 @@ pub fn collect_keys<'a>(
             input,
             spare,
             tolerance,
+            origin_x,
+            origin_y,
         ),
     }
 }
