@@ -145,15 +145,15 @@ module _ (width : ℕ) (two : 2 ≤ width) (w : List ℕ) (base n : ℕ) (input 
     (rule : Rule) where
   words-are : (e : ℕ) → e < 2 * length ps
       → wordsFor width w (recordOf base (e / 2)) (e % 2) (base + n * memberBlock) groups input copies (rule .grid)
-      ≡ words (pieceAt rule ps e .group) (wordOf (rule .grid) (getD (run rule ps e) 0 (point 0 0) .x)) (wordOf (rule .grid) (getD (run rule ps e) 0 (point 0 0) .y))
+      ≡ words (pieceAt rule ps e .group) (wordOf (rule .grid) 0 (getD (run rule ps e) 0 (point 0 0) .x)) (wordOf (rule .grid) 1 (getD (run rule ps e) 0 (point 0 0) .y))
   unfolding wordsFor groupAt pieceAt
   words-are e b =
       let c : e / 2 < length ps = omega arith in
       let l = g .long (e / 2) c in
       λ i. words
       ((ap (λ (k : ℕ). getD groups k 0) (first-line width two w base n input copies counts ps h e c l) ∙ g .group (e / 2) c) i)
-      (wordOf (rule .grid) (x-is width two w base n input copies counts ps h e c l rule i))
-      (wordOf (rule .grid) (y-is width two w base n input copies counts ps h e c l rule i))
+      (wordOf (rule .grid) 0 (x-is width two w base n input copies counts ps h e c l rule i))
+      (wordOf (rule .grid) 1 (y-is width two w base n input copies counts ps h e c l rule i))
 
   pub words-tell : (e f : ℕ) → e < 2 * length ps → f < 2 * length ps
       → sameWords (wordsFor width w (recordOf base (e / 2)) (e % 2) (base + n * memberBlock) groups input copies (rule .grid))

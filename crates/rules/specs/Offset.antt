@@ -3,7 +3,7 @@
 use Rattle.rules.specs.Library.{ℕ, _+_, _*_, _/_, _^_, _≡_, Bool, true, cond, _&&_, List, [], _∷_, length, ltb, eqb, Float, nan, binary64, round, toBits, Answer, Settings}
 use Rattle.rules.specs.Root.{floorRoot}
 use Rattle.rules.specs.Layout.{Lines, listed}
-use Rattle.rules.specs.Refusals.{firstOf, originBad, Rooms, LentEnds, lentEnds, refusalWith, pairRefusalWith, endRoom}
+use Rattle.rules.specs.Refusals.{firstOf, Rooms, LentEnds, lentEnds, refusalWith, pairRefusalWith, endRoom}
 use Rattle.rules.specs.Calls.{unless, answerOf, written, cleared, builtOf, filled, pairsOf}
 
 abbrev pub mostOffset : ℕ
@@ -40,7 +40,7 @@ limitFor g = cond (ltb mostOffset g) nan (offsetLimit g)
 -- building, of lines of type t: 22 in place of the limit's part of 6. With the switch at 0 the offset isn't looked at
 unfoldable pub buildOffsetRefusalOf : ℕ → Lines → Float → Float → ℕ → ℕ → Rooms → ℕ
 buildOffsetRefusalOf t l ox oy switch g o =
-    refusalWith ((6, ltb 1 switch) ∷ (22, eqb switch 1 && ltb mostOffset g) ∷ (17, originBad ox oy) ∷ []) t l o
+    refusalWith ((6, ltb 1 switch) ∷ (22, eqb switch 1 && ltb mostOffset g) ∷ []) ox oy t l o
 
 -- the settings of a call with g
 abbrev pub settingsFor : Float → Float → Float → ℕ → ℕ → Settings
