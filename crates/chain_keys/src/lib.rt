@@ -100,16 +100,10 @@ fn put_cells<'a>(
 {
     let p = records + e / 2 * PIECE;
     let group = group_of(w, p, members, groups);
-    let x = float_cell::cell_key(
-        number_at(w, p, width, e % 2, 0, input, spare),
-        origin_x,
-        tolerance,
-    );
-    let y = float_cell::cell_key(
-        number_at(w, p, width, e % 2, 1, input, spare),
-        origin_y,
-        tolerance,
-    );
+    let east = number_at(w, p, width, e % 2, 0, input, spare);
+    let x = float_cell::cell_key(east, origin_x, tolerance);
+    let north = number_at(w, p, width, e % 2, 1, input, spare);
+    let y = float_cell::cell_key(north, origin_y, tolerance);
     put_words(w, keys + e * KEY, group, x, y);
 }
 
