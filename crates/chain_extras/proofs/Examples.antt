@@ -17,7 +17,7 @@ abbrev odd : ℕ
 odd = 0xfff0000000000007
 
 abbrev tolerant : ℕ → Settings
-tolerant t = record { tolerance = float t; switch = 0; limit = float +0 }
+tolerant t = record { tolerance = float t; «origin_x» = float +0; «origin_y» = float +0; switch = 0; limit = float +0 }
 
 -- ---- two lines of Z: from 0,0 to 1,0, and from 1,0 at another height to 2,0, whose height is a NaN
 abbrev heights : Lines
