@@ -3,7 +3,7 @@ use Prim.Native.Nat.{ℕ}
 use mathlib.Core.Path.{_≡_, refl}
 use mathlib.Core.Bool.{true, false}
 use mathlib.Core.List.{[], _∷_}
-use lib.Ieee.{lt, eq, div}
+use lib.Ieee.{lt, eq, sub, div}
 use Rattle.rules.specs.declared.Settings.{Settings}
 use Rattle.rules.specs.Plane.{float, points}
 use Rattle.rules.specs.Layout.{Lines, lent, build}
@@ -56,5 +56,5 @@ both =
 
 pub both-ride : (build 4 (tolerant +1) both .merged ≡ +0 ∷ +0 ∷ +2 ∷ not-a-number ∷ +1 ∷ +0 ∷ +3·5 ∷ +1 ∷ +2 ∷ +0 ∷ odd ∷ -0 ∷ [])
     × (build 4 (tolerant +0) both .number ≡ 2)
-unfolding book lt eq div
+unfolding book lt eq sub div
 both-ride = (refl, refl)
