@@ -83,6 +83,7 @@ enum lovasuku_refusal {
     LOVASUKU_NO_PLACE = 15,            /* An x or a y is NaN or infinite. */
     LOVASUKU_BAD_LIMIT = 6,            /* The switch is above 1, or the limit is not a number from -1 to 1. */
     LOVASUKU_BAD_OFFSET = 22,          /* The offset that stands in the limit's place is above 1,000. */
+    LOVASUKU_BAD_ORIGIN = 17,          /* The x or the y of the origin is NaN or infinite. */
     LOVASUKU_ROOM_TOO_SHORT = 7,       /* A lent room is shorter than the call needs. */
     LOVASUKU_PIECE_TOO_OFTEN = 8,      /* A piece number occurs more than twice. */
     LOVASUKU_NOT_FINITE = 9,           /* The indexed route was given a present direction that is not finite. */
@@ -112,9 +113,11 @@ enum lovasuku_reason {
  * has, its group (lines of different groups are never joined) and its kind (0 plain, 1 passes through unjoined; a line
  * of fewer than two coordinates passes through as well). Round one joins ends that agree bit for bit in x and y; round
  * two, which runs where tolerance is above 0, joins the ends of what round one left that lie in one cell of that size.
- * Two ends that meet with no third are joined at any angle, unless they are the two ends of one piece. Of three or
- * more the straightest pairs are joined if switch_on is 1, as long as the dot product of their directions is at or
- * below limit (-1 straight on, 0 a right angle, 1 any turn); with switch_on 0 none are, and limit is not looked at.
+ * Cells are counted from the origin: an end lies in column floor((x - origin_x) / tolerance), row
+ * floor((y - origin_y) / tolerance), where the difference is rounded, and then the quotient. Two ends that meet with
+ * no third are joined at any angle, unless they are the two ends of one piece. Of three or more the straightest pairs
+ * are joined if switch_on is 1, as long as the dot product of their directions is at or below limit (-1 straight on, 0
+ * a right angle, 1 any turn); with switch_on 0 none are, and limit is not looked at.
  *
  * Written are, with k chains: table, 5k numbers, for each chain its first member, its number of members, its source (0
  * the caller's coordinates, 1 merged), its first coordinate and its number of coordinates, each coordinate counted
@@ -129,12 +132,13 @@ enum lovasuku_reason {
  * Refusals: 12 wkb_type is none of the four. 1 n is above 4,096. 2 groups or kinds are not n numbers. 3 a kind is
  * above 1. 4 the counts do not add up to the coordinates' length, by the numbers of a coordinate. 5 c is above 65,536.
  * 15 an x or a y of any line is NaN or infinite. 6 switch_on is above 1, or it is 1 and limit is NaN, below -1 or
- * above 1. 7 a room is too short. No tolerance is refused. */
+ * above 1. 17 origin_x or origin_y is NaN or infinite, whatever the tolerance is. 7 a room is too short. No tolerance
+ * is refused. */
 int64_t lovasuku_build(uint32_t wkb_type, const double *coordinates, size_t coordinates_length,
                        const uint32_t *counts, size_t counts_length,
                        const uint32_t *groups, size_t groups_length,
                        const uint8_t *kinds, size_t kinds_length,
-                       double tolerance, uint8_t switch_on, double limit,
+                       double tolerance, double origin_x, double origin_y, uint8_t switch_on, double limit,
                        uint32_t *table, size_t table_length,
                        uint32_t *members, size_t members_length,
                        uint8_t *marks, size_t marks_length,
@@ -224,7 +228,7 @@ int64_t lovasuku_build_offset(uint32_t wkb_type, const double *coordinates, size
                               const uint32_t *counts, size_t counts_length,
                               const uint32_t *groups, size_t groups_length,
                               const uint8_t *kinds, size_t kinds_length,
-                              double tolerance, uint8_t switch_on, uint32_t offset,
+                              double tolerance, double origin_x, double origin_y, uint8_t switch_on, uint32_t offset,
                               uint32_t *table, size_t table_length,
                               uint32_t *members, size_t members_length,
                               uint8_t *marks, size_t marks_length,

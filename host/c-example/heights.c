@@ -25,8 +25,8 @@ static uint64_t lengths[LINES];
 
 int main(void) {
     int64_t chains =
-        lovasuku_build(TYPE, coordinates, NUMBERS, counts, LINES, groups, LINES, kinds, LINES, 0.0, 0, 0.0, table,
-                       LOVASUKU_RECORD * LINES, members, LINES, marks, LINES, merged, NUMBERS, spare, NUMBERS,
+        lovasuku_build(TYPE, coordinates, NUMBERS, counts, LINES, groups, LINES, kinds, LINES, 0.0, 0.0, 0.0, 0, 0.0,
+                       table, LOVASUKU_RECORD * LINES, members, LINES, marks, LINES, merged, NUMBERS, spare, NUMBERS,
                        workspace, LOVASUKU_LINE_WORKSPACE * LINES);
     if (chains < 0) {
         fprintf(stderr, "refusal %" PRId64 "\n", -chains);

@@ -35,8 +35,8 @@ static void print_chain(const uint32_t *record) {
 
 int main(void) {
     int64_t chains =
-        lovasuku_build(LOVASUKU_XY, coordinates, 2 * POINTS, counts, LINES, groups, LINES, kinds, LINES, 1.0, 0, 0.0,
-                       table, LOVASUKU_RECORD * LINES, members, LINES, marks, LINES, merged, 2 * POINTS,
+        lovasuku_build(LOVASUKU_XY, coordinates, 2 * POINTS, counts, LINES, groups, LINES, kinds, LINES, 1.0, 0.0, 0.0,
+                       0, 0.0, table, LOVASUKU_RECORD * LINES, members, LINES, marks, LINES, merged, 2 * POINTS,
                        spare, 2 * POINTS, workspace, LOVASUKU_LINE_WORKSPACE * LINES);
     if (chains < 0) {
         fprintf(stderr, "refusal %" PRId64 "\n", -chains);

@@ -47,9 +47,9 @@ int main(void) {
         return 1;
     }
     int64_t chains = accepted(
-        "build", lovasuku_build(wkb_type, coordinates, 2 * POINTS, counts, LINES, groups, LINES, kinds, LINES, 0.0, 0, 0.0,
-                                table, LOVASUKU_RECORD * LINES, members, LINES, marks, LINES, merged, 2 * POINTS,
-                                spare, 2 * POINTS, workspace, LOVASUKU_LINE_WORKSPACE * LINES));
+        "build", lovasuku_build(wkb_type, coordinates, 2 * POINTS, counts, LINES, groups, LINES, kinds, LINES, 0.0, 0.0,
+                                0.0, 0, 0.0, table, LOVASUKU_RECORD * LINES, members, LINES, marks, LINES, merged,
+                                2 * POINTS, spare, 2 * POINTS, workspace, LOVASUKU_LINE_WORKSPACE * LINES));
     if (chains < 0) {
         return 1;
     }

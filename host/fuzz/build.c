@@ -105,6 +105,10 @@ static struct building next_building(struct bytes *bytes, struct lengths *length
     struct building call = {0};
     call.n = next_lines(bytes);
     call.tolerance = double_of(next_word(bytes));
+    if (next_byte(bytes) % 2 == 1) {
+        call.origin_x = double_of(next_word(bytes));
+        call.origin_y = double_of(next_word(bytes));
+    }
     call.switch_on = next_byte(bytes) % 2;
     call.limit = next_limit(bytes);
     call.by_offset = next_byte(bytes) % 4 == 3;
@@ -196,6 +200,9 @@ static int refusal(const struct building *call, const struct lengths *lengths) {
     if (call->switch_on > 1 || (call->switch_on == 1 && limit_is_bad(call->limit))) {
         return call->by_offset && call->switch_on == 1 ? LOVASUKU_BAD_OFFSET : LOVASUKU_BAD_LIMIT;
     }
+    if (!isfinite(call->origin_x) || !isfinite(call->origin_y)) {
+        return LOVASUKU_BAD_ORIGIN;
+    }
     wanted_rooms(call, lengths->numbers, wanted);
     for (int room = 0; room < ROOMS; room++) {
         if (lengths->rooms[room] < wanted[room]) {
@@ -213,15 +220,16 @@ static int64_t make_call(const struct building *call, const struct lengths *leng
     if (call->by_offset) {
         return lovasuku_build_offset(
             call->wkb_type, coordinates.lent, lengths->numbers, counts.lent, call->n, groups.lent, lengths->groups,
-            kinds.lent, lengths->kinds, call->tolerance, call->switch_on, call->offset, rooms[TABLE].lent, room[TABLE],
-            rooms[MEMBERS].lent, room[MEMBERS], rooms[MARKS].lent, room[MARKS], rooms[MERGED].lent, room[MERGED],
-            rooms[SPARE].lent, room[SPARE], rooms[WORKSPACE].lent, room[WORKSPACE]);
+            kinds.lent, lengths->kinds, call->tolerance, call->origin_x, call->origin_y, call->switch_on, call->offset,
+            rooms[TABLE].lent, room[TABLE], rooms[MEMBERS].lent, room[MEMBERS], rooms[MARKS].lent, room[MARKS],
+            rooms[MERGED].lent, room[MERGED], rooms[SPARE].lent, room[SPARE], rooms[WORKSPACE].lent,
+            room[WORKSPACE]);
     }
     return lovasuku_build(call->wkb_type, coordinates.lent, lengths->numbers, counts.lent, call->n, groups.lent,
-                          lengths->groups, kinds.lent, lengths->kinds, call->tolerance, call->switch_on,
-                          call->limit, rooms[TABLE].lent, room[TABLE], rooms[MEMBERS].lent, room[MEMBERS],
-                          rooms[MARKS].lent, room[MARKS], rooms[MERGED].lent, room[MERGED], rooms[SPARE].lent,
-                          room[SPARE], rooms[WORKSPACE].lent, room[WORKSPACE]);
+                          lengths->groups, kinds.lent, lengths->kinds, call->tolerance, call->origin_x,
+                          call->origin_y, call->switch_on, call->limit, rooms[TABLE].lent, room[TABLE],
+                          rooms[MEMBERS].lent, room[MEMBERS], rooms[MARKS].lent, room[MARKS], rooms[MERGED].lent,
+                          room[MERGED], rooms[SPARE].lent, room[SPARE], rooms[WORKSPACE].lent, room[WORKSPACE]);
 }
 
 /* Requires the rooms of an accepted call to hold the answer and to be otherwise zero or as before. */
@@ -301,6 +309,14 @@ static uint64_t sum_of_answer(const struct building *call, size_t chains) {
     return sum;
 }
 
+/* A number of an origin that is as good: any where there are no cells, and of a zero the other. */
+static double alike(const struct building *call, double origin) {
+    if (!(call->tolerance > 0)) {
+        return 0.75;
+    }
+    return origin == 0 ? -origin : origin;
+}
+
 void fuzz_build(struct bytes *bytes) {
     make_slices();
     struct lengths lengths;
@@ -325,6 +341,8 @@ void fuzz_build(struct bytes *bytes) {
     seen(1024 + (unsigned)(sum % 1024));
     /* With an offset it is the call with the offset's limit; above 1,000 the limit isn't looked at. */
     call.by_offset = false;
+    call.origin_x = alike(&call, call.origin_x);
+    call.origin_y = alike(&call, call.origin_y);
     require(make_call(&call, &lengths, (unsigned char)~dirt) == answer, "the same call has the same answer");
     require_rooms(&call, &lengths, (size_t)answer);
     require(sum_of_answer(&call, (size_t)answer) == sum,

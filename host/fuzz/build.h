@@ -13,7 +13,7 @@ struct building {
     /* The numbers of a coordinate. */
     size_t width;
     size_t n, c;
-    double tolerance, limit;
+    double tolerance, origin_x, origin_y, limit;
     uint8_t switch_on;
     /* Whether the offset stands in the limit's place; the limit is then the offset's, NaN above 1,000. */
     bool by_offset;

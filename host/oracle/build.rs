@@ -1,4 +1,4 @@
-//! Makes two modules out of the Rust original: one as it is, one with the two edits of the rules.
+//! Makes two modules out of the Rust original: one as it is, one with the three edits of the rules.
 //!
 //! The original is read from `shared` beside the repository, or from the file that the variable
 //! LOVASUKU_COALESCE names. Where it is absent, or the compiler too old for it, the same modules

@@ -1,4 +1,4 @@
-//! The two edits that make the Rust original the oracle.
+//! The three edits that make the Rust original the oracle.
 
 /// A text that stands exactly once in the original, and what takes its place.
 pub struct Edit {
@@ -8,7 +8,7 @@ pub struct Edit {
 }
 
 /// The edits of the rules.
-pub const EDITS: [Edit; 2] = [
+pub const EDITS: [Edit; 3] = [
     Edit {
         name: "the measure is the clamped dot product",
         from: concat!("180.0 - dot.acos()", ".to_degrees()"),
@@ -17,7 +17,13 @@ pub const EDITS: [Edit; 2] = [
     Edit {
         name: "junctions are paired by the switch",
         from: "junction_angle_deg > 0.0",
-        to: "crate::switch::is_on()",
+        to: "crate::settings::is_on()",
+    },
+    Edit {
+        name: "cells are counted from the origin",
+        from: concat!("(c.x / tol).floor() as i64,\n        ", "(c.y / tol).floor() as i64"),
+        to: "((c.x - crate::settings::origin()[0]) / tol).floor() as i64, \
+             ((c.y - crate::settings::origin()[1]) / tol).floor() as i64",
     },
 ];
 

@@ -8,9 +8,8 @@ use native.Mathlib.Nat.{mul-le-mul-right}
 use lib.Ieee.{lt}
 use lib.ListN.{length, drop}
 use Rattle.rules.specs.declared.Settings.{Settings}
-use Rattle.rules.specs.declared.Grid.the-variants.{Cells}
 use Rattle.rules.specs.Plane.{points, flat, nought}
-use Rattle.rules.specs.Chaining.{Piece, join, roundOne, roundTwo, ruleOf}
+use Rattle.rules.specs.Chaining.{cellsOf, Piece, join, roundOne, roundTwo, ruleOf}
 use Rattle.rules.specs.Layout.{Lines, copy}
 use Rattle.rules.specs.Refusals.{lineRoom}
 use Rattle.rules.specs.Calls.{written}
@@ -26,7 +25,7 @@ use Rattle.build_chains.proofs.Parts.{written-rest}
 use Rattle.build_chains.proofs.Good.{good-grouped}
 use Rattle.build_chains.proofs.First.{limit-fair, good₂, joined-fits}
 
-two-on : (s : Settings) (ps : List Piece) → lt nought (s .tolerance) ≡ true → join (ruleOf (Cells (s .tolerance)) s) ps ≡ roundTwo s ps
+two-on : (s : Settings) (ps : List Piece) → lt nought (s .tolerance) ≡ true → join (ruleOf (cellsOf s) s) ps ≡ roundTwo s ps
 unfolding roundTwo
 two-on s ps e = rw (e, roundTwo)
 
@@ -97,7 +96,7 @@ module _ {width : ℕ} {l : Lines} {s : Settings} {merged w₀ : List ℕ} (J : 
         }
 
     pub twice-left : lt nought (s .tolerance) ≡ true → {r : ℕ} {merged′ w₂ : List ℕ}
-        → Left width (length (l .counts)) (l .coordinates) (l .counts) (join (ruleOf (Cells (s .tolerance)) s) (roundOne s (plainOf width l))) 0 r merged′ merged w₂ w₁
+        → Left width (length (l .counts)) (l .coordinates) (l .counts) (join (ruleOf (cellsOf s) s) (roundOne s (plainOf width l))) 0 r merged′ merged w₂ w₁
         → AllLeft width l s 0 r lines merged′ merged spare′ spare w₂ w₀
     twice-left on {r} {merged′} {w₂} M =
         record {

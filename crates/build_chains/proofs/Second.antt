@@ -7,8 +7,7 @@ use lib.ListN.{length, take, drop}
 use lib.Seq.{slice}
 use borrow.Rule.Slice.PartMut.{midOf, putMid}
 use Rattle.rules.specs.declared.Settings.{Settings}
-use Rattle.rules.specs.declared.Grid.the-variants.{Cells}
-use Rattle.rules.specs.Chaining.{Piece, join, ruleOf}
+use Rattle.rules.specs.Chaining.{cellsOf, Piece, join, ruleOf}
 use Rattle.rules.specs.Refusals.{lineRoom}
 use Rattle.point_slices.proofs.Laws.{slice-part}
 use Rattle.chain_pieces.specs.Held.{marksOf, Held}
@@ -51,17 +50,17 @@ module _ {width n m : ℕ} {s : Settings} {coordinates groups copies merged w₀
       }
 
   module _ {r : ℕ} {sub merged′ : List ℕ} (size : length sub ≡ length (midOf 0 (n * lineRoom - 0) w₀))
-      (R : Rounded width sub (midOf 0 (n * lineRoom - 0) w₀) n r coordinates merged′ merged (y .counts) (join (ruleOf (Cells (s .tolerance)) s) (y .ps))) where
+      (R : Rounded width sub (midOf 0 (n * lineRoom - 0) w₀) n r coordinates merged′ merged (y .counts) (join (ruleOf (cellsOf s) s) (y .ps))) where
     abbrev w₁ : List ℕ
     w₁ = putMid 0 (n * lineRoom - 0) w₀ sub
 
     abbrev qs : List Piece
-    qs = join (ruleOf (Cells (s .tolerance)) s) (y .ps)
+    qs = join (ruleOf (cellsOf s) s) (y .ps)
 
     part : midOf 0 k₂ w₁ ≡ sub
     part = put-mid w₀ sub 0 k₂ room₂ size
 
-    pub two-left : Left width n coordinates (y .counts) (join (ruleOf (Cells (s .tolerance)) s) (y .ps)) 0 r merged′ merged w₁ w₀
+    pub two-left : Left width n coordinates (y .counts) (join (ruleOf (cellsOf s) s) (y .ps)) 0 r merged′ merged w₁ w₀
     two-left =
         let p : 0 + k₂ ≡ n * lineRoom = omega arith in
         record {

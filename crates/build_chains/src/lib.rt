@@ -7,8 +7,7 @@ use rules::Settings;
 ghost use mathlib.Core.Path.{_≡_};
 ghost use Prim.Native.Nat.{_*_, _≤_};
 ghost use lib.ListN.{length};
-ghost use Rattle.rules.specs.declared.Grid.the-variants.{Cells};
-ghost use Rattle.rules.specs.Chaining.{ruleOf, join, roundOne};
+ghost use Rattle.rules.specs.Chaining.{ruleOf, cellsOf, join, roundOne};
 ghost use Rattle.rules.specs.Layout.{lent};
 ghost use Rattle.rules.specs.Refusals.{rooms, refusalOf};
 ghost use Rattle.rules.specs.Calls.{Built};
@@ -74,11 +73,11 @@ fn round_two<'a>(
 ) -> usize
     requires { ⌜ Second width n m settings (now coordinates) (now groups) (now copies) (now merged) (now workspace) ⌝ }
     ensures { λ r. ⌜ ((y : Second width n m settings (now (coordinates .entry)) (now (groups .entry)) (now (copies .entry)) (now (merged .entry)) (now (workspace .entry)))
-        → Left width n (now (coordinates .entry)) (y .counts) (join (ruleOf (Cells (settings .tolerance)) settings) (y .ps))
+        → Left width n (now (coordinates .entry)) (y .counts) (join (ruleOf (cellsOf settings) settings) (y .ps))
         0 r (now (merged .exit)) (now (merged .entry)) (now (workspace .exit)) (now (workspace .entry))) ⌝ }
 {
     let end = n * LINE_ROOM;
-    let grid = Grid::Cells(settings.tolerance);
+    let grid = Grid::Cells(settings.tolerance, settings.origin_x, settings.origin_y);
     chain_round::join_pieces(
         &mut workspace[0..end],
         n,

@@ -15,7 +15,7 @@ use Rattle.chain_pieces.specs.Held.{Own}
 use Rattle.build_layout.specs.Laying.{leftOf, Layable}
 
 abbrev settings : Settings
-settings = record { tolerance = nought; switch = 0; limit = nought }
+settings = record { tolerance = nought; «origin_x» = nought; «origin_y» = nought; switch = 0; limit = nought }
 
 abbrev coordinates : List ℕ
 coordinates = 0 ∷ 0 ∷ 1 ∷ 0 ∷ 5 ∷ 5 ∷ []

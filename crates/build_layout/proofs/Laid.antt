@@ -8,7 +8,7 @@ use native.Mathlib.Nat.{zero-add}
 use lib.ListN.{length, getD, take, length-append, length-take, length-drop}
 use lib.Seq.{slice}
 use Rattle.rules.specs.Chaining.{Piece, chains}
-use Rattle.rules.specs.Layout.{copy, table as table-of, laidOut, build, lent}
+use Rattle.rules.specs.Layout.{copy, pieceTable as table-of, laidOut, build, lent}
 use Rattle.rules.specs.Refusals.{mostPoints, recordSize}
 use Rattle.rules.specs.Calls.{written}
 use Rattle.chain_laws.proofs.Counts.{each-getD}

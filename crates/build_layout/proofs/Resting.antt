@@ -9,7 +9,7 @@ use lib.ListN.{length, getD, take}
 use Rattle.rules.specs.Lists.{total}
 use Rattle.rules.specs.Plane.{points}
 use Rattle.rules.specs.Chaining.{Piece, Line, pieces}
-use Rattle.rules.specs.Layout.{lines, table as table-of, lent}
+use Rattle.rules.specs.Layout.{lines, pieceTable as table-of, lent}
 use Rattle.rules.specs.Refusals.{mostPoints, recordSize}
 use Rattle.chain_laws.proofs.Room.{lines-length}
 use Rattle.point_slices.proofs.Laws.{from-start, from-length}

@@ -11,12 +11,12 @@ use lib.Ieee.{lt}
 use lib.ListN.{length, getD, replicate, length-append}
 use borrow.Author.Tests.{ltb-true, ltb-false}
 use Rattle.rules.specs.declared.Settings.{Settings}
-use Rattle.rules.specs.declared.Grid.the-variants.{Exact, Cells}
+use Rattle.rules.specs.declared.Grid.the-variants.{Exact}
 use Rattle.rules.specs.Lists.{count, total}
 use Rattle.rules.specs.Plane.{nought, exactKey, cellKey}
 use Rattle.rules.specs.Walking.{sideOf, walks}
-use Rattle.rules.specs.Chaining.{Piece, Rule, pieceAt, merge, join, partner, limitOf, roundOne, roundTwo, ruleOf}
-use Rattle.rules.specs.Layout.{copy, five, table}
+use Rattle.rules.specs.Chaining.{cellsOf, Piece, Rule, pieceAt, merge, join, partner, limitOf, roundOne, roundTwo, ruleOf}
+use Rattle.rules.specs.Layout.{copy, five, pieceTable}
 use Rattle.chain_laws.proofs.Counts.{one-same, Each, nil, cons, each-append}
 use Rattle.chain_laws.proofs.Room.{size, copy-size}
 use Rattle.chain_pieces.specs.Held.{linesOf, marksOf, placeOf}
@@ -65,7 +65,7 @@ unfolding roundTwo roundOne
 rounds-marks s ps = go (lt nought (s .tolerance)) refl
   where
     go : (t : Bool) → lt nought (s .tolerance) ≡ t → Low 1 (marksOf (roundTwo s (roundOne s ps)))
-    go true e = rw (e, roundTwo) (join-marks (ruleOf (Cells (s .tolerance)) s) (roundOne s ps))
+    go true e = rw (e, roundTwo) (join-marks (ruleOf (cellsOf s) s) (roundOne s ps))
     go false e = rw (e, roundTwo) (join-marks (ruleOf Exact s) ps)
 
 -- ---- records
@@ -80,8 +80,8 @@ module _ (b : ℕ) (counts : List ℕ) (one : 1 ≤ b) (places : total counts �
         | no d ↦ rw (five-copied counts m c p d) (cons h₁ (cons h₂ (cons one (cons h₃ (cons h₄ nil)))))
       ]
 
-  pub table-low : (m c : ℕ) (ps : List Piece) → m + length (linesOf ps) ≤ b → c + total (map size ps) ≤ b → Low b (table counts m c ps)
-  unfolding table flatMap total
+  pub table-low : (m c : ℕ) (ps : List Piece) → m + length (linesOf ps) ≤ b → c + total (map size ps) ≤ b → Low b (pieceTable counts m c ps)
+  unfolding pieceTable flatMap total
   table-low m c [] h k = nil
   table-low m c (p ∷ ps) h k =
       let g : m + (length (p .lines) + length (linesOf ps)) ≤ b = omega (arith, length-append (p .lines) (linesOf ps)) in

@@ -9,7 +9,7 @@ use lib.Seq.{slice}
 use Rattle.rules.specs.declared.Settings.{Settings}
 use Rattle.rules.specs.Lists.{total}
 use Rattle.rules.specs.Chaining.{Piece, pieces, roundOne, roundTwo}
-use Rattle.rules.specs.Layout.{Lines, lent, linesIn, table as table-of, Laid}
+use Rattle.rules.specs.Layout.{Lines, lent, linesIn, pieceTable as table-of, Laid}
 use Rattle.rules.specs.Refusals.{mostLines, mostPoints, recordSize}
 use Rattle.rules.specs.Calls.{written}
 use Rattle.point_slices.specs.Holds.{HoldsFrom}

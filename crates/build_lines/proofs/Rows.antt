@@ -8,7 +8,7 @@ use lib.ListN.{length, getD, take, length-append}
 use Rattle.rules.specs.Lists.{total}
 use Rattle.rules.specs.Plane.{points}
 use Rattle.rules.specs.Chaining.{Piece, Line, plain, alone}
-use Rattle.rules.specs.Layout.{lines, copy, five, table}
+use Rattle.rules.specs.Layout.{lines, copy, five, pieceTable}
 use Rattle.build_lines.specs.Taken.{Adds}
 use Rattle.chain_laws.proofs.Lines.{flatMap-append}
 use Rattle.chain_laws.proofs.Records.{table-append}
@@ -20,8 +20,8 @@ use Rattle.build_lines.proofs.Passing.{plainAt, passed, passed-one, pas
 
 -- ---- a line alone
 
-alone-table : (counts : List ℕ) (m c k : ℕ) (l : Line) → table counts m c (alone k l ∷ []) ≡ m ∷ 1 ∷ 0 ∷ total (take k counts) ∷ length (l .points) ∷ []
-unfolding table alone
+alone-table : (counts : List ℕ) (m c k : ℕ) (l : Line) → pieceTable counts m c (alone k l ∷ []) ≡ m ∷ 1 ∷ 0 ∷ total (take k counts) ∷ length (l .points) ∷ []
+unfolding pieceTable alone
 alone-table counts m c k l = append-nil (five counts m c (alone k l)) ∙ five-own counts m c (alone k l) refl
 
 -- ---- one line more
@@ -29,7 +29,7 @@ alone-table counts m c k l = append-nil (five counts m c (alone k l)) ∙ five-o
 -- line k is a piece behind the pieces qs: what it adds, where m members and c points stand before them all
 pub record More (counts : List ℕ) (k : ℕ) (qs qs′ : List Piece) : Type 0 where
   pub number : length qs′ ≡ length qs + 1
-  pub records : (m c : ℕ) → table counts m c qs′ ≡ table counts m c qs ++ ((m + length qs) ∷ 1 ∷ 0 ∷ total (take k counts) ∷ getD counts k 0 ∷ [])
+  pub records : (m c : ℕ) → pieceTable counts m c qs′ ≡ pieceTable counts m c qs ++ ((m + length qs) ∷ 1 ∷ 0 ∷ total (take k counts) ∷ getD counts k 0 ∷ [])
   pub members : linesOf qs′ ≡ linesOf qs ++ (k ∷ [])
   pub marks : marksOf qs′ ≡ marksOf qs ++ (0 ∷ [])
 
@@ -57,7 +57,7 @@ module _ (want : Bool) (width : ℕ) (input counts groups kinds : List ℕ) (add
         number = length-append qs (alone k line ∷ []);
         records = λ m c.
             table-append counts m c qs (alone k line ∷ [])
-            ∙ ap (λ (r : List ℕ). table counts m c qs ++ r)
+            ∙ ap (λ (r : List ℕ). pieceTable counts m c qs ++ r)
             (alone-table counts (m + length (linesOf qs)) (c + length (flatMap copy qs)) k line
             ∙ ap₂ (λ (i j : ℕ). (m + i) ∷ 1 ∷ 0 ∷ total (take k counts) ∷ j ∷ [])
             (lone-lines qs (pieces-lone want 0 (take k ls))) (points-at width input counts groups kinds adds k b));

@@ -11,7 +11,7 @@ use lib.Seq.{slice, slice-empty}
 use Rattle.rules.specs.Lists.{total}
 use Rattle.rules.specs.Plane.{points, flat}
 use Rattle.rules.specs.Chaining.{Piece, nothing, pieces}
-use Rattle.rules.specs.Layout.{lines, table, lent}
+use Rattle.rules.specs.Layout.{lines, pieceTable, lent}
 use Rattle.point_numbers.specs.Width.{AllWide}
 use Rattle.chain_laws.proofs.Counts.{Each, each-getD}
 use Rattle.chain_laws.proofs.Room.{lines-length}
@@ -24,12 +24,12 @@ use Rattle.build_lines.proofs.Rows.{More, one-wanted, none-wanted}
 use Rattle.chain_pieces.proofs.Storing.{one-put}
 use Rattle.build_lines.proofs.Own.{alone-own, alone-wide}
 use Rattle.chain_pieces.specs.Map.{memberBlock, takenBlock, takenMarks, takenMembers}
-use Rattle.rules.specs.Refusals.{recordSize}
+use Rattle.rules.specs.Refusals.{pieceSize}
 
 -- the pieces qs, m of them, stand in the block as far as they go
 pub record Standing (w : List ℕ) (n m : ℕ) (counts : List ℕ) (qs : List Piece) : Type 0 where
   pub number : m ≡ length qs
-  pub records : slice (n * takenBlock) (n * takenBlock + m * recordSize) w ≡ table counts 0 0 qs
+  pub records : slice (n * takenBlock) (n * takenBlock + m * pieceSize) w ≡ pieceTable counts 0 0 qs
   pub members : slice (n * takenMembers) (n * takenMembers + m) w ≡ linesOf qs
 
 -- `first` is the first coordinate of line k; a count is a u32
@@ -44,7 +44,7 @@ pub record Taking (w w₀ : List ℕ) (n k m first : ℕ) (counts kinds : List �
   pub standing : (width : ℕ) (input groups : List ℕ) → Adds width counts input → Standing w n m counts (passed true (lines (points width input) counts groups kinds) k)
 
 pub taking-start : (w : List ℕ) (n : ℕ) (counts kinds : List ℕ) → Taking w w n 0 0 0 counts kinds
-unfolding pieces table flatMap total
+unfolding pieces pieceTable flatMap total
 taking-start w n counts kinds =
     record {
       within = omega arith;
@@ -65,7 +65,7 @@ taking-start w n counts kinds =
 -- ---- a plain line: its record, and then its member
 
 module _ (v w : List ℕ) (n k m : ℕ) (counts : List ℕ) (room : n * takenMarks ≤ length w) (b : m < n)
-    (put : HoldsFrom v w (n * takenBlock + m * recordSize) 5 (m ∷ 1 ∷ 0 ∷ total (take k counts) ∷ getD counts k 0 ∷ [])) where
+    (put : HoldsFrom v w (n * takenBlock + m * pieceSize) 5 (m ∷ 1 ∷ 0 ∷ total (take k counts) ∷ getD counts k 0 ∷ [])) where
   abbrev w′ : List ℕ
   w′ = set v (n * takenMembers + m) k
 
@@ -89,10 +89,10 @@ module _ (v w : List ℕ) (n k m : ℕ) (counts : List ℕ) (room : n * takenMar
       record {
         number = omega (arith, s .number, more .number);
         records =
-            let e : n * takenBlock + (m + 1) * 5 ≡ n * takenBlock + m * recordSize + 5 = omega arith in
+            let e : n * takenBlock + (m + 1) * 5 ≡ n * takenBlock + m * pieceSize + 5 = omega arith in
             let f : m ≡ 0 + length qs = omega (arith, s .number) in
             ap (λ (i : ℕ). slice (n * takenBlock) i w′) e
-            ∙ slice-below listed (omega (arith, same)) (n * takenBlock) (n * takenBlock + m * recordSize + 5) (omega arith)
+            ∙ slice-below listed (omega (arith, same)) (n * takenBlock) (n * takenBlock + m * pieceSize + 5) (omega arith)
             ∙ slice-more put (omega arith) (n * takenBlock) (omega arith)
             ∙ ap₂ (λ (t : List ℕ) (i : ℕ). t ++ (i ∷ 1 ∷ 0 ∷ total (take k counts) ∷ getD counts k 0 ∷ [])) (s .records) f
             ∙ sym (more .records 0 0);
@@ -113,12 +113,12 @@ module _ {w w₀ : List ℕ} {n k m first : ℕ} {counts kinds : List ℕ} (s : 
   next = omega (arith, total-next counts k below, s .first-is)
 
   pub taking-plain : {w′ v : List ℕ} {m′ : ℕ} → plainAt counts kinds k ≡ true
-      → HoldsFrom v w (n * takenBlock + m * recordSize) 5 (m ∷ 1 ∷ 0 ∷ first ∷ getD counts k 0 ∷ []) → w′ ≡ set v (n * takenMembers + m) k → m′ ≡ m + 1
+      → HoldsFrom v w (n * takenBlock + m * pieceSize) 5 (m ∷ 1 ∷ 0 ∷ first ∷ getD counts k 0 ∷ []) → w′ ≡ set v (n * takenMembers + m) k → m′ ≡ m + 1
       → Taking w′ w₀ n (k + 1) m′ (first + getD counts k 0) counts kinds
   taking-plain {w′} {v} {m′} t put e g =
       let room : n * takenMarks ≤ length w = omega (arith, y .room, s .size) in
       let less : m < n = omega (arith, s .fewer) in
-      let put′ : HoldsFrom v w (n * takenBlock + m * recordSize) 5 (m ∷ 1 ∷ 0 ∷ total (take k counts) ∷ getD counts k 0 ∷ []) = rw (s .first-is) at put in
+      let put′ : HoldsFrom v w (n * takenBlock + m * pieceSize) 5 (m ∷ 1 ∷ 0 ∷ total (take k counts) ∷ getD counts k 0 ∷ []) = rw (s .first-is) at put in
       rw (e, g)
       (record {
         within = omega arith;
@@ -169,7 +169,7 @@ module _ (width : ℕ) (w : List ℕ) (n : ℕ) (input copies counts groups kind
         few = few;
         listed = omega (arith, one-line, few);
         room = omega (arith, y .room);
-        records = ap (λ (i : ℕ). slice (n * takenBlock) (n * takenBlock + i * recordSize) w) (sym (s .number)) ∙ s .records;
+        records = ap (λ (i : ℕ). slice (n * takenBlock) (n * takenBlock + i * pieceSize) w) (sym (s .number)) ∙ s .records;
         members =
             let e : n * takenBlock + n * memberBlock ≡ n * takenMembers = omega arith in
             let f : length (linesOf qs) ≡ m = omega (arith, one-line, s .number) in

@@ -1,7 +1,7 @@
 // The plain lines of a call as the pieces that go into its first round.
 use chain_pieces::TAKEN;
 use chain_pieces::TAKEN_MEMBERS;
-use rules::RECORD;
+use rules::PIECE;
 ghost use mathlib.Core.Path.{_≡_};
 ghost use mathlib.Core.Bool.{_&&_};
 ghost use mathlib.Core.List.{[], _∷_};
@@ -34,7 +34,7 @@ pub fn take_lines(w: &mut [u64], n: usize, counts: &[u32], kinds: &[u8]) -> usiz
         if is_plain(count, kinds[k]) {
             chain_pieces::put_record(
                 w,
-                n * TAKEN + m * RECORD,
+                n * TAKEN + m * PIECE,
                 m as u64,
                 1,
                 0,

@@ -14,7 +14,7 @@ use borrow.Author.Tests.{le-ltb, eqb-true}
 use Rattle.rules.specs.Lists.{one, from, upto, total}
 use Rattle.rules.specs.Plane.{Point, points, flat}
 use Rattle.rules.specs.Chaining.{Piece, nothing, Line}
-use Rattle.rules.specs.Layout.{lines, copied, copy, five, table}
+use Rattle.rules.specs.Layout.{lines, copied, copy, five, pieceTable}
 use Rattle.rules.specs.Types.{widthOf}
 use Rattle.rules.specs.Refusals.{rooms, recordSize, entry, sourceOf, noChain}
 use Rattle.build_question.specs.Parts.{partOf}
@@ -136,7 +136,7 @@ module _
     (own : (k : ℕ) → Stands w input (total (take k counts)) (getD ls k noLine .points))
     (t m a c s z : List ℕ) where
   abbrev table′ : List ℕ
-  table′ = table counts 0 0 ps ++ t
+  table′ = pieceTable counts 0 0 ps ++ t
 
   abbrev members′ : List ℕ
   members′ = flatMap (λ p. p .lines) ps ++ m
@@ -183,15 +183,15 @@ module _
     pre-size = length-take-le q ps (omega arith)
 
     -- the five numbers
-    words : take recordSize (drop (q * recordSize) (table counts 0 0 ps)) ≡ five counts before copies p
+    words : take recordSize (drop (q * recordSize) (pieceTable counts 0 0 ps)) ≡ five counts before copies p
     words =
-        ap₂ (λ (k : ℕ) (l : List Piece). take recordSize (drop (k * recordSize) (table counts 0 0 l))) (sym pre-size) whole ∙ record-at counts pre p post
+        ap₂ (λ (k : ℕ) (l : List Piece). take recordSize (drop (k * recordSize) (pieceTable counts 0 0 l))) (sym pre-size) whole ∙ record-at counts pre p post
 
     word : (i : ℕ) → i < recordSize → entry table′ q i ≡ getD (five counts before copies p) i 0
     word i h =
-        List·getD-append (table counts 0 0 ps) t 0 (q * recordSize + i) (omega (arith, table-length counts 0 0 ps))
-        ∙ sym (getD-drop (q * recordSize) (table counts 0 0 ps) i 0)
-        ∙ sym (getD-take recordSize (drop (q * recordSize) (table counts 0 0 ps)) i 0 h)
+        List·getD-append (pieceTable counts 0 0 ps) t 0 (q * recordSize + i) (omega (arith, table-length counts 0 0 ps))
+        ∙ sym (getD-drop (q * recordSize) (pieceTable counts 0 0 ps) i 0)
+        ∙ sym (getD-take recordSize (drop (q * recordSize) (pieceTable counts 0 0 ps)) i 0 h)
         ∙ ap (λ (l : List ℕ). getD l i 0) words
 
     common : let r = five counts before copies p in (getD r 0 0 ≡ before) × (getD r 1 0 ≡ length (p .lines)) × (getD r 4 0 ≡ length (p .points))
@@ -232,7 +232,7 @@ module _
     -- ---- the coordinates
 
     row : q * recordSize + recordSize ≤ length table′
-    row = omega (arith, length-append (table counts 0 0 ps) t, table-length counts 0 0 ps)
+    row = omega (arith, length-append (pieceTable counts 0 0 ps) t, table-length counts 0 0 ps)
 
     view-copied : copied p ≡ true → partOf w input merged′ table′ q ≡ flat w (p .points)
     unfolding five copy sourceOf
@@ -301,7 +301,7 @@ module _
 
   -- WHAT IS READ IS THE CHAINS
   pub chains-read : readAll type input
-      (rooms (table counts 0 0 ps ++ t) (flatMap (λ p. p .lines) ps ++ m) (flatMap (λ p. p .marks) ps ++ a) (flat w (flatMap copy ps) ++ c) s z) (length ps)
+      (rooms (pieceTable counts 0 0 ps ++ t) (flatMap (λ p. p .lines) ps ++ m) (flatMap (λ p. p .marks) ps ++ a) (flat w (flatMap copy ps) ++ c) s z) (length ps)
       ≡ map (readOf w) ps
   unfolding readAll
   chains-read = by-index (readAt type input (rooms table′ members′ marks′ merged′ s z)) (readOf w) nothing ps chain-read

@@ -20,7 +20,7 @@ use Rattle.point_numbers.proofs.Widths.{width-two}
 use Rattle.rules.specs.Layout.{Lines}
 use Rattle.rules.specs.Types.{widthOf, noType}
 use Rattle.build_refusals.specs.Admitted.{Admitted}
-use Rattle.rules.specs.Refusals.{Rooms, anyAbove, nowhere, anyNowhere, firstOf, refusalOf, mostLines, mostPoints, lineRoom, recordSize}
+use Rattle.rules.specs.Refusals.{Rooms, anyAbove, nowhere, anyNowhere, originBad, firstOf, refusalOf, mostLines, mostPoints, lineRoom, recordSize}
 use Rattle.build_refusals.specs.Tests.{wildOf, switchBad, roomShort}
 
 -- ---- sums and kinds
@@ -134,6 +134,7 @@ tests t l s o =
     ∷ (5, ltb mostPoints c)
     ∷ (15, anyNowhere (points (widthOf t) (l .coordinates)))
     ∷ (6, switchBad (s .switch) (s .limit))
+    ∷ (17, originBad (s .«origin_x») (s .«origin_y»))
     ∷ (7, roomShort n numbers (length (o .table)) (length (o .members)) (length (o .marks)) (length (o .merged)) (length (o .spare)) (length (o .workspace)))
     ∷ []
 
@@ -218,8 +219,9 @@ admitted t l s o z =
     let t₆ = off (t₅ .1) in
     let t₇ = off (t₆ .1) in
     let t₈ = off (t₇ .1) in
+    let t₉ = off (t₈ .1) in
     let both = or-off (not (eqb (length (l .groups)) n)) (not (eqb (length (l .kinds)) n)) (t₂ .0) in
-    let r₁ = or-off (ltb (length (o .table)) (n * recordSize)) _ (t₈ .0) in
+    let r₁ = or-off (ltb (length (o .table)) (n * recordSize)) _ (t₉ .0) in
     let r₂ = or-off (ltb (length (o .members)) n) _ (r₁ .1) in
     let r₃ = or-off (ltb (length (o .marks)) n) _ (r₂ .1) in
     let r₄ = or-off (ltb (length (o .merged)) numbers) _ (r₃ .1) in
@@ -233,6 +235,7 @@ admitted t l s o z =
       small = ltb-false 65536 (total (l .counts)) (t₅ .0);
       places = t₆ .0;
       switched = t₇ .0;
+      cornered = t₈ .0;
       table-long = ltb-false (length (o .table)) (n * recordSize) (r₁ .0);
       members-long = ltb-false (length (o .members)) n (r₂ .0);
       marks-long = ltb-false (length (o .marks)) n (r₃ .0);

@@ -8,7 +8,7 @@ use Rattle.rules.specs.Lists.{total}
 use Rattle.rules.specs.Plane.{points}
 use Rattle.rules.specs.Layout.{Lines}
 use Rattle.rules.specs.Types.{widthOf}
-use Rattle.rules.specs.Refusals.{Rooms, anyNowhere, mostLines, mostPoints, recordSize, lineRoom}
+use Rattle.rules.specs.Refusals.{Rooms, anyNowhere, originBad, mostLines, mostPoints, recordSize, lineRoom}
 use Rattle.build_refusals.specs.Tests.{switchBad}
 
 pub record Admitted (t : ℕ) (l : Lines) (s : Settings) (o : Rooms) : Type 0 where
@@ -20,6 +20,7 @@ pub record Admitted (t : ℕ) (l : Lines) (s : Settings) (o : Rooms) : Type 0 wh
   pub small : total (l .counts) ≤ mostPoints
   pub places : anyNowhere (points (widthOf t) (l .coordinates)) ≡ false
   pub switched : switchBad (s .switch) (s .limit) ≡ false
+  pub cornered : originBad (s .«origin_x») (s .«origin_y») ≡ false
   pub table-long : length (l .counts) * recordSize ≤ length (o .table)
   pub members-long : length (l .counts) ≤ length (o .members)
   pub marks-long : length (l .counts) ≤ length (o .marks)

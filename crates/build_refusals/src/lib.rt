@@ -12,7 +12,7 @@ ghost use lib.ListN.{length};
 ghost use Rattle.rules.specs.Lists.{total as total-of};
 ghost use Rattle.rules.specs.Plane.{points};
 ghost use Rattle.rules.specs.Layout.{lent};
-ghost use Rattle.rules.specs.Refusals.{anyAbove, anyNowhere, limitBad, rooms, refusalOf, mostLines};
+ghost use Rattle.rules.specs.Refusals.{anyAbove, anyNowhere, limitBad, originBad, rooms, refusalOf, mostLines};
 ghost use Rattle.point_numbers.specs.Width.{Whole};
 ghost use Rattle.build_refusals.specs.Tests.{wildOf, switchBad, roomShort};
 
@@ -121,6 +121,16 @@ fn switch_bad(switch: u8, limit: f64) -> bool
     false
 }
 
+// Whether an origin is NaN or infinite.
+fn origin_bad(x: f64, y: f64) -> bool
+    ensures { λ r. ⌜ r ≡ originBad x y ⌝ }
+{
+    if float_order::is_finite(x) {
+        return !float_order::is_finite(y);
+    }
+    true
+}
+
 // Whether a room is shorter than n lines and the numbers of their coordinates ask for.
 fn room_short(
     n: usize,
@@ -199,6 +209,9 @@ pub fn refusal(
     }
     if switch_bad(settings.switch, settings.limit) {
         return 6;
+    }
+    if origin_bad(settings.origin_x, settings.origin_y) {
+        return 17;
     }
     if room_short(
         n,

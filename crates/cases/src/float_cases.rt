@@ -49,6 +49,8 @@ fn straight_on(dx: u64, limit: f64) -> bool {
     let laid = [-1.0, 0.0, 0.0, 0.0, x, 0.0, 0.0, 0.0, 0.0, 1.0];
     let on = Settings {
         tolerance: 0.0,
+        origin_x: 0.0,
+        origin_y: 0.0,
         switch: 1,
         limit,
     };
@@ -71,6 +73,8 @@ fn stops(dx: u64, limit: f64) -> bool {
     let lines = [0.0, 0.0, x, 0.0, 0.0, 0.0, -1.0, 0.0, 0.0, 0.0, 0.0, 1.0];
     let on = Settings {
         tolerance: 0.0,
+        origin_x: 0.0,
+        origin_y: 0.0,
         switch: 1,
         limit,
     };
@@ -92,7 +96,7 @@ pub fn directions() -> bool {
 
 // Whether the word that stands in a key for the cell of v at tolerance 1 is `word`: 2^63 more than the cell.
 fn in_cell(v: f64, word: u64) -> bool {
-    float_cell::cell_key(float_bits::bits_of(v), 1.0) == word
+    float_cell::cell_key(float_bits::bits_of(v), 0.0, 1.0) == word
 }
 
 // N: -0.25 is in the cell of -0.75 and not in that of 0.5, in which -0.0 is.

@@ -143,6 +143,8 @@ fn shows<'a>(
 pub fn exactly() -> Settings {
     Settings {
         tolerance: 0.0,
+        origin_x: 0.0,
+        origin_y: 0.0,
         switch: 0,
         limit: 0.0,
     }
@@ -152,6 +154,8 @@ pub fn exactly() -> Settings {
 pub fn coarse() -> Settings {
     Settings {
         tolerance: 1.0,
+        origin_x: 0.0,
+        origin_y: 0.0,
         switch: 0,
         limit: 0.0,
     }

@@ -18,7 +18,7 @@ use Rattle.rules.specs.Lists.{keep, first, upto}
 use Rattle.rules.specs.Plane.{Point, point, equal, sameKey, exactKey, cellKey, keyOf, straight, directionOf, nought}
 use Rattle.rules.specs.Selecting.{End, Pair, select}
 use Rattle.rules.specs.Walking.{pieceOf, sideOf, walks}
-use Rattle.rules.specs.Chaining.{Piece, nothing, Rule, mate, lay, pieceAt, run, keyAt, node, endAt, chosen, joined, partner, merged, merge, join, Line, plain, alone, pieces, ruleOf, roundOne, roundTwo, chains}
+use Rattle.rules.specs.Chaining.{cellsOf, Piece, nothing, Rule, mate, lay, pieceAt, run, keyAt, node, endAt, chosen, joined, partner, merged, merge, join, Line, plain, alone, pieces, ruleOf, roundOne, roundTwo, chains}
 use Rattle.chain_laws.proofs.Lines.{map-map}
 use Rattle.chain_extras.specs.Bare.{bare, bareLine, barePiece}
 
@@ -35,7 +35,7 @@ map-turned f (a ∷ l) r = map-turned f l (a ∷ r)
 pub key-bare : (grid : Grid) (g : ℕ) (p : Point) → keyOf grid g (bare p) ≡ keyOf grid g p
 unfolding keyOf exactKey cellKey
 key-bare Exact g p = refl
-key-bare (Cells t) g p = refl
+key-bare (Cells t ox oy) g p = refl
 
 pub equal-bare : (p q : Point) → equal (bare p) (bare q) ≡ equal p q
 unfolding equal
@@ -183,9 +183,9 @@ unfolding roundTwo
 two-bare s ps = go (lt nought (s .tolerance))
   where
     go : (t : Bool)
-        → elim t [ true ↦ join (ruleOf (Cells (s .tolerance)) s) (map barePiece ps) | false ↦ map barePiece ps ]
-        ≡ map barePiece (elim t [ true ↦ join (ruleOf (Cells (s .tolerance)) s) ps | false ↦ ps ])
-    go true = join-bare (ruleOf (Cells (s .tolerance)) s) ps
+        → elim t [ true ↦ join (ruleOf (cellsOf s) s) (map barePiece ps) | false ↦ map barePiece ps ]
+        ≡ map barePiece (elim t [ true ↦ join (ruleOf (cellsOf s) s) ps | false ↦ ps ])
+    go true = join-bare (ruleOf (cellsOf s) s) ps
     go false = refl
 
 -- X AND Y ARE JOINED AS BEFORE: the chains of lines without their extras are the chains without theirs

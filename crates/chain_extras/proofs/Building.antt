@@ -11,7 +11,7 @@ use Rattle.rules.specs.declared.Settings.{Settings}
 use Rattle.rules.specs.Lists.{total}
 use Rattle.rules.specs.Plane.{Point, point, points, flat}
 use Rattle.rules.specs.Chaining.{Piece, Line, chains}
-use Rattle.rules.specs.Layout.{Lines, lines, linesIn, copied, copy, five, table, laidOut, build}
+use Rattle.rules.specs.Layout.{Lines, lines, linesIn, copied, copy, five, pieceTable, laidOut, build}
 use Rattle.rules.specs.Refusals.{nowhere, anyNowhere}
 use Rattle.point_numbers.specs.Width.{Wide, AllWide, none-wide, more-wide}
 use Rattle.point_numbers.proofs.Points.{points-wide, points-flat, points-back}
@@ -112,12 +112,12 @@ five-bare counts m c p =
     let own = total (take (getD (p .lines) 0 0) counts) in
     ap {B = List ℕ} (λ (n : ℕ). m ∷ length (p .lines) ∷ elim (copied p) [ true ↦ 1 ∷ c ∷ n ∷ [] | false ↦ 0 ∷ own ∷ n ∷ [] ]) (length-map (p .points) bare)
 
-table-bare : (counts : List ℕ) (m c : ℕ) (ps : List Piece) → table counts m c (map barePiece ps) ≡ table counts m c ps
-unfolding table
+table-bare : (counts : List ℕ) (m c : ℕ) (ps : List Piece) → pieceTable counts m c (map barePiece ps) ≡ pieceTable counts m c ps
+unfolding pieceTable
 table-bare counts m c [] = refl
 table-bare counts m c (p ∷ ps) =
     ap₂ _++_ (five-bare counts m c p)
-    (ap (λ (n : ℕ). table counts (m + length (p .lines)) (c + n) (map barePiece ps)) (ap length (copy-bare p) ∙ length-map (copy p) bare)
+    (ap (λ (n : ℕ). pieceTable counts (m + length (p .lines)) (c + n) (map barePiece ps)) (ap length (copy-bare p) ∙ length-map (copy p) bare)
     ∙ table-bare counts (m + length (p .lines)) (c + length (copy p)) ps)
 
 members-bare : (ps : List Piece) → flatMap (λ p. p .lines) (map barePiece ps) ≡ flatMap (λ p. p .lines) ps
@@ -183,7 +183,7 @@ module _ (w : ℕ) (s : Settings) (l : Lines) (two : 2 ≤ w) where
   build-bare =
       record {
         number = ap length same-chains ∙ length-map built barePiece;
-        records = ap (table (l .counts) 0 0) same-chains ∙ table-bare (l .counts) 0 0 built;
+        records = ap (pieceTable (l .counts) 0 0) same-chains ∙ table-bare (l .counts) 0 0 built;
         members = ap (flatMap (λ (p : Piece). p .lines)) same-chains ∙ members-bare built;
         marks = ap (flatMap (λ (p : Piece). p .marks)) same-chains ∙ marks-bare built;
         merged =

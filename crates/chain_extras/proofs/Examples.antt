@@ -3,7 +3,7 @@ use Prim.Native.Nat.{ℕ}
 use mathlib.Core.Path.{_≡_, refl}
 use mathlib.Core.Bool.{true, false}
 use mathlib.Core.List.{[], _∷_}
-use lib.Ieee.{lt, eq, div}
+use lib.Ieee.{lt, eq, sub, div}
 use Rattle.rules.specs.declared.Settings.{Settings}
 use Rattle.rules.specs.Plane.{float, points}
 use Rattle.rules.specs.Layout.{Lines, lent, build}
@@ -17,7 +17,7 @@ abbrev odd : ℕ
 odd = 0xfff0000000000007
 
 abbrev tolerant : ℕ → Settings
-tolerant t = record { tolerance = float t; switch = 0; limit = float +0 }
+tolerant t = record { tolerance = float t; «origin_x» = float +0; «origin_y» = float +0; switch = 0; limit = float +0 }
 
 -- ---- two lines of Z: from 0,0 to 1,0, and from 1,0 at another height to 2,0, whose height is a NaN
 abbrev heights : Lines
@@ -56,5 +56,5 @@ both =
 
 pub both-ride : (build 4 (tolerant +1) both .merged ≡ +0 ∷ +0 ∷ +2 ∷ not-a-number ∷ +1 ∷ +0 ∷ +3·5 ∷ +1 ∷ +2 ∷ +0 ∷ odd ∷ -0 ∷ [])
     × (build 4 (tolerant +0) both .number ≡ 2)
-unfolding book lt eq div
+unfolding book lt eq sub div
 both-ride = (refl, refl)

@@ -10,11 +10,11 @@ use lib.Dec.{eqb}
 use lib.Ieee.{lt}
 use lib.ListN.{length, getD}
 use Rattle.rules.specs.declared.Settings.{Settings}
-use Rattle.rules.specs.declared.Grid.the-variants.{Exact, Cells}
+use Rattle.rules.specs.declared.Grid.the-variants.{Exact}
 use Rattle.rules.specs.Lists.{count}
 use Rattle.rules.specs.Plane.{Point, point, equal, nought}
 use Rattle.rules.specs.Walking.{pieceOf, sideOf, walks}
-use Rattle.rules.specs.Chaining.{Piece, nothing, Rule, lay, pieceAt, run, partner, merged, merge, join, Line, plain, alone, pieces, ruleOf, roundOne, roundTwo, chains}
+use Rattle.rules.specs.Chaining.{cellsOf, Piece, nothing, Rule, lay, pieceAt, run, partner, merged, merge, join, Line, plain, alone, pieces, ruleOf, roundOne, roundTwo, chains}
 use Rattle.chain_laws.proofs.Counts.{Each, nil, cons, each-append, each-map, each-weak, each-getD, each-of, count-append, one-same}
 use Rattle.chain_laws.proofs.Lines.{pieces-take, pieces-leave}
 use Rattle.chain_laws.proofs.Sound.{noLine}
@@ -126,8 +126,8 @@ module _ (ls : List Line) where
   unfolding roundTwo
   two-owned s ps a = go (lt nought (s .tolerance))
     where
-      go : (t : Bool) → Each Owned (elim t [ true ↦ join (ruleOf (Cells (s .tolerance)) s) ps | false ↦ ps ])
-      go true = join-owned (ruleOf (Cells (s .tolerance)) s) ps a
+      go : (t : Bool) → Each Owned (elim t [ true ↦ join (ruleOf (cellsOf s) s) ps | false ↦ ps ])
+      go true = join-owned (ruleOf (cellsOf s) s) ps a
       go false = a
 
   pub chains-owned : (s : Settings) → Each (λ (c : Piece). Each (From ls (c .lines)) (c .points)) (chains s ls)

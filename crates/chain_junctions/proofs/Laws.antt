@@ -13,7 +13,7 @@ use Rattle.rules.specs.declared.Direction.{Direction}
 use Rattle.rules.specs.declared.Direction.the-variants.{Absent, Toward}
 use Rattle.rules.specs.Plane.{float, points, directionOf}
 use Rattle.rules.specs.Layout.{given}
-use Rattle.rules.specs.Refusals.{recordSize, sourceOf}
+use Rattle.rules.specs.Refusals.{pieceSize, sourceOf}
 use Rattle.point_direction.specs.Seen.{seen}
 use Rattle.chain_pieces.specs.Held.{recordOf, coordinatesAt, Recorded}
 use Rattle.point_slices.proofs.Laws.{mid-rest, put-rest}
@@ -92,7 +92,7 @@ module _ (w : List ℕ) (d i piece : ℕ) (R : EndsRoom w d) (h : i < d) where
 abbrev pub Same : List ℕ → List ℕ → ℕ → Type 0
 Same w′ w k = (j : ℕ) → j < k → getD w′ j 0 ≡ getD w j 0
 
-module _ (width : ℕ) (w′ w : List ℕ) (k p : ℕ) (input spare : List ℕ) (s : Same w′ w k) (h : p + recordSize ≤ k) where
+module _ (width : ℕ) (w′ w : List ℕ) (k p : ℕ) (input spare : List ℕ) (s : Same w′ w k) (h : p + pieceSize ≤ k) where
   pub source-same : sourceOf (getD w′ (p + 2) 0) input spare ≡ sourceOf (getD w (p + 2) 0) input spare
   source-same = ap (λ (i : ℕ). sourceOf i input spare) (s (p + 2) (omega arith))
 

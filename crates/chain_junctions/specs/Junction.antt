@@ -6,7 +6,7 @@ use mathlib.Core.List.{List}
 use lib.ListN.{length, getD, drop}
 use Rattle.rules.specs.declared.Direction.{Direction}
 use Rattle.rules.specs.Plane.{points, directionOf}
-use Rattle.rules.specs.Refusals.{mostEnds, endRoom, recordSize}
+use Rattle.rules.specs.Refusals.{mostEnds, endRoom, pieceSize}
 use Rattle.point_direction.specs.Seen.{seen}
 use Rattle.chain_pieces.specs.Held.{recordOf, coordinatesAt, Recorded}
 use Rattle.pair_ends.specs.Ends.{directionAt, pieceAt}
@@ -30,7 +30,7 @@ pub record JunctionEnds (width : ℕ) (w : List ℕ) (records list part d : ℕ)
   pub few : d ≤ mostEnds
   pub room : part + d * endRoom ≤ length w
   pub listed : list + d ≤ part
-  pub below : (i : ℕ) → i < d → recordOf records (getD w (list + i) 0 / 2) + recordSize ≤ part
+  pub below : (i : ℕ) → i < d → recordOf records (getD w (list + i) 0 / 2) + pieceSize ≤ part
   pub recorded : (i : ℕ) → i < d → Recorded width w (recordOf records (getD w (list + i) 0 / 2)) input spare
 
 -- each end stands in the part with its direction and its piece; before the part, and beyond what pairing reads, all is as it was

@@ -97,7 +97,7 @@ module _ (w′ w : List ℕ) (k p members : ℕ) (s : Same w′ w k) (hp : p + 5
       → wordsFor width w′ p side members groups input spare grid ≡ wordsFor width w p side members groups input spare grid
   unfolding wordsFor
   words-same width side groups input spare grid = λ i.
-      words (group-same groups i) (wordOf grid (number-same width side 0 input spare i)) (wordOf grid (number-same width side 1 input spare i))
+      words (group-same groups i) (wordOf grid 0 (number-same width side 0 input spare i)) (wordOf grid 1 (number-same width side 1 input spare i))
 
   pub placed-same : (width : ℕ) (input spare : List ℕ) → length w′ ≡ length w → PiecePlaced width w p input spare → PiecePlaced width w′ p input spare
   placed-same width input spare n P =
@@ -158,8 +158,8 @@ module _ (width records members keys count : ℕ) (groups input spare : List ℕ
     unfolding keyed wordsAt wordsFor
     step =
         let g = groupAt w (recordOf records (e / 2)) members groups in
-        let x = wordOf grid (numberAt width w (recordOf records (e / 2)) (e % 2) 0 input spare) in
-        let y = wordOf grid (numberAt width w (recordOf records (e / 2)) (e % 2) 1 input spare) in
+        let x = wordOf grid 0 (numberAt width w (recordOf records (e / 2)) (e % 2) 0 input spare) in
+        let y = wordOf grid 1 (numberAt width w (recordOf records (e / 2)) (e % 2) 1 input spare) in
         let n = K .size in
         let r = Y .room in
         let fit : keys + e * keySize + 3 ≤ length w = omega arith in

@@ -110,11 +110,11 @@ module _ (width : ℕ) (two : 2 ≤ width) (w : List ℕ) (base n : ℕ) (input 
 -- ---- the words and the keys
 
 words-told : (grid : Grid) (g k : ℕ) (p q : Point)
-    → sameWords (words g (wordOf grid (p .x)) (wordOf grid (p .y))) (words k (wordOf grid (q .x)) (wordOf grid (q .y))) ≡ sameKey (keyOf grid g p) (keyOf grid k q)
+    → sameWords (words g (wordOf grid 0 (p .x)) (wordOf grid 1 (p .y))) (words k (wordOf grid 0 (q .x)) (wordOf grid 1 (q .y))) ≡ sameKey (keyOf grid g p) (keyOf grid k q)
 unfolding wordOf sameWords sameKey keyOf exactKey cellKey
 words-told Exact g k p q = refl
-words-told (Cells tolerance) g k p q =
-    ap₂ (λ (x y : Bool). eqb g k && (x && y)) (sym (cell-same-is tolerance (p .x) (q .x))) (sym (cell-same-is tolerance (p .y) (q .y)))
+words-told (Cells tolerance ox oy) g k p q =
+    ap₂ (λ (x y : Bool). eqb g k && (x && y)) (sym (cell-same-is tolerance ox (p .x) (q .x))) (sym (cell-same-is tolerance oy (p .y) (q .y)))
 
 -- ---- what collecting the keys asks
 
@@ -145,15 +145,15 @@ module _ (width : ℕ) (two : 2 ≤ width) (w : List ℕ) (base n : ℕ) (input 
     (rule : Rule) where
   words-are : (e : ℕ) → e < 2 * length ps
       → wordsFor width w (recordOf base (e / 2)) (e % 2) (base + n * memberBlock) groups input copies (rule .grid)
-      ≡ words (pieceAt rule ps e .group) (wordOf (rule .grid) (getD (run rule ps e) 0 (point 0 0) .x)) (wordOf (rule .grid) (getD (run rule ps e) 0 (point 0 0) .y))
+      ≡ words (pieceAt rule ps e .group) (wordOf (rule .grid) 0 (getD (run rule ps e) 0 (point 0 0) .x)) (wordOf (rule .grid) 1 (getD (run rule ps e) 0 (point 0 0) .y))
   unfolding wordsFor groupAt pieceAt
   words-are e b =
       let c : e / 2 < length ps = omega arith in
       let l = g .long (e / 2) c in
       λ i. words
       ((ap (λ (k : ℕ). getD groups k 0) (first-line width two w base n input copies counts ps h e c l) ∙ g .group (e / 2) c) i)
-      (wordOf (rule .grid) (x-is width two w base n input copies counts ps h e c l rule i))
-      (wordOf (rule .grid) (y-is width two w base n input copies counts ps h e c l rule i))
+      (wordOf (rule .grid) 0 (x-is width two w base n input copies counts ps h e c l rule i))
+      (wordOf (rule .grid) 1 (y-is width two w base n input copies counts ps h e c l rule i))
 
   pub words-tell : (e f : ℕ) → e < 2 * length ps → f < 2 * length ps
       → sameWords (wordsFor width w (recordOf base (e / 2)) (e % 2) (base + n * memberBlock) groups input copies (rule .grid))

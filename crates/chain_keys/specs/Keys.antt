@@ -13,7 +13,7 @@ use Rattle.chain_pieces.specs.Held.{recordOf, coordinatesAt, Recorded}
 use Rattle.chain_grouping.specs.Group.{Words, words, wordsAt}
 use Rattle.chain_grouping.specs.Map.{keySize}
 use Rattle.chain_keys.specs.Map.{bothKeys}
-use Rattle.rules.specs.Refusals.{recordSize}
+use Rattle.rules.specs.Refusals.{pieceSize}
 
 -- the group of the first member of the record at p
 unfoldable pub groupAt : List ℕ → ℕ → ℕ → List ℕ → ℕ
@@ -25,17 +25,17 @@ unfolding coordinatesAt
 numberAt width w p side axis input spare =
     let l = coordinatesAt width w p input spare in getD l (cond (eqb side 0) 0 (length l - width) + axis) 0
 
--- a number's word: its bits, or the number of its cell
-unfoldable pub wordOf : Grid → ℕ → ℕ
+-- the word of an x (axis 0) or y (axis 1): its bits, or the number of its cell
+unfoldable pub wordOf : Grid → ℕ → ℕ → ℕ
 unfolding cell
-wordOf Exact bits = bits
-wordOf (Cells tolerance) bits = lifted (cell tolerance bits)
+wordOf Exact axis bits = bits
+wordOf (Cells tolerance ox oy) axis bits = lifted (cell tolerance (cond (eqb axis 0) ox oy) bits)
 
 -- the words of the key at a side of the record at p
 unfoldable pub wordsFor : ℕ → List ℕ → ℕ → ℕ → ℕ → List ℕ → List ℕ → List ℕ → Grid → Words
 unfolding groupAt numberAt wordOf
 wordsFor width w p side members groups input spare grid =
-    words (groupAt w p members groups) (wordOf grid (numberAt width w p side 0 input spare)) (wordOf grid (numberAt width w p side 1 input spare))
+    words (groupAt w p members groups) (wordOf grid 0 (numberAt width w p side 0 input spare)) (wordOf grid 1 (numberAt width w p side 1 input spare))
 
 -- the workspace with the key of end e
 unfoldable pub keyed : ℕ → List ℕ → ℕ → ℕ → ℕ → ℕ → List ℕ → List ℕ → List ℕ → Grid → List ℕ
@@ -45,9 +45,9 @@ keyed width w records members keys e groups input spare grid =
     (set
     (set w (keys + e * keySize) (groupAt w (recordOf records (e / 2)) members groups))
     (keys + e * keySize + 1)
-    (wordOf grid (numberAt width w (recordOf records (e / 2)) (e % 2) 0 input spare)))
+    (wordOf grid 0 (numberAt width w (recordOf records (e / 2)) (e % 2) 0 input spare)))
     (keys + e * keySize + 2)
-    (wordOf grid (numberAt width w (recordOf records (e / 2)) (e % 2) 1 input spare))
+    (wordOf grid 1 (numberAt width w (recordOf records (e / 2)) (e % 2) 1 input spare))
 
 -- the workspace with the exact keys of both ends of piece q
 unfoldable pub bothKeyed : ℕ → List ℕ → ℕ → ℕ → ℕ → ℕ → List ℕ → List ℕ → List ℕ → List ℕ
@@ -76,7 +76,7 @@ pub record Grouping (w : List ℕ) (p members : ℕ) (groups : List ℕ) : Type 
 -- what the keys of `count` pieces ask: records and members stand below the keys
 pub record Keyable (width : ℕ) (w : List ℕ) (records members keys count : ℕ) (groups input spare : List ℕ) : Type 0 where
   pub room : keys + count * bothKeys ≤ length w
-  pub below : records + count * recordSize ≤ keys
+  pub below : records + count * pieceSize ≤ keys
   pub placed : (q : ℕ) → q < count → PiecePlaced width w (recordOf records q) input spare
   pub member : (q : ℕ) → q < count → members + getD w (recordOf records q) 0 < keys
   pub line : (q : ℕ) → q < count → getD w (members + getD w (recordOf records q) 0) 0 < length groups

@@ -1,7 +1,7 @@
 // The keys of a round's ends: for each end three words, its group and one word for each number of its coordinate. Equal words are equal keys.
 use chain_grouping::KEY;
 use rules::Grid;
-use rules::RECORD;
+use rules::PIECE;
 ghost use mathlib.Core.Path.{_≡_};
 ghost use Prim.Native.Nat.{ℕ, _+_, _*_, _/_, _%_, _≤_, _<_};
 ghost use lib.ListN.{length, getD, set};
@@ -68,7 +68,7 @@ fn put_exact<'a>(
     requires { ⌜ PiecePlaced width (now w) (recordOf records q) (now input) (now spare) × Grouping (now w) (recordOf records q) members (now groups) × (keys + q * bothKeys + 6 ≤ length (now w)) ⌝ }
     ensures { λ _. ⌜ now (w .exit) ≡ bothKeyed width (now (w .entry)) records members keys q (now (groups .entry)) (now (input .entry)) (now (spare .entry)) ⌝ }
 {
-    let p = records + q * RECORD;
+    let p = records + q * PIECE;
     let at = keys + q * BOTH_KEYS;
     let behind = at + 3;
     let group = group_of(w, p, members, groups);
@@ -92,14 +92,18 @@ fn put_cells<'a>(
     input: &'a [u64],
     spare: &'a [u64],
     tolerance: f64,
+    origin_x: f64,
+    origin_y: f64,
 )
     requires { ⌜ PiecePlaced width (now w) (recordOf records (e / 2)) (now input) (now spare) × Grouping (now w) (recordOf records (e / 2)) members (now groups) × (keys + e * keySize + 3 ≤ length (now w)) ⌝ }
-    ensures { λ _. ⌜ now (w .exit) ≡ keyed width (now (w .entry)) records members keys e (now (groups .entry)) (now (input .entry)) (now (spare .entry)) (Cells tolerance) ⌝ }
+    ensures { λ _. ⌜ now (w .exit) ≡ keyed width (now (w .entry)) records members keys e (now (groups .entry)) (now (input .entry)) (now (spare .entry)) (Cells tolerance «origin_x» «origin_y») ⌝ }
 {
-    let p = records + e / 2 * RECORD;
+    let p = records + e / 2 * PIECE;
     let group = group_of(w, p, members, groups);
-    let x = float_cell::cell_key(number_at(w, p, width, e % 2, 0, input, spare), tolerance);
-    let y = float_cell::cell_key(number_at(w, p, width, e % 2, 1, input, spare), tolerance);
+    let east = number_at(w, p, width, e % 2, 0, input, spare);
+    let x = float_cell::cell_key(east, origin_x, tolerance);
+    let north = number_at(w, p, width, e % 2, 1, input, spare);
+    let y = float_cell::cell_key(north, origin_y, tolerance);
     put_words(w, keys + e * KEY, group, x, y);
 }
 
@@ -138,9 +142,11 @@ fn collect_cells<'a>(
     input: &'a [u64],
     spare: &'a [u64],
     tolerance: f64,
+    origin_x: f64,
+    origin_y: f64,
 )
     requires { ⌜ Keyable width (now w) records members keys count (now groups) (now input) (now spare) ⌝ }
-    ensures { λ _. ⌜ Keyed width (now (w .exit)) (now (w .entry)) records members keys count (now (groups .entry)) (now (input .entry)) (now (spare .entry)) (Cells tolerance) ⌝ }
+    ensures { λ _. ⌜ Keyed width (now (w .exit)) (now (w .entry)) records members keys count (now (groups .entry)) (now (input .entry)) (now (spare .entry)) (Cells tolerance «origin_x» «origin_y») ⌝ }
 {
     let mut e = 0;
     while e < count * 2 {
@@ -155,6 +161,8 @@ fn collect_cells<'a>(
             input,
             spare,
             tolerance,
+            origin_x,
+            origin_y,
         );
         e += 1;
     }
@@ -188,7 +196,7 @@ pub fn collect_keys<'a>(
             input,
             spare,
         ),
-        Grid::Cells(tolerance) => collect_cells(
+        Grid::Cells(tolerance, origin_x, origin_y) => collect_cells(
             w,
             records,
             members,
@@ -199,6 +207,8 @@ pub fn collect_keys<'a>(
             input,
             spare,
             tolerance,
+            origin_x,
+            origin_y,
         ),
     }
 }

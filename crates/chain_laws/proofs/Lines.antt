@@ -9,11 +9,11 @@ use native.Mathlib.Omega.{arith}
 use lib.Ieee.{lt}
 use lib.ListN.{length, getD}
 use Rattle.rules.specs.declared.Settings.{Settings}
-use Rattle.rules.specs.declared.Grid.the-variants.{Exact, Cells}
+use Rattle.rules.specs.declared.Grid.the-variants.{Exact}
 use Rattle.rules.specs.Lists.{count, from, upto, total}
 use Rattle.rules.specs.Plane.{nought, exactKey, cellKey}
 use Rattle.rules.specs.Walking.{pieceOf, walks}
-use Rattle.rules.specs.Chaining.{Piece, Rule, nothing, pieceAt, merge, join, partner, Line, plain, alone, pieces, limitOf, roundOne, roundTwo, chains, ruleOf}
+use Rattle.rules.specs.Chaining.{cellsOf, Piece, Rule, nothing, pieceAt, merge, join, partner, Line, plain, alone, pieces, limitOf, roundOne, roundTwo, chains, ruleOf}
 use Rattle.chain_laws.proofs.Counts.{zero-of, count-append, upto-in, upto-out, upto-once}
 use Rattle.chain_laws.proofs.Totals.{total-append, total-same}
 use Rattle.chain_laws.proofs.Walks.{walks-count}
@@ -119,7 +119,7 @@ unfolding roundTwo
 two-count s ps y = go (lt nought (s .tolerance)) refl
   where
     go : (t : Bool) → lt nought (s .tolerance) ≡ t → count y (linesOf (roundTwo s ps)) ≡ count y (linesOf ps)
-    go true e = rw (e, roundTwo) (join-count (ruleOf (Cells (s .tolerance)) s) ps y)
+    go true e = rw (e, roundTwo) (join-count (ruleOf (cellsOf s) s) ps y)
     go false e = rw (e, roundTwo)
 
 pub chains-count : (s : Settings) (ls : List Line) (y : ℕ) → count y (linesOf (chains s ls)) ≡ count y (upto (length ls))

@@ -12,8 +12,8 @@ use Rattle.rules.specs.Lists.{total}
 use Rattle.rules.specs.Plane.{Point, flat}
 use Rattle.rules.specs.Chaining.{Piece}
 use Rattle.point_numbers.proofs.Points.{flat-append, flat-length}
-use Rattle.rules.specs.Refusals.{recordSize}
-use Rattle.rules.specs.Layout.{lines, copied, copy, five, table}
+use Rattle.rules.specs.Refusals.{pieceSize}
+use Rattle.rules.specs.Layout.{lines, copied, copy, five, pieceTable}
 use Rattle.chain_laws.proofs.Lines.{flatMap-append}
 use Rattle.chain_laws.proofs.Sound.{noLine}
 
@@ -21,52 +21,52 @@ use Rattle.chain_laws.proofs.Sound.{noLine}
 part : {A : Type 0} (a x b : List A) (m n : ℕ) → length a ≡ m → length x ≡ n → take n (drop m (a ++ (x ++ b))) ≡ x
 part a x b m n h k = ap (take n) (drop-at a (x ++ b) m h) ∙ take-at x b n k
 
-pub five-length : (counts : List ℕ) (m c : ℕ) (p : Piece) → length (five counts m c p) ≡ recordSize
+pub five-length : (counts : List ℕ) (m c : ℕ) (p : Piece) → length (five counts m c p) ≡ pieceSize
 unfolding five
 five-length counts m c p = go (copied p) refl
   where
-    go : (t : Bool) → copied p ≡ t → length (five counts m c p) ≡ recordSize
+    go : (t : Bool) → copied p ≡ t → length (five counts m c p) ≡ pieceSize
     go true e = rw (e, five)
     go false e = rw (e, five)
 
 -- the records of some chains, and those of the chains behind them
 pub table-append : (counts : List ℕ) (m c : ℕ) (a b : List Piece)
-    → table counts m c (a ++ b) ≡ table counts m c a ++ table counts (m + length (flatMap (λ p. p .lines) a)) (c + length (flatMap copy a)) b
-unfolding table flatMap
-table-append counts m c [] b = ap₂ (λ (i j : ℕ). table counts i j b) (sym (add-zero m)) (sym (add-zero c))
+    → pieceTable counts m c (a ++ b) ≡ pieceTable counts m c a ++ pieceTable counts (m + length (flatMap (λ p. p .lines) a)) (c + length (flatMap copy a)) b
+unfolding pieceTable flatMap
+table-append counts m c [] b = ap₂ (λ (i j : ℕ). pieceTable counts i j b) (sym (add-zero m)) (sym (add-zero c))
 table-append counts m c (p ∷ a) b =
     ap {B = List ℕ} (λ l. five counts m c p ++ l) (table-append counts (m + length (p .lines)) (c + length (copy p)) a b)
-    ∙ ap₂ (λ (i j : ℕ). five counts m c p ++ (table counts (m + length (p .lines)) (c + length (copy p)) a ++ table counts i j b))
+    ∙ ap₂ (λ (i j : ℕ). five counts m c p ++ (pieceTable counts (m + length (p .lines)) (c + length (copy p)) a ++ pieceTable counts i j b))
     (omega (arith, length-append (p .lines) (flatMap (λ (p : Piece). p .lines) a)))
     (omega (arith, length-append (copy p) (flatMap copy a)))
-    ∙ sym (append-assoc (five counts m c p) (table counts (m + length (p .lines)) (c + length (copy p)) a) _)
+    ∙ sym (append-assoc (five counts m c p) (pieceTable counts (m + length (p .lines)) (c + length (copy p)) a) _)
 
 -- from the first chain on
 pub table-behind : (counts : List ℕ) (a b : List Piece)
-    → table counts 0 0 (a ++ b) ≡ table counts 0 0 a ++ table counts (length (flatMap (λ p. p .lines) a)) (length (flatMap copy a)) b
+    → pieceTable counts 0 0 (a ++ b) ≡ pieceTable counts 0 0 a ++ pieceTable counts (length (flatMap (λ p. p .lines) a)) (length (flatMap copy a)) b
 table-behind counts a b =
     table-append counts 0 0 a b
-    ∙ ap₂ (λ (i j : ℕ). table counts 0 0 a ++ table counts i j b) (zero-add (length (flatMap (λ (p : Piece). p .lines) a))) (zero-add (length (flatMap copy a)))
+    ∙ ap₂ (λ (i j : ℕ). pieceTable counts 0 0 a ++ pieceTable counts i j b) (zero-add (length (flatMap (λ (p : Piece). p .lines) a))) (zero-add (length (flatMap copy a)))
 
-pub table-length : (counts : List ℕ) (m c : ℕ) (ps : List Piece) → length (table counts m c ps) ≡ length ps * recordSize
-unfolding table
+pub table-length : (counts : List ℕ) (m c : ℕ) (ps : List Piece) → length (pieceTable counts m c ps) ≡ length ps * pieceSize
+unfolding pieceTable
 table-length counts m c [] = refl
 table-length counts m c (p ∷ ps) =
     omega (
       arith,
-      length-append (five counts m c p) (table counts (m + length (p .lines)) (c + length (copy p)) ps),
+      length-append (five counts m c p) (pieceTable counts (m + length (p .lines)) (c + length (copy p)) ps),
       five-length counts m c p,
       table-length counts (m + length (p .lines)) (c + length (copy p)) ps,
     )
 
 module _ (counts : List ℕ) (pre : List Piece) (p : Piece) (post : List Piece) where
   -- record k is that of chain k
-  pub record-at : take recordSize (drop (length pre * recordSize) (table counts 0 0 (pre ++ (p ∷ post))))
+  pub record-at : take pieceSize (drop (length pre * pieceSize) (pieceTable counts 0 0 (pre ++ (p ∷ post))))
       ≡ five counts (length (flatMap (λ p. p .lines) pre)) (length (flatMap copy pre)) p
-  unfolding table
+  unfolding pieceTable
   record-at =
-      ap (λ (l : List ℕ). take recordSize (drop (length pre * recordSize) l)) (table-behind counts pre (p ∷ post))
-      ∙ part (table counts 0 0 pre) (five counts (length (flatMap (λ p. p .lines) pre)) (length (flatMap copy pre)) p) _ (length pre * recordSize) recordSize
+      ap (λ (l : List ℕ). take pieceSize (drop (length pre * pieceSize) l)) (table-behind counts pre (p ∷ post))
+      ∙ part (pieceTable counts 0 0 pre) (five counts (length (flatMap (λ p. p .lines) pre)) (length (flatMap copy pre)) p) _ (length pre * pieceSize) pieceSize
       (table-length counts 0 0 pre) (five-length counts (length (flatMap (λ (p : Piece). p .lines) pre)) (length (flatMap copy pre)) p)
 
   -- its members

@@ -11,13 +11,13 @@ use lib.Dec.{eqb}
 use lib.Ieee.{lt}
 use lib.ListN.{drop, length-take, length, length-append, length-reverse}
 use Rattle.rules.specs.declared.Settings.{Settings}
-use Rattle.rules.specs.declared.Grid.the-variants.{Exact, Cells}
+use Rattle.rules.specs.declared.Grid.the-variants.{Exact}
 use Rattle.rules.specs.Lists.{upto, total}
 use Rattle.rules.specs.Plane.{Point, points, equal, nought, exactKey, cellKey}
 use Rattle.rules.specs.Walking.{sideOf, walks}
-use Rattle.rules.specs.Chaining.{Piece, Rule, pieceAt, run, lay, merged, merge, join, partner, Line, plain, alone, pieces, limitOf, roundOne, roundTwo, chains, ruleOf}
+use Rattle.rules.specs.Chaining.{cellsOf, Piece, Rule, pieceAt, run, lay, merged, merge, join, partner, Line, plain, alone, pieces, limitOf, roundOne, roundTwo, chains, ruleOf}
 use Rattle.rules.specs.Layout.{lines, copied, copy, Laid, laidOut, build, lent}
-use Rattle.rules.specs.Refusals.{recordSize}
+use Rattle.rules.specs.Refusals.{pieceSize}
 use Rattle.chain_laws.proofs.Counts.{upto-length, Each, nil, cons}
 use Rattle.chain_laws.proofs.Totals.{total-append, same-length}
 use Rattle.chain_laws.proofs.Lines.{chains-count, linesOf, along, spread, pieces-take, pieces-leave}
@@ -86,7 +86,7 @@ unfolding roundTwo
 two-size s ps = go (lt nought (s .tolerance)) refl
   where
     go : (t : Bool) → lt nought (s .tolerance) ≡ t → total (map size (roundTwo s ps)) ≤ total (map size ps)
-    go true e = rw (e, roundTwo) (join-size (ruleOf (Cells (s .tolerance)) s) ps)
+    go true e = rw (e, roundTwo) (join-size (ruleOf (cellsOf s) s) ps)
     go false e = rw (e, roundTwo) (omega arith)
 
 pub chains-size : (s : Settings) (ls : List Line) → total (map size (chains s ls)) ≤ total (map (λ l. length (l .points)) ls)
@@ -154,7 +154,7 @@ lines-size ps (c ∷ cs) gs ks = omega (arith, length-take c ps, lines-size (dro
 
 pub record Fits (n numbers : ℕ) (a : Laid) : Type 0 where
   pub chains : a .number ≤ n
-  pub records : length (a .records) ≡ a .number * recordSize
+  pub records : length (a .records) ≡ a .number * pieceSize
   pub members : length (a .members) ≡ n
   pub marks : length (a .marks) ≡ n
   pub merged : length (a .merged) ≤ numbers

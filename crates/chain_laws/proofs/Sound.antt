@@ -15,7 +15,7 @@ use Rattle.rules.specs.declared.Grid.the-variants.{Exact, Cells}
 use Rattle.rules.specs.Lists.{count}
 use Rattle.rules.specs.Plane.{Point, nought, exactKey, cellKey, keyOf}
 use Rattle.rules.specs.Walking.{pieceOf, sideOf, other, walks}
-use Rattle.rules.specs.Chaining.{Piece, Rule, nothing, pieceAt, keyAt, merged, merge, join, partner, Line, plain, alone, pieces, roundOne, roundTwo, chains, ruleOf}
+use Rattle.rules.specs.Chaining.{cellsOf, Piece, Rule, nothing, pieceAt, keyAt, merged, merge, join, partner, Line, plain, alone, pieces, roundOne, roundTwo, chains, ruleOf}
 use Rattle.chain_laws.proofs.Counts.{Each, nil, cons, each-append, each-map, each-weak, each-getD, one-same, one-other, count-append}
 use Rattle.chain_laws.proofs.Ends.{other-piece}
 use Rattle.chain_laws.proofs.Forward.{Goes, free, ring, next}
@@ -36,7 +36,7 @@ pub record Sound (ls : List Line) (p : Piece) : Type 0 where
 key-tells : (grid : Grid) (g h : ℕ) (a b : Point) → keyOf grid g a ≡ keyOf grid h b → g ≡ h
 unfolding keyOf exactKey cellKey
 key-tells Exact g h a b q = cc
-key-tells (Cells t) g h a b q = cc
+key-tells (Cells t ox oy) g h a b q = cc
 
 module _ (rule : Rule) (ps : List Piece) where
   same-piece : (e f : ℕ) → pieceOf e ≡ pieceOf f → pieceAt rule ps e ≡ pieceAt rule ps f
@@ -155,7 +155,7 @@ two-sound ls s ps a = go (lt nought (s .tolerance)) refl
     go : (t : Bool) → lt nought (s .tolerance) ≡ t → Each (Sound ls) (roundTwo s ps)
     go true e =
         rw (e, roundTwo)
-        (join-sound (ruleOf (Cells (s .tolerance)) s) ps ls a)
+        (join-sound (ruleOf (cellsOf s) s) ps ls a)
     go false e = rw (e, roundTwo) a
 
 -- EVERY CHAIN IS SOUND

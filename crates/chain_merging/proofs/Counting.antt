@@ -7,7 +7,7 @@ use lib.ListN.{length, getD, length-append}
 use lib.Seq.{slice, slice-empty}
 use Rattle.rules.specs.Walking.{pieceOf}
 use Rattle.rules.specs.Chaining.{pieceAt, merge}
-use Rattle.rules.specs.Refusals.{recordSize}
+use Rattle.rules.specs.Refusals.{pieceSize}
 use Rattle.chain_pieces.specs.Held.{recordOf}
 use Rattle.chain_pieces.proofs.Reading.{member-count, record-inside}
 use Rattle.chain_merging.specs.Emit.{Entered, Counted, joinedOf}
@@ -43,7 +43,7 @@ module _ (w : List ℕ) (old from to : ℕ) (y : Counted w old from to) where
     below : q < length (z .ps)
     below = z .below k (o .low) h
 
-    pub counted-inside : recordOf old (pieceOf (getD w k 0)) + recordSize ≤ length w
+    pub counted-inside : recordOf old (pieceOf (getD w k 0)) + pieceSize ≤ length w
     counted-inside =
         omega (arith, record-inside (y .width) w old (z .n) (y .input) (y .spare) (z .counts) (z .ps) (z .held) q below, z .held .room)
 

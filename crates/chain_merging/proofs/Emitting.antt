@@ -12,8 +12,8 @@ use Rattle.rules.specs.Lists.{total}
 use Rattle.rules.specs.Plane.{Point, flat}
 use Rattle.rules.specs.Walking.{pieceOf}
 use Rattle.rules.specs.Chaining.{Piece, Rule, pieceAt, merge}
-use Rattle.rules.specs.Layout.{copy, five, table}
-use Rattle.rules.specs.Refusals.{recordSize}
+use Rattle.rules.specs.Layout.{copy, five, pieceTable}
+use Rattle.rules.specs.Refusals.{pieceSize}
 use Rattle.rules.specs.Calls.{written}
 use Rattle.chain_laws.proofs.Totals.{total-append}
 use Rattle.chain_laws.proofs.Lines.{flatMap-append, along}
@@ -51,11 +51,11 @@ module _ (rule : Rule) (ps : List Piece) where
 
 -- one record more
 table-more : (counts : List ℕ) (ps : List Piece) (p : Piece)
-    → table counts 0 0 (ps ++ (p ∷ [])) ≡ table counts 0 0 ps ++ five counts (length (linesOf ps)) (length (flatMap copy ps)) p
-unfolding table
+    → pieceTable counts 0 0 (ps ++ (p ∷ [])) ≡ pieceTable counts 0 0 ps ++ five counts (length (linesOf ps)) (length (flatMap copy ps)) p
+unfolding pieceTable
 table-more counts ps p =
     table-behind counts ps (p ∷ [])
-    ∙ ap (λ (l : List ℕ). table counts 0 0 ps ++ l) (append-nil (five counts (length (linesOf ps)) (length (flatMap copy ps)) p))
+    ∙ ap (λ (l : List ℕ). pieceTable counts 0 0 ps ++ l) (append-nil (five counts (length (linesOf ps)) (length (flatMap copy ps)) p))
 
 module _ (width : ℕ) (w₀ : List ℕ) (n old m entries lengths r : ℕ) (input spare g₀ : List ℕ) (y : Walks width w₀ n old m entries lengths r input spare g₀) where
   abbrev merging : List ℕ → Piece
@@ -68,7 +68,7 @@ module _ (width : ℕ) (w₀ : List ℕ) (n old m entries lengths r : ℕ) (inpu
     pub high : j ≤ r
     pub size-same : length w ≡ length w₀
     pub rest : drop (n * memberBlock) w ≡ drop (n * memberBlock) w₀
-    pub records : slice 0 (j * recordSize) w ≡ table (y .counts) 0 0 (map (merge (y .rule) (y .ps)) (take j (y .ws)))
+    pub records : slice 0 (j * pieceSize) w ≡ pieceTable (y .counts) 0 0 (map (merge (y .rule) (y .ps)) (take j (y .ws)))
     pub from-is : from ≡ entries + length (flatten (take j (y .ws)))
     pub members-is : members ≡ length (linesOf (map (merge (y .rule) (y .ps)) (take j (y .ws))))
     pub points-is : points ≡ length (flatMap copy (map (merge (y .rule) (y .ps)) (take j (y .ws))))
@@ -76,7 +76,7 @@ module _ (width : ℕ) (w₀ : List ℕ) (n old m entries lengths r : ℕ) (inpu
     pub merged-size : length merged ≡ length g₀
 
   pub emitting-start : Emitting w₀ g₀ entries 0 0 0
-  unfolding flatten flatMap table flat
+  unfolding flatten flatMap pieceTable flat
   emitting-start =
       record {
         high = omega arith;
@@ -101,7 +101,7 @@ module _ (width : ℕ) (w₀ : List ℕ) (n old m entries lengths r : ℕ) (inpu
       let c : 0 + points * width ≡ length (flat width (flatMap copy qs)) = omega (arith, ap (λ (i : ℕ). i * width) number, flat-length width (flatMap copy qs)) in
       record {
         size = o .size-same;
-        records = ap (λ (i : ℕ). slice 0 (i * recordSize) w) (sym k) ∙ o .records ∙ ap (λ (l : List (List ℕ)). table (y .counts) 0 0 (map merging l)) all;
+        records = ap (λ (i : ℕ). slice 0 (i * pieceSize) w) (sym k) ∙ o .records ∙ ap (λ (l : List (List ℕ)). pieceTable (y .counts) 0 0 (map merging l)) all;
         rest = o .rest;
         merged-is =
             o .copied .list
@@ -218,7 +218,7 @@ module _ (width : ℕ) (w₀ : List ℕ) (n old m entries lengths r : ℕ) (inpu
     points-fit = omega (arith, mul-le-mul-right width points-few, add-mul points (pointsIn (y .rule) (y .ps) es) width, y .fits, o .merged-size)
 
     abbrev pub emittable : (b : ℕ) → b ≡ length (merge (y .rule) (y .ps) (slice from (from + getD w (lengths + j) 0) w) .lines)
-        → Emittable width w old from (from + getD w (lengths + j) 0) input spare merged (j * recordSize) b points
+        → Emittable width w old from (from + getD w (lengths + j) 0) input spare merged (j * pieceSize) b points
     emittable b e =
         record {
           laying = record { entered = entered; fits = rw entries-are points-fit };
@@ -231,18 +231,18 @@ module _ (width : ℕ) (w₀ : List ℕ) (n old m entries lengths r : ℕ) (inpu
 
     module _ (b : ℕ) (e : b ≡ length (merge (y .rule) (y .ps) (slice from (from + getD w (lengths + j) 0) w) .lines))
         (w′ merged′ : List ℕ) (c : ℕ)
-        (s : Emitted width w′ w merged′ merged (y .counts) (merge (y .rule) (y .ps) (slice from (from + getD w (lengths + j) 0) w)) (j * recordSize) members points c)
+        (s : Emitted width w′ w merged′ merged (y .counts) (merge (y .rule) (y .ps) (slice from (from + getD w (lengths + j) 0) w)) (j * pieceSize) members points c)
       where
         abbrev p : Piece
         p = merging es
 
-        t : Emitted width w′ w merged′ merged (y .counts) p (j * recordSize) members points c
+        t : Emitted width w′ w merged′ merged (y .counts) p (j * pieceSize) members points c
         t = rw entries-are at s
 
         made-next : made (j + 1) ≡ made j ++ (p ∷ [])
         made-next = ap (map merging) taken ∙ map-append merging before (es ∷ [])
 
-        in-front : j * recordSize + 5 ≤ length w
+        in-front : j * pieceSize + 5 ≤ length w
         in-front = omega (arith, y .few, y .front, y .held .room, o .size-same)
 
         copies-next : flatMap copy (made (j + 1)) ≡ flatMap copy (made j) ++ copy p
@@ -280,7 +280,7 @@ module _ (width : ℕ) (w₀ : List ℕ) (n old m entries lengths r : ℕ) (inpu
         unfolding flatten
         emitting-step =
             let f : points * width + length (copy p) * width ≡ c * width = omega (arith, ap (λ (i : ℕ). i * width) (t .count), add-mul points (length (copy p)) width) in
-            let g : j * recordSize + 5 ≡ (j + 1) * recordSize = omega arith in
+            let g : j * pieceSize + 5 ≡ (j + 1) * pieceSize = omega arith in
             record {
               high = omega arith;
               size-same = from-length (t .row) in-front ∙ o .size-same;
@@ -289,9 +289,9 @@ module _ (width : ℕ) (w₀ : List ℕ) (n old m entries lengths r : ℕ) (inpu
                   ap (λ (i : ℕ). slice 0 i w′) (sym g)
                   ∙ slice-more (t .row) in-front 0 (omega arith)
                   ∙ ap₂ (λ (a : List ℕ) (i : ℕ). a ++ five (y .counts) i points p) (o .records) (o .members-is)
-                  ∙ ap (λ (i : ℕ). table (y .counts) 0 0 (made j) ++ five (y .counts) (length (linesOf (made j))) i p) (o .points-is)
+                  ∙ ap (λ (i : ℕ). pieceTable (y .counts) 0 0 (made j) ++ five (y .counts) (length (linesOf (made j))) i p) (o .points-is)
                   ∙ sym (table-more (y .counts) (made j) p)
-                  ∙ ap (table (y .counts) 0 0) (sym made-next);
+                  ∙ ap (pieceTable (y .counts) 0 0) (sym made-next);
               from-is =
                   omega (
                     arith,

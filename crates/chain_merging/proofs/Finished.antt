@@ -9,8 +9,8 @@ use lib.Seq.{slice, take-take, take-at}
 use Rattle.rules.specs.Plane.{flat}
 use Rattle.rules.specs.Walking.{pieceOf, sideOf}
 use Rattle.rules.specs.Chaining.{Piece, Rule, nothing, pieceAt, merged, merge}
-use Rattle.rules.specs.Layout.{copy, table}
-use Rattle.rules.specs.Refusals.{recordSize}
+use Rattle.rules.specs.Layout.{copy, pieceTable}
+use Rattle.rules.specs.Refusals.{pieceSize}
 use Rattle.rules.specs.Calls.{written}
 use Rattle.chain_laws.proofs.Counts.{Each, nil, cons, each-map, each-weak, each-getD, each-of}
 use Rattle.chain_laws.proofs.Lines.{flatMap-append}
@@ -183,12 +183,12 @@ module _ (width : ℕ) (w₀ : List ℕ) (n old m entries lengths r : ℕ) (inpu
         size : length w₂ ≡ length w₀
         size = s .size ∙ t .size
 
-        records-are : slice 0 (0 + length qs * recordSize) w₂ ≡ table (y .counts) 0 0 qs
+        records-are : slice 0 (0 + length qs * pieceSize) w₂ ≡ pieceTable (y .counts) 0 0 qs
         records-are =
-            let e : 0 + length qs * recordSize ≡ length qs * recordSize = omega arith in
-            let b : length qs * recordSize ≤ n * memberBlock = omega (arith, qs-size, y .few) in
+            let e : 0 + length qs * pieceSize ≡ length qs * pieceSize = omega arith in
+            let b : length qs * pieceSize ≤ n * memberBlock = omega (arith, qs-size, y .few) in
             ap (λ (k : ℕ). slice 0 k w₂) e
-            ∙ sym (take-take (length qs * recordSize) (n * memberBlock) w₂ b) ∙ ap (take (length qs * recordSize)) (s .front) ∙ take-take (length qs * recordSize) (n * memberBlock) w₁ b
+            ∙ sym (take-take (length qs * pieceSize) (n * memberBlock) w₂ b) ∙ ap (take (length qs * pieceSize)) (s .front) ∙ take-take (length qs * pieceSize) (n * memberBlock) w₁ b
             ∙ t .records
 
         members-are : slice (0 + n * memberBlock) (0 + n * memberBlock + length (linesOf qs)) w₂ ≡ linesOf qs

@@ -9,7 +9,7 @@ use lib.ListN.{length, take-append-drop, getD, take, drop, replicate, length-app
 use lib.Seq.{slice, slice-empty, take-suc, take-all}
 use Rattle.rules.specs.Walking.{pieceOf, sideOf}
 use Rattle.rules.specs.Chaining.{pieceAt}
-use Rattle.rules.specs.Refusals.{recordSize}
+use Rattle.rules.specs.Refusals.{pieceSize}
 use Rattle.chain_laws.proofs.Lines.{flatMap-append}
 use Rattle.point_slices.specs.Holds.{HoldsFrom}
 use Rattle.point_slices.proofs.Laws.{rest-getD, from-length, slice-below, slice-beyond, slice-more, part-length, take-before, drop-past}
@@ -105,7 +105,7 @@ module _ (w₀ : List ℕ) (n old entries m : ℕ) (y : PiecesListable w₀ n ol
     abbrev from : ℕ
     from = old + n * memberBlock + getD w at 0
 
-    pub listing-record : recordOf old (pieceOf (getD w (entries + k) 0)) + recordSize ≤ length w
+    pub listing-record : recordOf old (pieceOf (getD w (entries + k) 0)) + pieceSize ≤ length w
     listing-record = omega (arith, record-inside (y .width) w old n (y .input) (y .copies) (y .counts) (y .ps) held q below, held .room)
 
     pub listing-part : old + n * memberBlock + getD w (recordOf old (pieceOf (getD w (entries + k) 0))) 0 + getD w (recordOf old (pieceOf (getD w (entries + k) 0)) + 1) 0 ≤ length w

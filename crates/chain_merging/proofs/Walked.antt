@@ -13,7 +13,7 @@ use lib.Seq.{slice}
 use Rattle.rules.specs.Plane.{Point, flat}
 use Rattle.rules.specs.Walking.{pieceOf}
 use Rattle.rules.specs.Chaining.{Piece, nothing, pieceAt, merge}
-use Rattle.rules.specs.Refusals.{recordSize}
+use Rattle.rules.specs.Refusals.{pieceSize}
 use Rattle.point_numbers.proofs.Points.{flat-length}
 use Rattle.point_slices.specs.Holds.{HoldsFrom}
 use Rattle.point_slices.proofs.Laws.{from-start}
@@ -33,7 +33,7 @@ module _ (width : ℕ) (w : List ℕ) (old from to : ℕ) (input spare : List �
   below : q < length (z .ps)
   below = z .below from (omega arith) (z .some)
 
-  pub first-inside : recordOf old (pieceOf (getD w from 0)) + recordSize ≤ length w
+  pub first-inside : recordOf old (pieceOf (getD w from 0)) + pieceSize ≤ length w
   first-inside = omega (arith, record-inside width w old (z .n) input spare (z .counts) (z .ps) (z .held) q below, z .held .room)
 
   -- every piece has a line

@@ -9,8 +9,8 @@ use Rattle.rules.specs.Lists.{total}
 use Rattle.rules.specs.Plane.{flat}
 use Rattle.rules.specs.Walking.{pieceOf}
 use Rattle.rules.specs.Chaining.{Piece, Rule, pieceAt, merge}
-use Rattle.rules.specs.Layout.{copy, five, table}
-use Rattle.rules.specs.Refusals.{recordSize}
+use Rattle.rules.specs.Layout.{copy, five, pieceTable}
+use Rattle.rules.specs.Refusals.{pieceSize}
 use Rattle.rules.specs.Calls.{written}
 use Rattle.chain_pieces.specs.Held.{linesOf, marksOf, Held}
 use Rattle.point_slices.specs.Holds.{HoldsFrom}
@@ -54,13 +54,13 @@ joinedOf {w = w} {from = from} {to} y = merge (y .rule) (y .ps) (slice from to w
 -- its record goes to the front of w, at `at`; c points stand in `merged` already, and it has b members
 pub record Emittable (width : ℕ) (w : List ℕ) (old from to : ℕ) (input spare merged : List ℕ) (at b c : ℕ) : Type 0 where
   pub laying : Mergeable width w old from to input spare merged (c * width)
-  pub front : at + recordSize ≤ old
+  pub front : at + pieceSize ≤ old
   pub members : b ≡ length (joinedOf (laying .entered) .lines)
 
 -- what is left of it: m members stand before its own
 pub record Emitted (width : ℕ) (w′ w : List ℕ) (merged′ merged counts : List ℕ) (p : Piece) (at m c r : ℕ) : Type 0 where
   pub count : r ≡ c + length (copy p)
-  pub row : HoldsFrom w′ w at recordSize (five counts m c p)
+  pub row : HoldsFrom w′ w at pieceSize (five counts m c p)
   pub copied : HoldsFrom merged′ merged (c * width) (length (copy p) * width) (flat width (copy p))
 
 -- ---- the members and marks of all walks, whose m entries stand one after another
@@ -118,7 +118,7 @@ pub record Walks (width : ℕ) (w : List ℕ) (n old m entries lengths r : ℕ) 
 -- the records of the pieces qs that come out stand at the front, and their copies in `merged`
 pub record Tabled (width : ℕ) (w′ w : List ℕ) (n : ℕ) (merged′ merged counts : List ℕ) (qs : List Piece) : Type 0 where
   pub size : length w′ ≡ length w
-  pub records : slice 0 (length qs * recordSize) w′ ≡ table counts 0 0 qs
+  pub records : slice 0 (length qs * pieceSize) w′ ≡ pieceTable counts 0 0 qs
   pub rest : drop (n * memberBlock) w′ ≡ drop (n * memberBlock) w
   pub merged-is : merged′ ≡ written (flat width (flatMap copy qs)) merged
 

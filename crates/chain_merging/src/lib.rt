@@ -2,7 +2,7 @@
 // coordinates of those that are no line alone into `merged`.
 use chain_pieces::MARKS;
 use chain_pieces::MEMBERS;
-use rules::RECORD;
+use rules::PIECE;
 ghost use mathlib.Core.Path.{_≡_};
 ghost use mathlib.Core.List.{[], _∷_, map, flatMap};
 ghost use mathlib.Core.Option.{none};
@@ -56,7 +56,7 @@ fn append_walk<'a>(
         let e = w[k] as usize;
         have = append_piece(
             w,
-            old + e / 2 * RECORD,
+            old + e / 2 * PIECE,
             width,
             input,
             spare,
@@ -86,7 +86,7 @@ fn lay_walk<'a>(
     ensures { λ r. ⌜ ((y : Mergeable width (now (w .entry)) old from to (now (input .entry)) (now (spare .entry)) (now (merged .entry)) at) → HoldsFrom (now (merged .exit)) (now (merged .entry)) at r (flat width (joinedOf (y .entered) .points))) ⌝ }
 {
     if to - from == 1 {
-        let p = old + w[from] as usize / 2 * RECORD;
+        let p = old + w[from] as usize / 2 * PIECE;
         let c = chain_pieces::coordinates_of(w, p, width, input, spare);
         point_slices::copy_into(merged, at, c);
         return c.len();
@@ -103,7 +103,7 @@ fn count_members(w: &[u64], old: usize, from: usize, to: usize) -> usize
     let mut k = from;
     while k < to {
         let e = w[k] as usize;
-        r += w[old + e / 2 * RECORD + 1] as usize;
+        r += w[old + e / 2 * PIECE + 1] as usize;
         k += 1;
     }
     r
@@ -129,7 +129,7 @@ fn emit_walk<'a>(
     ensures { λ r. ⌜ ((y : Emittable width (now (w .entry)) old from to (now (input .entry)) (now (spare .entry)) (now (merged .entry)) at b c) → Emitted width (now (w .exit)) (now (w .entry)) (now (merged .exit)) (now (merged .entry)) (y .laying .entered .counts) (joinedOf (y .laying .entered)) at m c r) ⌝ }
 {
     if b == 1 {
-        let p = old + w[from] as usize / 2 * RECORD;
+        let p = old + w[from] as usize / 2 * PIECE;
         let first = w[p + 3];
         let count = w[p + 4];
         chain_pieces::put_record(w, at, m as u64, 1, 0, first, count);
@@ -174,7 +174,7 @@ fn emit_walks<'a>(
             input,
             spare,
             merged,
-            j * RECORD,
+            j * PIECE,
             members,
             b,
             points,
@@ -226,7 +226,7 @@ fn list_pieces(w: &mut [u64], n: usize, old: usize, entries: usize, m: usize)
     let mut k: usize = 0;
     while k < m {
         let e = w[entries + k] as usize;
-        let p = old + e / 2 * RECORD;
+        let p = old + e / 2 * PIECE;
         let count = w[p + 1] as usize;
         let from = old + n * MEMBERS + w[p] as usize;
         list_members(w, from, n * MEMBERS + r, n * MARKS + r, count, e as u64 % 2);

@@ -9,7 +9,7 @@ use lib.ListN.{length, getD, drop}
 use lib.Seq.{slice}
 use Rattle.rules.specs.Plane.{sameKey}
 use Rattle.rules.specs.Chaining.{Piece, keyAt}
-use Rattle.rules.specs.Refusals.{recordSize}
+use Rattle.rules.specs.Refusals.{pieceSize}
 use Rattle.chain_pieces.specs.Held.{linesOf, Held}
 use Rattle.point_slices.specs.Holds.{HoldsFrom}
 use Rattle.point_slices.proofs.Laws.{from-length, from-beyond, from-part}
@@ -30,7 +30,7 @@ held-same width w′ w base n input copies counts ps z s h =
       few = f;
       listed = l;
       room = omega arith;
-      records = slice-same w′ w base (length ps * recordSize) z (omega arith) (λ j a b. s j a (omega arith)) ∙ h .records;
+      records = slice-same w′ w base (length ps * pieceSize) z (omega arith) (λ j a b. s j a (omega arith)) ∙ h .records;
       members = slice-same w′ w (base + n * memberBlock) (length (linesOf ps)) z (omega arith) (λ j a b. s j (omega arith) (omega arith)) ∙ h .members;
       full = h .full;
       own = h .own;

@@ -13,8 +13,8 @@ use borrow.Author.Tests.{eq-eqb, ne-eqb}
 use native.Mathlib.Nat.{mul-le-mul-right, add-mul}
 use Rattle.rules.specs.Plane.{points, flat}
 use Rattle.rules.specs.Chaining.{Piece, nothing}
-use Rattle.rules.specs.Layout.{copied, copy, five, table}
-use Rattle.rules.specs.Refusals.{recordSize, sourceOf}
+use Rattle.rules.specs.Layout.{copied, copy, five, pieceTable}
+use Rattle.rules.specs.Refusals.{pieceSize, sourceOf}
 use Rattle.chain_laws.proofs.Lines.{flatMap-append}
 use Rattle.chain_laws.proofs.Records.{record-at, members-at, copy-at}
 use Rattle.point_numbers.specs.Width.{Whole}
@@ -108,23 +108,23 @@ module _ (width : ℕ) (w : List ℕ) (base n : ℕ) (input copies counts : List
       ∙ length-append (flatMap copy pre) (copy p ++ flatMap copy post)
       ∙ ap (λ (k : ℕ). length (flatMap copy pre) + k) (length-append (copy p) (flatMap copy post))
 
-  pub record-inside : at + recordSize ≤ base + n * memberBlock
+  pub record-inside : at + pieceSize ≤ base + n * memberBlock
   record-inside = omega (arith, h .few)
 
   -- the five words
-  words : take recordSize (drop (q * recordSize) (table counts 0 0 ps)) ≡ five counts (length (linesOf pre)) (length (flatMap copy pre)) p
+  words : take pieceSize (drop (q * pieceSize) (pieceTable counts 0 0 ps)) ≡ five counts (length (linesOf pre)) (length (flatMap copy pre)) p
   words =
-      ap₂ (λ (k : ℕ) (l : List Piece). take recordSize (drop (k * recordSize) (table counts 0 0 l))) (sym pre-size) whole ∙ record-at counts pre p post
+      ap₂ (λ (k : ℕ) (l : List Piece). take pieceSize (drop (k * pieceSize) (pieceTable counts 0 0 l))) (sym pre-size) whole ∙ record-at counts pre p post
 
-  word : (i : ℕ) → i < recordSize → getD w (at + i) 0 ≡ getD (five counts (length (linesOf pre)) (length (flatMap copy pre)) p) i 0
+  word : (i : ℕ) → i < pieceSize → getD w (at + i) 0 ≡ getD (five counts (length (linesOf pre)) (length (flatMap copy pre)) p) i 0
   word i c =
-      let e : base + (q * recordSize + i) ≡ at + i = omega arith in
+      let e : base + (q * pieceSize + i) ≡ at + i = omega arith in
       sym (
       ap (λ (l : List ℕ). getD l i 0) (sym words)
-      ∙ getD-take recordSize (drop (q * recordSize) (table counts 0 0 ps)) i 0 c
-      ∙ getD-drop (q * recordSize) (table counts 0 0 ps) i 0
-      ∙ ap (λ (l : List ℕ). getD l (q * recordSize + i) 0) (sym (h .records))
-      ∙ getD-part base (length ps * recordSize) w (q * recordSize + i) (omega arith)
+      ∙ getD-take pieceSize (drop (q * pieceSize) (pieceTable counts 0 0 ps)) i 0 c
+      ∙ getD-drop (q * pieceSize) (pieceTable counts 0 0 ps) i 0
+      ∙ ap (λ (l : List ℕ). getD l (q * pieceSize + i) 0) (sym (h .records))
+      ∙ getD-part base (length ps * pieceSize) w (q * pieceSize + i) (omega arith)
       ∙ ap (λ (k : ℕ). getD w k 0) e
       )
 
@@ -207,7 +207,7 @@ module _ (width : ℕ) (w : List ℕ) (base n : ℕ) (input copies counts : List
     unfolding sourceOf
     within-source = rw source-copied within-copied
 
-  -- THE COORDINATES THAT THE RECORD NAMES ARE THE PIECE'S
+  -- THE COORDINATES THAT THE PIECE NAMES ARE THE PIECE'S
   pub coordinates-are : coordinatesAt width w at input copies ≡ flat width (p .points)
   coordinates-are = elim (ℕ-discrete (length (p .lines)) 1) [ yes d ↦ named-own d | no d ↦ named-copied d ]
 
@@ -230,7 +230,7 @@ held-beyond width w′ w base n k input copies counts ps e z c h =
       few = h .few;
       listed = h .listed;
       room = omega (arith, h .room);
-      records = rest-slice w′ w k e base (length ps * recordSize) c ∙ h .records;
+      records = rest-slice w′ w k e base (length ps * pieceSize) c ∙ h .records;
       members = rest-slice w′ w k e (base + n * memberBlock) (length (linesOf ps)) (omega arith) ∙ h .members;
       full = h .full;
       own = h .own;

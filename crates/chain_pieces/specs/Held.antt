@@ -9,9 +9,9 @@ use lib.Seq.{slice}
 use Rattle.rules.specs.Lists.{total}
 use Rattle.rules.specs.Plane.{flat}
 use Rattle.rules.specs.Chaining.{Piece, nothing}
-use Rattle.rules.specs.Layout.{copy, table}
+use Rattle.rules.specs.Layout.{copy, pieceTable}
 use Rattle.point_numbers.specs.Width.{AllWide}
-use Rattle.rules.specs.Refusals.{recordSize, sourceOf}
+use Rattle.rules.specs.Refusals.{pieceSize, sourceOf}
 use Rattle.chain_pieces.specs.Map.{markBlock, memberBlock}
 
 abbrev pub linesOf : List Piece → List ℕ
@@ -24,7 +24,7 @@ marksOf ps = flatMap (λ p. p .marks) ps
 
 -- the record of piece q, where the records start at `base`
 abbrev pub recordOf : ℕ → ℕ → ℕ
-recordOf base q = base + q * recordSize
+recordOf base q = base + q * pieceSize
 
 -- the coordinates that it names, of the input or of the copies
 unfoldable pub coordinatesAt : ℕ → List ℕ → ℕ → List ℕ → List ℕ → List ℕ
@@ -34,7 +34,7 @@ coordinatesAt width w p input copies =
 
 -- it is in w, and its coordinates are in their source
 pub record Recorded (width : ℕ) (w : List ℕ) (p : ℕ) (input copies : List ℕ) : Type 0 where
-  pub inside : p + recordSize ≤ length w
+  pub inside : p + pieceSize ≤ length w
   pub within : (getD w (p + 3) 0 + getD w (p + 4) 0) * width ≤ length (sourceOf (getD w (p + 2) 0) input copies)
 
 -- ---- all pieces
@@ -53,7 +53,7 @@ pub record Held (width : ℕ) (w : List ℕ) (base n : ℕ) (input copies counts
   pub few : length ps ≤ n
   pub listed : length (linesOf ps) ≤ n
   pub room : base + n * markBlock ≤ length w
-  pub records : slice base (base + length ps * recordSize) w ≡ table counts 0 0 ps
+  pub records : slice base (base + length ps * pieceSize) w ≡ pieceTable counts 0 0 ps
   pub members : slice (base + n * memberBlock) (base + n * memberBlock + length (linesOf ps)) w ≡ linesOf ps
   pub full : (q : ℕ) → q < length ps → 0 < length (getD ps q nothing .lines)
   pub own : (q : ℕ) → q < length ps → length (getD ps q nothing .lines) ≡ 1 → Own width input counts (getD ps q nothing)

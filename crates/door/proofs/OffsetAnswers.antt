@@ -18,10 +18,10 @@ pub proper-limit : (r : Answer) (g : ℕ) → r ≡ offsetAsked g → Proper r
 unfolding offsetAsked
 proper-limit r g e = subst Proper (sym e) (proper-answer (offsetRefusalOf g) (toBits binary64 (offsetLimit g)))
 
-pub proper-built-offset : {t : ℕ} {l : Lines} {tolerance : Float} {switch g : ℕ} {o : Rooms} {r : Answer} {o′ : Rooms}
-    → BuiltOffset t l tolerance switch g o r o′ → Proper r
-proper-built-offset {t} {l} {tolerance} {switch} {g} {o} b =
-    subst Proper (sym (b .answer)) (proper-answer (buildOffsetRefusalOf t l switch g o) (builtOf t l (settingsFor tolerance switch g) .number))
+pub proper-built-offset : {t : ℕ} {l : Lines} {tolerance ox oy : Float} {switch g : ℕ} {o : Rooms} {r : Answer} {o′ : Rooms}
+    → BuiltOffset t l tolerance ox oy switch g o r o′ → Proper r
+proper-built-offset {t} {l} {tolerance} {ox} {oy} {switch} {g} {o} b =
+    subst Proper (sym (b .answer)) (proper-answer (buildOffsetRefusalOf t l ox oy switch g o) (builtOf t l (settingsFor tolerance ox oy switch g) .number))
 
 pub proper-paired-offset : {alone : Bool} {g : ℕ} {i : LentEnds} {r : Answer} {pairs workspace : List ℕ} → PairedOffset alone g i r pairs workspace → Proper r
 proper-paired-offset {alone} {g} {i} p = subst Proper (sym (p .answer)) (proper-answer (pairOffsetRefusalOf alone g i) (length (pairsOf i)))
@@ -31,8 +31,8 @@ proper-paired-offset {alone} {g} {i} p = subst Proper (sym (p .answer)) (proper-
 pub one-limit : (g : ℕ) {r r′ : ℕ} → r ≡ numberOf (offsetAsked g) → r′ ≡ numberOf (offsetAsked g) → r ≡ r′
 one-limit g a b = a ∙ sym b
 
-pub one-building-offset : {t : ℕ} {l : Lines} {tolerance : Float} {switch g : ℕ} {o : Rooms} {r r′ : ℕ} {o₁ o₂ : Rooms}
-    → Numbered (λ a. BuiltOffset t l tolerance switch g o a o₁) r → Numbered (λ a. BuiltOffset t l tolerance switch g o a o₂) r′ → (r ≡ r′) × (o₁ ≡ o₂)
+pub one-building-offset : {t : ℕ} {l : Lines} {tolerance ox oy : Float} {switch g : ℕ} {o : Rooms} {r r′ : ℕ} {o₁ o₂ : Rooms}
+    → Numbered (λ a. BuiltOffset t l tolerance ox oy switch g o a o₁) r → Numbered (λ a. BuiltOffset t l tolerance ox oy switch g o a o₂) r′ → (r ≡ r′) × (o₁ ≡ o₂)
 one-building-offset a b = (numbered-once (λ x y p q. built-offset-once p q .0) a b, built-offset-once (a .determined) (b .determined) .1)
 
 pub one-pairing-offset : (alone : Bool) (g : ℕ) (i : LentEnds) (r r′ : ℕ) (pairs pairs′ workspace workspace′ : List ℕ)

@@ -32,6 +32,8 @@ pub extern "C" fn lovasuku_build(
     groups: &[u32],
     kinds: &[u8],
     tolerance: f64,
+    origin_x: f64,
+    origin_y: f64,
     switch: u8,
     limit: f64,
     table: &mut [u32],
@@ -42,7 +44,7 @@ pub extern "C" fn lovasuku_build(
     workspace: &mut [u64],
 ) -> u64
     ensures { λ r. ⌜ Numbered (λ a. Built «wkb_type» (lent (now (coordinates .entry)) (now (counts .entry)) (now (groups .entry)) (now (kinds .entry)))
-        (record { tolerance = tolerance; switch = switch; limit = limit })
+        (record { tolerance = tolerance; «origin_x» = «origin_x»; «origin_y» = «origin_y»; switch = switch; limit = limit })
         (rooms (now (table .entry)) (now (members .entry)) (now (marks .entry)) (now (merged .entry)) (now (spare .entry)) (now (workspace .entry)))
         a (rooms (now (table .exit)) (now (members .exit)) (now (marks .exit)) (now (merged .exit)) (now (spare .exit)) (now (workspace .exit)))) r ⌝ }
 {
@@ -54,6 +56,8 @@ pub extern "C" fn lovasuku_build(
         kinds,
         Settings {
             tolerance,
+            origin_x,
+            origin_y,
             switch,
             limit,
         },
@@ -200,6 +204,8 @@ pub extern "C" fn lovasuku_build_offset(
     groups: &[u32],
     kinds: &[u8],
     tolerance: f64,
+    origin_x: f64,
+    origin_y: f64,
     switch: u8,
     offset: u32,
     table: &mut [u32],
@@ -210,7 +216,7 @@ pub extern "C" fn lovasuku_build_offset(
     workspace: &mut [u64],
 ) -> u64
     ensures { λ r. ⌜ Numbered (λ a. BuiltOffset «wkb_type» (lent (now (coordinates .entry)) (now (counts .entry)) (now (groups .entry)) (now (kinds .entry)))
-        tolerance switch offset
+        tolerance «origin_x» «origin_y» switch offset
         (rooms (now (table .entry)) (now (members .entry)) (now (marks .entry)) (now (merged .entry)) (now (spare .entry)) (now (workspace .entry)))
         a (rooms (now (table .exit)) (now (members .exit)) (now (marks .exit)) (now (merged .exit)) (now (spare .exit)) (now (workspace .exit)))) r ⌝ }
 {
@@ -221,6 +227,8 @@ pub extern "C" fn lovasuku_build_offset(
         groups,
         kinds,
         tolerance,
+        origin_x,
+        origin_y,
         switch,
         offset,
         table,

@@ -1,4 +1,4 @@
-// The cell of a coordinate: the floor of coordinate / tolerance as an `i64`. There is no `%` on floats here, which would be a call of the C library.
+// The cell of a coordinate: the floor of (coordinate - origin) / tolerance as an `i64`. There is no `%` on floats here, which would be a call of the C library.
 use float_bits;
 ghost use mathlib.Core.Path.{_≡_};
 ghost use Rattle.rules.specs.Cell.{floor64, cell};
@@ -53,9 +53,9 @@ fn lift(t: i64) -> u64
     t as u64 + 9223372036854775808
 }
 
-// The cell of the coordinate whose bits are n, as a number that stands for it in a key.
-pub fn cell_key(n: u64, tolerance: f64) -> u64
-    ensures { λ r. ⌜ r ≡ lifted (cell tolerance n) ⌝ }
+// The cell of the coordinate whose bits are n, from an origin on, as a number that stands for it in a key.
+pub fn cell_key(n: u64, origin: f64, tolerance: f64) -> u64
+    ensures { λ r. ⌜ r ≡ lifted (cell tolerance origin n) ⌝ }
 {
-    lift(floor(float_bits::of_bits(n) / tolerance))
+    lift(floor((float_bits::of_bits(n) - origin) / tolerance))
 }

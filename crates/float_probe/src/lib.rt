@@ -25,10 +25,10 @@ pub extern "C" fn lovasuku_probe_floor(x: f64) -> i64
 }
 
 #[no_mangle]
-pub extern "C" fn lovasuku_probe_cell(n: u64, tolerance: f64) -> u64
-    ensures { λ r. ⌜ r ≡ lifted (cell-of tolerance n) ⌝ }
+pub extern "C" fn lovasuku_probe_cell(n: u64, origin: f64, tolerance: f64) -> u64
+    ensures { λ r. ⌜ r ≡ lifted (cell-of tolerance origin n) ⌝ }
 {
-    float_cell::cell_key(n, tolerance)
+    float_cell::cell_key(n, origin, tolerance)
 }
 
 #[no_mangle]

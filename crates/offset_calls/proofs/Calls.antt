@@ -20,14 +20,14 @@ use Rattle.offset_calls.proofs.Ladders.{build-renumbered, pair-renumber
 -- ---- building
 
 -- a call with this limit
-abbrev settings : Float → ℕ → Float → Settings
-settings tolerance switch limit = record { tolerance = tolerance; switch = switch; limit = limit }
+abbrev settings : Float → Float → Float → ℕ → Float → Settings
+settings tolerance ox oy switch limit = record { tolerance = tolerance; «origin_x» = ox; «origin_y» = oy; switch = switch; limit = limit }
 
-module _ {t : ℕ} {l : Lines} {tolerance : Float} {switch g : ℕ} {o : Rooms} {r : Answer} {o′ : Rooms} where
-  by-limit : Built t l (settingsFor tolerance switch g) o r o′ → BuiltOffset t l tolerance switch g o (renumbered switch r) o′
+module _ {t : ℕ} {l : Lines} {tolerance ox oy : Float} {switch g : ℕ} {o : Rooms} {r : Answer} {o′ : Rooms} where
+  by-limit : Built t l (settingsFor tolerance ox oy switch g) o r o′ → BuiltOffset t l tolerance ox oy switch g o (renumbered switch r) o′
   by-limit b =
-      let s = settingsFor tolerance switch g in
-      let e : renumber switch (refusalOf t l s o) ≡ buildOffsetRefusalOf t l switch g o = sym (build-renumbered switch g t l tolerance o) in
+      let s = settingsFor tolerance ox oy switch g in
+      let e : renumber switch (refusalOf t l s o) ≡ buildOffsetRefusalOf t l ox oy switch g o = sym (build-renumbered switch g t l tolerance ox oy o) in
       record {
         answer =
             ap (renumbered switch) (b .answer)
@@ -37,25 +37,25 @@ module _ {t : ℕ} {l : Lines} {tolerance : Float} {switch g : ℕ} {o : Rooms} 
       }
 
   -- the call with the offset's limit, and its answer renumbered
-  pub built : {limit : Float} {a : Answer} → limit ≡ limitFor g → a ≡ renumbered switch r → Built t l (settings tolerance switch limit) o r o′
-      → BuiltOffset t l tolerance switch g o a o′
+  pub built : {limit : Float} {a : Answer} → limit ≡ limitFor g → a ≡ renumbered switch r → Built t l (settings tolerance ox oy switch limit) o r o′
+      → BuiltOffset t l tolerance ox oy switch g o a o′
   built e f b =
-      subst (λ (a : Answer). BuiltOffset t l tolerance switch g o a o′) (sym f)
-      (by-limit (subst (λ (limit : Float). Built t l (settings tolerance switch limit) o r o′) e b))
+      subst (λ (a : Answer). BuiltOffset t l tolerance ox oy switch g o a o′) (sym f)
+      (by-limit (subst (λ (limit : Float). Built t l (settings tolerance ox oy switch limit) o r o′) e b))
 
   -- up to 1,000 it is the call with the offset's limit
-  pub built-limit : g ≤ 1000 → BuiltOffset t l tolerance switch g o r o′ → Built t l (settings tolerance switch (offsetLimit g)) o r o′
+  pub built-limit : g ≤ 1000 → BuiltOffset t l tolerance ox oy switch g o r o′ → Built t l (settings tolerance ox oy switch (offsetLimit g)) o r o′
   built-limit h b =
-      let s = settingsFor tolerance switch g in
-      let e : buildOffsetRefusalOf t l switch g o ≡ refusalOf t l s o = build-same g h t l tolerance switch o in
+      let s = settingsFor tolerance ox oy switch g in
+      let e : buildOffsetRefusalOf t l ox oy switch g o ≡ refusalOf t l s o = build-same g h t l tolerance ox oy switch o in
       let there : Built t l s o r o′ = record {
         answer = b .answer ∙ ap (λ (k : ℕ). answerOf k (builtOf t l s .number)) e;
         rooms = b .rooms ∙ ap (λ (k : ℕ). unless k o (filled t l s o)) e;
       } in
-      subst (λ (limit : Float). Built t l (settings tolerance switch limit) o r o′) (limit-is g h) there
+      subst (λ (limit : Float). Built t l (settings tolerance ox oy switch limit) o r o′) (limit-is g h) there
 
-pub built-offset-once : {t : ℕ} {l : Lines} {tolerance : Float} {switch g : ℕ} {o : Rooms} {r r′ : Answer} {o₁ o₂ : Rooms}
-    → BuiltOffset t l tolerance switch g o r o₁ → BuiltOffset t l tolerance switch g o r′ o₂ → (r ≡ r′) × (o₁ ≡ o₂)
+pub built-offset-once : {t : ℕ} {l : Lines} {tolerance ox oy : Float} {switch g : ℕ} {o : Rooms} {r r′ : Answer} {o₁ o₂ : Rooms}
+    → BuiltOffset t l tolerance ox oy switch g o r o₁ → BuiltOffset t l tolerance ox oy switch g o r′ o₂ → (r ≡ r′) × (o₁ ≡ o₂)
 built-offset-once a b = (a .answer ∙ sym (b .answer), a .rooms ∙ sym (b .rooms))
 
 -- ---- pairing

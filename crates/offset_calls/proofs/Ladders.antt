@@ -34,10 +34,10 @@ module _ (f : ℕ → ℕ) (stay : (k : ℕ) → eqb k 6 ≡ false → k ≡ f k
   unfolding firstOf
   none = record { is = stay 0 refl }
 
-  building : (s t : List (ℕ × Bool)) (type : ℕ) (l : Lines) (o : Rooms)
+  building : (s t : List (ℕ × Bool)) (ox oy : Float) (type : ℕ) (l : Lines) (o : Rooms)
       → ((rest : List (ℕ × Bool)) → Turned f rest rest → Turned f (s ++ rest) (t ++ rest))
-      → refusalWith s type l o ≡ f (refusalWith t type l o)
-  building s t type l o middle = more refl (more refl (more refl (more refl (more refl (more refl (more refl (middle _ (more refl none)))))))) .is
+      → refusalWith s ox oy type l o ≡ f (refusalWith t ox oy type l o)
+  building s t ox oy type l o middle = more refl (more refl (more refl (more refl (more refl (more refl (more refl (middle _ (more refl (more refl none))))))))) .is
 
   pairing : (s t : ℕ × Bool) (alone : Bool) (i : LentEnds)
       → ((rest : List (ℕ × Bool)) → Turned f rest rest → Turned f (s ∷ rest) (t ∷ rest))
@@ -73,13 +73,13 @@ module _ (switch g : ℕ) where
   limit-part : (limit : Float) → limit ≡ limitFor g → (eqb switch 1 && ltb 1000 g) ≡ (eqb switch 1 && limitBad limit)
   limit-part limit e = ap (λ (t : Bool). eqb switch 1 && t) (sym (ap limitBad e ∙ limit-bad g))
 
-  pub build-renumbered : (type : ℕ) (l : Lines) (tolerance : Float) (o : Rooms)
-      → buildOffsetRefusalOf type l switch g o ≡ renumber switch (refusalOf type l (settingsFor tolerance switch g) o)
+  pub build-renumbered : (type : ℕ) (l : Lines) (tolerance ox oy : Float) (o : Rooms)
+      → buildOffsetRefusalOf type l ox oy switch g o ≡ renumber switch (refusalOf type l (settingsFor tolerance ox oy switch g) o)
   unfolding buildOffsetRefusalOf refusalOf
-  build-renumbered type l tolerance o =
+  build-renumbered type l tolerance ox oy o =
       let b = eqb switch 1 && limitBad (limitFor g) in
-      ap (λ (t : Bool). refusalWith (two switch t) type l o) (limit-part (limitFor g) refl)
-      ∙ building (renumber switch) (stays switch) (two switch b) (one switch b) type l o (parts switch b)
+      ap (λ (t : Bool). refusalWith (two switch t) ox oy type l o) (limit-part (limitFor g) refl)
+      ∙ building (renumber switch) (stays switch) (two switch b) (one switch b) ox oy type l o (parts switch b)
 
 pub pair-renumbered : (g : ℕ) (alone : Bool) (i : LentEnds) → i .limit ≡ limitFor g → pairOffsetRefusalOf alone g i ≡ renumber 1 (pairRefusalOf alone i)
 unfolding pairOffsetRefusalOf pairRefusalOf
@@ -108,13 +108,13 @@ module _ (g : ℕ) (h : g ≤ 1000) where
   fine : limitBad (limitFor g) ≡ false
   fine = limit-bad g ∙ le-ltb 1000 g h
 
-  pub build-same : (type : ℕ) (l : Lines) (tolerance : Float) (switch : ℕ) (o : Rooms)
-      → buildOffsetRefusalOf type l switch g o ≡ refusalOf type l (settingsFor tolerance switch g) o
+  pub build-same : (type : ℕ) (l : Lines) (tolerance ox oy : Float) (switch : ℕ) (o : Rooms)
+      → buildOffsetRefusalOf type l ox oy switch g o ≡ refusalOf type l (settingsFor tolerance ox oy switch g) o
   unfolding buildOffsetRefusalOf refusalOf
-  build-same type l tolerance switch o =
+  build-same type l tolerance ox oy switch o =
       let b = eqb switch 1 && limitBad (limitFor g) in
-      ap (λ (t : Bool). refusalWith (two switch t) type l o) (limit-part switch g (limitFor g) refl)
-      ∙ building (λ k. k) (λ k e. refl) (two switch b) (one switch b) type l o
+      ap (λ (t : Bool). refusalWith (two switch t) ox oy type l o) (limit-part switch g (limitFor g) refl)
+      ∙ building (λ k. k) (λ k e. refl) (two switch b) (one switch b) ox oy type l o
       (λ rest p. same-parts (ltb 1 switch) b rest (and-no (eqb switch 1) (limitBad (limitFor g)) fine))
 
   pub pair-same : (alone : Bool) (i : LentEnds) → i .limit ≡ limitFor g → pairOffsetRefusalOf alone g i ≡ pairRefusalOf alone i

@@ -33,6 +33,8 @@ pub fn build_offset(
     groups: &[u32],
     kinds: &[u8],
     tolerance: f64,
+    origin_x: f64,
+    origin_y: f64,
     switch: u8,
     offset: u32,
     table: &mut [u32],
@@ -42,7 +44,7 @@ pub fn build_offset(
     spare: &mut [u64],
     workspace: &mut [u64],
 ) -> Answer
-    ensures { λ r. ⌜ BuiltOffset «wkb_type» (lent (now (coordinates .entry)) (now (counts .entry)) (now (groups .entry)) (now (kinds .entry))) tolerance switch offset
+    ensures { λ r. ⌜ BuiltOffset «wkb_type» (lent (now (coordinates .entry)) (now (counts .entry)) (now (groups .entry)) (now (kinds .entry))) tolerance «origin_x» «origin_y» switch offset
         (rooms (now (table .entry)) (now (members .entry)) (now (marks .entry)) (now (merged .entry)) (now (spare .entry)) (now (workspace .entry)))
         r (rooms (now (table .exit)) (now (members .exit)) (now (marks .exit)) (now (merged .exit)) (now (spare .exit)) (now (workspace .exit))) ⌝ }
 {
@@ -57,6 +59,8 @@ pub fn build_offset(
             kinds,
             Settings {
                 tolerance,
+                origin_x,
+                origin_y,
                 switch,
                 limit,
             },

@@ -202,7 +202,7 @@ case-m =
 
 case-n : Bool
 unfolding book
-case-n = sameInt (cell (float +1) -0·25) (negsuc 0) && sameInt (cell (float +1) -0) (pos 0)
+case-n = sameInt (cell (float +1) nought -0·25) (negsuc 0) && sameInt (cell (float +1) nought -0) (pos 0)
 
 -- marked P
 pub markedCases : List Bool
@@ -218,7 +218,7 @@ unfolding case-g case-i case-n
 otherCases = case-g ∷ case-i ∷ case-n ∷ []
 
 pub others : T (every otherCases)
-unfolding otherCases lt eq
+unfolding otherCases lt eq sub
 others = tt
 
 -- Equal measures go by i: of (0,3) and (1,2) the first is first. A present (0,0) has measure 0 with any finite direction, and a NaN never qualifies.
@@ -250,7 +250,7 @@ refusedBy : ℕ → ℕ → ℕ → ℕ
 unfolding book
 refusedBy kind switch x =
     refusalOf 2 (lent (+0 ∷ +0 ∷ +1 ∷ +0 ∷ +1 ∷ x ∷ []) (2 ∷ 1 ∷ []) (0 ∷ 0 ∷ []) (0 ∷ kind ∷ []))
-    (record { tolerance = float +0; switch = switch; limit = float +0 })
+    (record { tolerance = float +0; «origin_x» = float +0; «origin_y» = float +0; switch = switch; limit = float +0 })
     (rooms [] [] [] [] [] [])
 
 -- as many numbers as are beyond the scope, of one line, all of them NaN
@@ -259,7 +259,7 @@ unfolding book
 tooMany =
     let numbers = mostPoints * 2 + 2 in
     refusalOf 2 (lent (replicate numbers not-a-number) ((mostPoints + 1) ∷ []) (0 ∷ []) (0 ∷ []))
-    (record { tolerance = float +0; switch = 0; limit = float +0 })
+    (record { tolerance = float +0; «origin_x» = float +0; «origin_y» = float +0; switch = 0; limit = float +0 })
     (rooms [] [] [] [] [] [])
 
 place-nan : Bool
@@ -312,7 +312,7 @@ abbrev heights : Lines
 heights = lent (+0 ∷ +0 ∷ not-a-number ∷ +1 ∷ +0 ∷ 6 ∷ +2 ∷ +0 ∷ 8 ∷ +1 ∷ -0 ∷ 7 ∷ []) (2 ∷ 2 ∷ []) (0 ∷ 0 ∷ []) (0 ∷ 0 ∷ [])
 
 abbrev coarsely : Settings
-coarsely = record { tolerance = float +1; switch = 0; limit = float +0 }
+coarsely = record { tolerance = float +1; «origin_x» = float +0; «origin_y» = float +0; switch = 0; limit = float +0 }
 
 abbrev refusal : ℕ → ℕ → ℕ
 refusal t numbers = refusalOf t heights coarsely (rooms (replicate 10 0) (replicate 2 0) (replicate 2 0) (replicate numbers 0) (replicate numbers 0) (replicate 384 0))
@@ -326,5 +326,5 @@ extrasRide =
     && same (refusal 1002 12 ∷ refusal 2002 12 ∷ refusal 1002 11 ∷ refusal 2 12 ∷ refusal 3002 12 ∷ refusal 3 0 ∷ []) (0 ∷ 0 ∷ 7 ∷ 4 ∷ 4 ∷ 12 ∷ [])
 
 pub extrasRidden : T extrasRide
-unfolding extrasRide lt eq div
+unfolding extrasRide lt eq sub div
 extrasRidden = tt

@@ -1,13 +1,13 @@
 -- Offsets, computed on the book: limits of some, and each refusal of the calls with an offset in the limit's place.
 use mathlib.Core.Path.{refl}
-use lib.Ieee.{ofBits, size, round, toBits}
+use lib.Ieee.{nan, inf, ofBits, size, round, toBits}
 use Rattle.rules.specs.Library.{ℕ, _*_, _≡_, true, false, replicate, Accepted, Refused}
 use Rattle.rules.specs.Lists.{total, count}
 use Rattle.rules.specs.Root.{digits, floorRoot}
 use Rattle.rules.specs.Plane.{reads, points, float}
 use Rattle.rules.specs.Layout.{Lines}
 use Rattle.rules.specs.Types.{widthOf}
-use Rattle.rules.specs.Refusals.{firstOf, anyAbove, nowhere, anyNowhere, moreThanTwice, anyWild, Rooms, LentEnds}
+use Rattle.rules.specs.Refusals.{firstOf, anyAbove, originBad, nowhere, anyNowhere, moreThanTwice, anyWild, Rooms, LentEnds}
 use Rattle.rules.specs.Calls.{unless, answerOf}
 use Rattle.rules.specs.Offset.{offsetRoot, offsetLimit, offsetRefusalOf, offsetAsked, limitFor, buildOffsetRefusalOf, pairOffsetRefusalOf, endsFor}
 use Rattle.rules.proofs.Given.{+0, +1, not-a-number}
@@ -31,7 +31,7 @@ limits = (refl, refl, refl, refl, refl, refl, refl)
 -- ---- building
 
 unfoldable building : Unit {0}
-unfolding buildOffsetRefusalOf widthOf firstOf anyAbove nowhere anyNowhere total reads points ofBits
+unfolding buildOffsetRefusalOf widthOf firstOf anyAbove originBad nowhere anyNowhere total reads points ofBits
 building = tt
 
 -- n lines of one coordinate each, whose numbers are x; a room of m numbers each
@@ -43,18 +43,22 @@ room m = record { table = replicate m 0; members = replicate m 0; marks = replic
 
 pub build-refusals :
     -- the greatest offset; one more; a switch above 1 is refused by 6 whatever the offset is; with the switch at 0 the offset isn't looked at
-    (buildOffsetRefusalOf 2 (lines 1 +1) 1 1000 (room 192) ≡ 0)
-    × (buildOffsetRefusalOf 2 (lines 1 +1) 1 1001 (room 192) ≡ 22)
-    × (buildOffsetRefusalOf 2 (lines 1 +1) 2 1000 (room 192) ≡ 6)
-    × (buildOffsetRefusalOf 2 (lines 1 +1) 2 1001 (room 192) ≡ 6)
-    × (buildOffsetRefusalOf 2 (lines 1 +1) 0 1001 (room 192) ≡ 0)
+    (buildOffsetRefusalOf 2 (lines 1 +1) (float +0) (float +0) 1 1000 (room 192) ≡ 0)
+    × (buildOffsetRefusalOf 2 (lines 1 +1) (float +0) (float +0) 1 1001 (room 192) ≡ 22)
+    × (buildOffsetRefusalOf 2 (lines 1 +1) (float +0) (float +0) 2 1000 (room 192) ≡ 6)
+    × (buildOffsetRefusalOf 2 (lines 1 +1) (float +0) (float +0) 2 1001 (room 192) ≡ 6)
+    × (buildOffsetRefusalOf 2 (lines 1 +1) (float +0) (float +0) 0 1001 (room 192) ≡ 0)
     -- before 7, after 15 and all of 1 to 5
-    × (buildOffsetRefusalOf 2 (lines 1 +1) 1 1001 (room 0) ≡ 22)
-    × (buildOffsetRefusalOf 2 (lines 1 +1) 1 1000 (room 0) ≡ 7)
-    × (buildOffsetRefusalOf 2 (lines 1 not-a-number) 1 1001 (room 192) ≡ 15)
-    × (buildOffsetRefusalOf 2 (lines 4097 +1) 1 1001 (room 192) ≡ 1)
+    × (buildOffsetRefusalOf 2 (lines 1 +1) (float +0) (float +0) 1 1001 (room 0) ≡ 22)
+    × (buildOffsetRefusalOf 2 (lines 1 +1) (float +0) (float +0) 1 1000 (room 0) ≡ 7)
+    × (buildOffsetRefusalOf 2 (lines 1 not-a-number) (float +0) (float +0) 1 1001 (room 192) ≡ 15)
+    × (buildOffsetRefusalOf 2 (lines 4097 +1) (float +0) (float +0) 1 1001 (room 192) ≡ 1)
+    -- an origin that is no place is judged after the offset, and before 7
+    × (buildOffsetRefusalOf 2 (lines 1 +1) (float +0) nan 1 1001 (room 0) ≡ 22)
+    × (buildOffsetRefusalOf 2 (lines 1 +1) (float +0) nan 1 1000 (room 0) ≡ 17)
+    × (buildOffsetRefusalOf 2 (lines 1 +1) (inf true) (float +0) 0 1001 (room 192) ≡ 17)
 unfolding building
-build-refusals = (refl, refl, refl, refl, refl, refl, refl, refl, refl)
+build-refusals = (refl, refl, refl, refl, refl, refl, refl, refl, refl, refl, refl, refl)
 
 -- ---- pairing
 

@@ -40,9 +40,9 @@ five counts m c p =
     let own = total (take (getD (p .lines) 0 0) counts) in
     m ∷ length (p .lines) ∷ elim (copied p) [ true ↦ 1 ∷ c ∷ length (p .points) ∷ [] | false ↦ 0 ∷ own ∷ length (p .points) ∷ [] ]
 
-unfoldable pub table : List ℕ → ℕ → ℕ → List Piece → List ℕ
-table counts m c [] = []
-table counts m c (p ∷ l) = five counts m c p ++ table counts (m + length (p .lines)) (c + length (copy p)) l
+unfoldable pub pieceTable : List ℕ → ℕ → ℕ → List Piece → List ℕ
+pieceTable counts m c [] = []
+pieceTable counts m c (p ∷ l) = five counts m c p ++ pieceTable counts (m + length (p .lines)) (c + length (copy p)) l
 
 -- what is written
 pub record Laid : Type 0 where
@@ -56,7 +56,7 @@ unfoldable pub laidOut : ℕ → List ℕ → List Piece → Laid
 laidOut w counts ps =
     record {
       number = length ps;
-      records = table counts 0 0 ps;
+      records = pieceTable counts 0 0 ps;
       members = flatMap (λ p. p .lines) ps;
       marks = flatMap (λ p. p .marks) ps;
       merged = flat w (flatMap copy ps);

@@ -38,16 +38,17 @@ unfoldable pub limitFor : ℕ → Float
 limitFor g = cond (ltb mostOffset g) nan (offsetLimit g)
 
 -- building, of lines of type t: 22 in place of the limit's part of 6. With the switch at 0 the offset isn't looked at
-unfoldable pub buildOffsetRefusalOf : ℕ → Lines → ℕ → ℕ → Rooms → ℕ
-buildOffsetRefusalOf t l switch g o = refusalWith ((6, ltb 1 switch) ∷ (22, eqb switch 1 && ltb mostOffset g) ∷ []) t l o
+unfoldable pub buildOffsetRefusalOf : ℕ → Lines → Float → Float → ℕ → ℕ → Rooms → ℕ
+buildOffsetRefusalOf t l ox oy switch g o =
+    refusalWith ((6, ltb 1 switch) ∷ (22, eqb switch 1 && ltb mostOffset g) ∷ []) ox oy t l o
 
 -- the settings of a call with g
-abbrev pub settingsFor : Float → ℕ → ℕ → Settings
-settingsFor tolerance switch g = record { tolerance = tolerance; switch = switch; limit = limitFor g }
+abbrev pub settingsFor : Float → Float → Float → ℕ → ℕ → Settings
+settingsFor tolerance ox oy switch g = record { tolerance = tolerance; «origin_x» = ox; «origin_y» = oy; switch = switch; limit = limitFor g }
 
-pub record BuiltOffset (t : ℕ) (l : Lines) (tolerance : Float) (switch g : ℕ) (o : Rooms) (r : Answer) (o′ : Rooms) : Type 0 where
-  pub answer : r ≡ answerOf (buildOffsetRefusalOf t l switch g o) (builtOf t l (settingsFor tolerance switch g) .number)
-  pub rooms : o′ ≡ unless (buildOffsetRefusalOf t l switch g o) o (filled t l (settingsFor tolerance switch g) o)
+pub record BuiltOffset (t : ℕ) (l : Lines) (tolerance ox oy : Float) (switch g : ℕ) (o : Rooms) (r : Answer) (o′ : Rooms) : Type 0 where
+  pub answer : r ≡ answerOf (buildOffsetRefusalOf t l ox oy switch g o) (builtOf t l (settingsFor tolerance ox oy switch g) .number)
+  pub rooms : o′ ≡ unless (buildOffsetRefusalOf t l ox oy switch g o) o (filled t l (settingsFor tolerance ox oy switch g) o)
 
 -- pairing, by whichever route: 22 in place of 6
 unfoldable pub pairOffsetRefusalOf : Bool → ℕ → LentEnds → ℕ

@@ -62,14 +62,14 @@ sameKey (key g a b) (key h c d) = eqb g h && (sameInt a c && sameInt b d)
 unfoldable pub exactKey : ℕ → Point → Key
 exactKey g p = key g (pos (p .x)) (pos (p .y))
 
--- round two: the cells of x and y
-unfoldable pub cellKey : Float → ℕ → Point → Key
-cellKey tolerance g p = key g (cell tolerance (p .x)) (cell tolerance (p .y))
+-- round two: the cells of x and y, from an origin's x and y
+unfoldable pub cellKey : Float → Float → Float → ℕ → Point → Key
+cellKey tolerance ox oy g p = key g (cell tolerance ox (p .x)) (cell tolerance oy (p .y))
 
 -- the key that a round's grid gives to a point of a group
 unfoldable pub keyOf : Grid → ℕ → Point → Key
 keyOf Exact g p = exactKey g p
-keyOf (Cells tolerance) g p = cellKey tolerance g p
+keyOf (Cells tolerance ox oy) g p = cellKey tolerance ox oy g p
 
 -- ---- directions
 abbrev pub nought : Float

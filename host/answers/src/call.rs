@@ -10,7 +10,7 @@ pub fn stride_of(wkb_type: u32) -> Option<usize> {
     TYPES.iter().position(|&known| known == wkb_type).map(|place| [2, 3, 3, 4][place])
 }
 
-/// A building call. Coordinates, tolerance and limit are the 64 bits of their floats.
+/// A building call. Coordinates, tolerance, origin and limit are the 64 bits of their floats.
 #[derive(Clone, Debug, PartialEq, Eq)]
 pub struct BuildCall {
     /// The type of all lines: 2, or 1002, 2002 and 3002 with heights, measures and both.
@@ -25,6 +25,8 @@ pub struct BuildCall {
     pub kinds: Vec<u8>,
     /// The snap tolerance.
     pub tolerance: u64,
+    /// x and y of the corner that cells are counted from.
+    pub origin: [u64; 2],
     /// 1 where junctions of three or more ends are paired, else 0.
     pub switch: u8,
     /// The greatest measure that qualifies. Not looked at where the switch is 0.
@@ -41,6 +43,7 @@ impl Default for BuildCall {
             groups: vec![],
             kinds: vec![],
             tolerance: 0,
+            origin: [0; 2],
             switch: 0,
             limit: 0,
         }
@@ -107,12 +110,18 @@ impl BuildCall {
         places.flat_map(|p| p.iter().take(2)).any(|&bits| !f64::from_bits(bits).is_finite())
     }
 
-    /// The refusal of the model's that applies, if one does: a type that is none of the four, or a
-    /// coordinate that is no place.
+    /// True where the origin is no place: its x or its y is NaN or infinite.
+    pub fn adrift(&self) -> bool {
+        self.origin.iter().any(|&bits| !f64::from_bits(bits).is_finite())
+    }
+
+    /// The refusal of the model's that applies, if one does: a type that is none of the four, a
+    /// coordinate that is no place, or an origin that is none.
     pub fn refusal(&self) -> Option<Refusal> {
         match stride_of(self.wkb_type) {
             None => Some(NO_TYPE),
-            Some(_) => self.nowhere().then_some(NO_PLACE),
+            Some(_) if self.nowhere() => Some(NO_PLACE),
+            Some(_) => self.adrift().then_some(BAD_ORIGIN),
         }
     }
 
@@ -240,6 +249,9 @@ pub const NO_TYPE: Refusal = Refusal(12);
 /// The refusal of a coordinate that is no place.
 pub const NO_PLACE: Refusal = Refusal(15);
 
+/// The refusal of an origin that is no place.
+pub const BAD_ORIGIN: Refusal = Refusal(17);
+
 /// Whatever answers the calls: the model, the Rust original, the verified library.
 pub trait Port {
     /// Builds the chains of a call.
@@ -259,6 +271,9 @@ impl fmt::Display for BuildCall {
         let (tolerance, limit) = (word(self.tolerance), word(self.limit));
         if self.wkb_type != TYPES[0] {
             writeln!(f, "type {}", self.wkb_type)?;
+        }
+        if self.origin != [0; 2] {
+            writeln!(f, "origin {}", self.origin.map(word).join(" "))?;
         }
         writeln!(f, "tolerance {tolerance}, switch {}, limit {limit}", self.switch)?;
         for (line, first) in self.firsts().into_iter().enumerate() {

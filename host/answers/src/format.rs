@@ -29,9 +29,13 @@ const MAGIC: &[u8; 8] = b"lovasuku";
 pub fn write(recorded: &Recorded) -> Vec<u8> {
     let mut body = Writer::default();
     let kind = match recorded {
-        Recorded::Building(entries) => {
+        Recorded::Building(entries) if entries.iter().all(|(call, _)| call.origin == [0; 2]) => {
             body.list(entries, Writer::build_entry);
             0
+        }
+        Recorded::Building(entries) => {
+            body.list(entries, Writer::origin_entry);
+            2
         }
         Recorded::Pairing(entries) => {
             body.list(entries, Writer::pairing_entry);
@@ -60,6 +64,7 @@ pub fn read(bytes: &[u8]) -> Result<Recorded, String> {
     let recorded = match kind {
         0 => Recorded::Building(reader.list(Reader::build_entry)?),
         1 => Recorded::Pairing(reader.list(Reader::pairing_entry)?),
+        2 => Recorded::Building(reader.list(Reader::origin_entry)?),
         _ => return Err(format!("{kind} is no kind of file")),
     };
     match reader.at == bytes.len() {
@@ -115,6 +120,11 @@ impl Writer {
 
     fn pair(&mut self, pair: &Pair) {
         pair.iter().for_each(|end| self.middle(end));
+    }
+
+    fn origin_entry(&mut self, entry: &BuildEntry) {
+        entry.0.origin.iter().for_each(|word| self.word(word));
+        self.build_entry(entry);
     }
 
     fn build_entry(&mut self, (call, answer): &BuildEntry) {
@@ -208,6 +218,12 @@ impl<'a> Reader<'a> {
         Ok(numbers)
     }
 
+    fn origin_entry(&mut self) -> Read<BuildEntry> {
+        let origin = [self.word()?, self.word()?];
+        let (call, answer) = self.build_entry()?;
+        Ok((BuildCall { origin, ..call }, answer))
+    }
+
     fn build_entry(&mut self) -> Read<BuildEntry> {
         let call = BuildCall {
             wkb_type: TYPES[0],
@@ -216,6 +232,7 @@ impl<'a> Reader<'a> {
             groups: self.list(Self::within)?,
             kinds: self.list(Self::within)?,
             tolerance: self.word()?,
+            origin: [0; 2],
             switch: self.within()?,
             limit: self.word()?,
         };

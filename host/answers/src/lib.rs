@@ -24,5 +24,6 @@ pub mod wkb;
 
 pub use call::{stride_of, TYPES};
 pub use call::{
-    BuildCall, Built, Pair, PairingCall, Port, Refusal, Route, WhyCall, NO_PLACE, NO_TYPE,
+    BuildCall, Built, Pair, PairingCall, Port, Refusal, Route, WhyCall, BAD_ORIGIN, NO_PLACE,
+    NO_TYPE,
 };

@@ -5,13 +5,14 @@ use crate::format::{read, BuildEntry, PairingEntry, Recorded};
 use std::path::PathBuf;
 
 /// The recorded files.
-pub const FILES: [&str; 7] = [
+pub const FILES: [&str; 8] = [
     "tiny.bin",
     "stars.bin",
     "networks.bin",
     "tolerances.bin",
     "shapes.bin",
     "wild.bin",
+    "origins.bin",
     "pairing.bin",
 ];
 

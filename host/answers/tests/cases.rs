@@ -2,7 +2,8 @@
 
 use answers::model::plane::{cell, direction};
 use answers::model::Model;
-use answers::{BuildCall, Built, Pair, PairingCall, Port, Route, NO_PLACE, NO_TYPE, TYPES};
+use answers::{BuildCall, Built, Pair, PairingCall, Port, Route};
+use answers::{BAD_ORIGIN, NO_PLACE, NO_TYPE, TYPES};
 
 type Line = [(f64, f64)];
 
@@ -164,7 +165,35 @@ fn differences_of_places_overflow() {
 
 #[test]
 fn n_cells_below_and_at_zero() {
-    assert_eq!((cell(-0.25, 1.0), cell(-0.0, 1.0)), (-1, 0));
+    for zero in [0.0, -0.0] {
+        assert_eq!((cell(-0.25, zero, 1.0), cell(-0.0, zero, 1.0)), (-1, 0));
+    }
+}
+
+#[test]
+fn cells_from_an_origin() {
+    assert_eq!((cell(2.0, 0.25, 1.0), cell(2.25, 0.25, 1.0)), (1, 2));
+    assert_eq!((cell(0.0, 0.25, 1.0), cell(0.25, 0.25, 1.0)), (-1, 0));
+    // The difference is rounded, and then the quotient: a difference of two quotients is another.
+    assert_eq!((cell(0.1, 0.4, 0.3), (0.1f64 / 0.3 - 0.4 / 0.3).floor()), (-2, -1.0));
+    assert_eq!((cell(0.3, 0.5, 0.2), (0.3f64 / 0.2 - 0.5 / 0.2).floor()), (-1, -2.0));
+    // It may overflow: infinite by a number is at the end of the range, and by itself NaN.
+    let far = [f64::MAX, f64::MIN];
+    assert_eq!(cell(far[0], far[1], 1.0), i64::MAX);
+    assert_eq!(cell(far[1], far[0], 1.0), i64::MIN);
+    assert_eq!(cell(far[0], far[1], f64::INFINITY), 0);
+}
+
+#[test]
+fn an_origin_that_is_no_place_is_refused() {
+    for lost in [f64::NAN, f64::INFINITY, f64::NEG_INFINITY].map(f64::to_bits) {
+        for origin in [[lost, 0], [0, lost]] {
+            let mut call = BuildCall { origin, ..BuildCall::default() };
+            assert_eq!(Model.build(&call), Err(BAD_ORIGIN));
+            call.push(&[[0, lost]], 0, 0);
+            assert_eq!(Model.build(&call), Err(NO_PLACE));
+        }
+    }
 }
 
 /// A call of a type without lines.

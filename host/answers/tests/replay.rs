@@ -5,14 +5,15 @@ use answers::format::{read, write, Recorded};
 use answers::model::plane::direction;
 use answers::model::Model;
 use answers::replay::{each, load, replay, FILES};
-use answers::{BuildCall, Built, Refusal, NO_PLACE};
+use answers::{BuildCall, Built, Port, Refusal, BAD_ORIGIN};
 
-/// A call is refused exactly where a coordinate is no place, and else its answer has its form.
+/// A call is refused exactly where a coordinate or the origin is no place, and else its answer has
+/// its form.
 fn checked_build(call: &BuildCall, answer: &Result<Built, Refusal>) -> check::Checked {
     check::build_call(call)?;
-    match (call.nowhere(), answer) {
-        (true, Err(NO_PLACE)) => Ok(()),
-        (false, Ok(built)) => check::built(call, built),
+    match (call.refusal(), answer) {
+        (Some(wanted), Err(refusal)) if *refusal == wanted => Ok(()),
+        (None, Ok(built)) => check::built(call, built),
         _ => Err(format!("it is answered by {answer:?}")),
     }
 }
@@ -83,6 +84,32 @@ fn many_calls_are_refused_and_many_overflow() {
         "wild.bin: {refused} calls refused, {overflowing} with a direction that is not finite"
     );
     assert!(refused > 500 && overflowing > 250, "{refused}, {overflowing}");
+}
+
+#[test]
+fn origins_are_recorded_of_one_file_alone() {
+    let mut answers = [0; 4];
+    for name in FILES {
+        let entries = match load(name) {
+            Ok(Recorded::Building(entries)) => entries,
+            Ok(Recorded::Pairing(_)) => continue,
+            Err(fault) => panic!("{fault}"),
+        };
+        for (call, answer) in &entries {
+            assert!(name == "origins.bin" || call.origin == [0; 2], "{name}");
+            if name == "origins.bin" {
+                let at_zero = BuildCall { origin: [0; 2], ..call.clone() };
+                let other = answer.is_ok() && Model.build(&at_zero) != *answer;
+                answers[0] += usize::from(call.origin != [0; 2]);
+                answers[1] += usize::from(*answer == Err(BAD_ORIGIN));
+                answers[2] += usize::from(other);
+                answers[3] += 1;
+            }
+        }
+    }
+    let [origins, refused, others, all] = answers;
+    println!("origins.bin: {origins} of {all} calls with an origin other than 0,0, {refused} refused, {others} with other chains than from 0,0");
+    assert!(origins > 800 && refused > 5 && others > 50, "{answers:?}");
 }
 
 /// True where the direction at an end of a line that may be joined has a number that is not finite.

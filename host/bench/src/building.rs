@@ -8,7 +8,7 @@ use answers::{model, BuildCall, Built};
 use lovasuku_chains::door::{self, RawSettings};
 use lovasuku_chains::size::{LINE_WORKSPACE, RECORD};
 use lovasuku_chains::{Dimension, Lines};
-use oracle::{chains::without_marks, switch, Oracle};
+use oracle::{chains::without_marks, settings, Oracle};
 
 /// The times of a call, taken after both sides have been seen to answer alike. The error is a
 /// sentence about the first difference.
@@ -23,7 +23,7 @@ pub fn compare(oracle: Oracle, call: &BuildCall, patience: Patience) -> Result<T
     let mut port = || timed(|| build(call, &coordinates, &mut rooms));
     let mut rust = || timed(|| hidden(&ready).run());
     let times = || measured(&mut [&mut port, &mut rust], patience);
-    Ok(switch::under(call.switch == 1, times))
+    Ok(settings::under(call, times))
 }
 
 /// The nanoseconds of the port on a call and on the same with extras of each type, run in turn, after
@@ -85,6 +85,7 @@ fn build(call: &BuildCall, coordinates: &[f64], rooms: &mut Rooms) -> i64 {
     };
     let settings = RawSettings {
         tolerance: f64::from_bits(call.tolerance),
+        origin: call.origin.map(f64::from_bits),
         switch: call.switch,
         limit: f64::from_bits(call.limit),
     };

@@ -1,9 +1,9 @@
 //! The calls of a run: every style of the recorded answers and arbitrary bits, with points put into
-//! some of the lines, and with heights and measures in some calls. The seed and the number of a call
-//! determine it.
+//! some of the lines, with cells counted from an origin, and with heights and measures in some calls.
+//! The seed and the number of a call determine it.
 
 use answers::random::Random;
-use answers::styles::{heights, junctions, pairing, wild, Style, BUILDING, PAIRING};
+use answers::styles::{heights, junctions, origins, pairing, wild, Style, BUILDING, PAIRING};
 use answers::{offset, BuildCall, PairingCall, WhyCall, TYPES};
 use lovasuku_chains::size::{MOST_ENDS, MOST_LINES, MOST_POINTS};
 
@@ -33,6 +33,9 @@ const REAL: u64 = 2_000;
 
 /// One building call in so many has a coordinate that is no place, beside those whose style has.
 const LOST: usize = 16;
+
+/// One building call in so many has an origin, beside those whose style has.
+const ORIGINS: usize = 3;
 
 /// One call in so many has the limit of an offset.
 const OFFSETS: usize = 4;
@@ -84,6 +87,9 @@ pub fn numbered(seed: u64, number: u64) -> Numbered {
     let mut call = stretched(&mut random, call, more);
     if random.one_in(LOST) {
         lose(&mut random, &mut call);
+    }
+    if random.one_in(ORIGINS) {
+        call = origins::with_origin(&mut random, &call);
     }
     if random.one_in(HIGH) {
         let wkb_type = random.pick(&TYPES[1..]);
@@ -167,8 +173,8 @@ fn stretched(random: &mut Random, call: BuildCall, more: usize) -> BuildCall {
     if left == 0 {
         return call;
     }
-    let (tolerance, switch, limit) = (call.tolerance, call.switch, call.limit);
-    let mut longer = BuildCall { tolerance, switch, limit, ..BuildCall::default() };
+    let BuildCall { tolerance, origin, switch, limit, .. } = call;
+    let mut longer = BuildCall { tolerance, origin, switch, limit, ..BuildCall::default() };
     for (line, first) in call.firsts().into_iter().enumerate() {
         let mut points = call.points(line, first);
         let lines_left = call.lines() - line;
@@ -197,7 +203,8 @@ fn inner(random: &mut Random, neighbour: [u64; 2]) -> [u64; 2] {
 const ADDED_PAIRS: [Style<PairingCall>; 2] = [("short", pairing::short), ("rim", pairing::rim)];
 
 /// The styles of building calls that this comparison adds.
-const ADDED: [Style<BuildCall>; 3] = [("tiny", tiny), ("any bits", any_bits), ("far", wild::far)];
+const ADDED: [Style<BuildCall>; 4] =
+    [("tiny", tiny), ("any bits", any_bits), ("far", wild::far), ("tiles", origins::tiles)];
 
 /// Up to four lines of two or three points on a grid of four: the unit square, zeros of both signs,
 /// or places about the edge of a cell.

@@ -30,6 +30,7 @@ impl Door for Library {
     fn build(&self, call: &BuildCall, rooms: &mut BuildRooms) -> i64 {
         let settings = RawSettings {
             tolerance: f64::from_bits(call.tolerance),
+            origin: call.origin.map(f64::from_bits),
             switch: call.switch,
             limit: f64::from_bits(call.limit),
         };
@@ -61,6 +62,7 @@ impl Door for ByOffset {
     fn build(&self, call: &BuildCall, rooms: &mut BuildRooms) -> i64 {
         let settings = RawOffset {
             tolerance: f64::from_bits(call.tolerance),
+            origin: call.origin.map(f64::from_bits),
             switch: call.switch,
             offset: offset_of(call.limit),
         };

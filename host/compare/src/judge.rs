@@ -11,7 +11,7 @@ const MANY_ENDS: usize = 1_024;
 /// Who says what the answer is.
 #[derive(Clone, Copy, Debug)]
 pub enum Judge {
-    /// The Rust original with the two edits of the rules. Marks, which it does not know, are the
+    /// The Rust original with the three edits of the rules. Marks, which it does not know, are the
     /// model's.
     Oracle(Oracle),
     /// The rules in plain Rust.
@@ -27,7 +27,7 @@ impl Judge {
         }
     }
 
-    /// The answer to a building call, or the refusal of a coordinate that is no place.
+    /// The answer to a building call, or the refusal of a coordinate or an origin that is no place.
     pub fn build(self, call: &BuildCall) -> Result<Built, Refusal> {
         match self {
             Judge::Oracle(mut oracle) => oracle.build(call),

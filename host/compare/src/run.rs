@@ -43,6 +43,8 @@ pub struct Tally {
     pub told: Styles,
     /// The building and pairing calls whose limit is that of an offset.
     pub offsets: u64,
+    /// The building calls with an origin other than 0,0.
+    pub origins: u64,
     /// The building calls by their types; those that are none of the four stand under 0.
     pub types: BTreeMap<u32, u64>,
     /// The most lines, points and ends of a call.
@@ -55,6 +57,7 @@ impl Tally {
             Call::Build(call) => {
                 let known = stride_of(call.wkb_type).map_or(0, |_| call.wkb_type);
                 *self.types.entry(known).or_default() += 1;
+                self.origins += u64::from(call.origin != [0; 2]);
                 let points = call.coordinates.len() / call.stride();
                 (&mut self.building, [call.lines(), points, 0], Some(call.limit))
             }
@@ -85,6 +88,7 @@ impl Tally {
             }
         }
         self.offsets += other.offsets;
+        self.origins += other.origins;
         for (wkb_type, calls) in other.types {
             *self.types.entry(wkb_type).or_default() += calls;
         }
@@ -110,7 +114,8 @@ impl fmt::Display for Tally {
             0 => format!("none {calls}"),
             _ => format!("{wkb_type} {calls}"),
         });
-        writeln!(f, "types: {}", types.collect::<Vec<_>>().join(", "))?;
+        write!(f, "types: {}", types.collect::<Vec<_>>().join(", "))?;
+        writeln!(f, "; {} with an origin", self.origins)?;
         write!(f, "pairing, up to {ends} ends: {}", list(&self.pairing))?;
         writeln!(f, "; {} of all with an offset in the limit's place too", self.offsets)?;
         writeln!(f, "two ends asked about: {}", list(&self.why))?;

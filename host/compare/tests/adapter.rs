@@ -62,9 +62,10 @@ fn the_adapter_builds_the_recorded_chains() {
             Err(fault) => panic!("{fault}"),
         };
         for (call, answer) in &entries {
+            // The original's function has no origin.
             let angle = match angle(call) {
-                Some(angle) => angle,
-                None => continue,
+                Some(angle) if call.origin == [0; 2] => angle,
+                _ => continue,
             };
             let chains = build_chains(inputs(call), f64::from_bits(call.tolerance), angle);
             match (chains, answer) {

@@ -6,6 +6,12 @@ use std::fmt;
 /// Tolerances for the cells, taken in turn: plain ones, one below every number, and no numbers.
 const TOLERANCES: [f64; 6] = [1.0, 0.1, 1e-7, 5e-324, f64::INFINITY, f64::NAN];
 
+/// Origins for the cells, taken in turn: zeros of both signs, plain ones, the least and the greatest
+/// number, and no numbers. Their number has no factor in common with that of the tolerances, so that
+/// each is taken with each.
+const ORIGINS: [f64; 11] =
+    [0.0, -0.0, 0.25, -0.1, 4096.0, -1e15, 5e-324, f64::MAX, f64::MIN, f64::NEG_INFINITY, f64::NAN];
+
 /// The patterns at which one leaf differs.
 #[derive(Default)]
 pub struct Differing {
@@ -39,12 +45,13 @@ impl Report {
         for bits in patterns {
             let x = f64::from_bits(bits);
             let tolerance = TOLERANCES[report.patterns as usize % TOLERANCES.len()];
+            let origin = ORIGINS[report.patterns as usize % ORIGINS.len()];
             report.patterns += 1;
             report.bits.note(bits, same(leaves::of_bits(bits), x) && kept(x));
             report.root.note(bits, same(leaves::root(x), leaves::processor_root(x)));
             report.floor.note(bits, leaves::floor(x) == leaves::processor_floor(x));
-            let cell = leaves::cell(bits, tolerance);
-            report.cell.note(bits, cell == leaves::processor_cell(bits, tolerance));
+            let cell = leaves::cell(bits, origin, tolerance);
+            report.cell.note(bits, cell == leaves::processor_cell(bits, origin, tolerance));
         }
         report
     }

@@ -5,7 +5,7 @@ mod doors {
     extern "C" {
         pub fn lovasuku_probe_root(x: f64) -> f64;
         pub fn lovasuku_probe_floor(x: f64) -> i64;
-        pub fn lovasuku_probe_cell(bits: u64, tolerance: f64) -> u64;
+        pub fn lovasuku_probe_cell(bits: u64, origin: f64, tolerance: f64) -> u64;
         pub fn lovasuku_probe_of_bits(bits: u64) -> f64;
         pub fn lovasuku_probe_bits_of(x: f64) -> u64;
     }
@@ -22,9 +22,9 @@ pub fn floor(x: f64) -> i64 {
     unsafe { doors::lovasuku_probe_floor(x) }
 }
 
-/// The cell of a coordinate, given by its bits, and 2^63 more.
-pub fn cell(bits: u64, tolerance: f64) -> u64 {
-    unsafe { doors::lovasuku_probe_cell(bits, tolerance) }
+/// The cell of a coordinate, given by its bits, from an origin on, and 2^63 more.
+pub fn cell(bits: u64, origin: f64, tolerance: f64) -> u64 {
+    unsafe { doors::lovasuku_probe_cell(bits, origin, tolerance) }
 }
 
 /// The value of 64 bits.
@@ -49,8 +49,8 @@ pub fn processor_floor(x: f64) -> i64 {
     x.floor() as i64
 }
 
-/// The processor's division, floor and cast, and 2^63 more.
+/// The processor's subtraction, division, floor and cast, and 2^63 more.
 #[inline(never)]
-pub fn processor_cell(bits: u64, tolerance: f64) -> u64 {
-    ((f64::from_bits(bits) / tolerance).floor() as i64 as u64) ^ (1 << 63)
+pub fn processor_cell(bits: u64, origin: f64, tolerance: f64) -> u64 {
+    (((f64::from_bits(bits) - origin) / tolerance).floor() as i64 as u64) ^ (1 << 63)
 }

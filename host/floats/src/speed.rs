@@ -58,8 +58,10 @@ pub fn paces() -> [Pace; 3] {
         },
         Pace {
             name: "cell",
-            leaf: best(&coordinates, |x| leaves::cell(x.to_bits(), 0.37) as f64),
-            processor: best(&coordinates, |x| leaves::processor_cell(x.to_bits(), 0.37) as f64),
+            leaf: best(&coordinates, |x| leaves::cell(x.to_bits(), 12.5, 0.37) as f64),
+            processor: best(&coordinates, |x| {
+                leaves::processor_cell(x.to_bits(), 12.5, 0.37) as f64
+            }),
             most: MOST_FLOOR,
         },
     ]

@@ -12,22 +12,26 @@
 use crate::declared::{self, PairsFunction, PairsOffsetFunction};
 use crate::{Ends, Lines, Refusal, Route};
 
-/// Tolerance, switch and limit as they are lent, unchecked.
+/// Tolerance, origin, switch and limit as they are lent, unchecked.
 #[derive(Clone, Copy, Debug, PartialEq)]
 pub struct RawSettings {
     /// The snap tolerance.
     pub tolerance: f64,
+    /// x and y of the corner that cells are counted from.
+    pub origin: [f64; 2],
     /// 1 where junctions are paired, 0 where they are not.
     pub switch: u8,
     /// The limit; not looked at where the switch is 0.
     pub limit: f64,
 }
 
-/// Tolerance, switch and offset as they are lent, unchecked.
+/// Tolerance, origin, switch and offset as they are lent, unchecked.
 #[derive(Clone, Copy, Debug, PartialEq)]
 pub struct RawOffset {
     /// The snap tolerance.
     pub tolerance: f64,
+    /// x and y of the corner that cells are counted from.
+    pub origin: [f64; 2],
     /// 1 where junctions are paired, 0 where they are not.
     pub switch: u8,
     /// The offset in the limit's place, in millimetres per metre run; not looked at where the
@@ -90,6 +94,7 @@ pub fn result(answer: i64) -> Result<u64, Refusal> {
 /// Builds the chains of lines of a type, which the library takes by its number, whatever dimension
 /// the lines have. The result is the number of chains.
 pub fn build(wkb_type: u32, lines: Lines<'_>, settings: RawSettings, rooms: BuildRooms<'_>) -> i64 {
+    let [origin_x, origin_y] = settings.origin;
     unsafe {
         declared::lovasuku_build(
             wkb_type,
@@ -102,6 +107,8 @@ pub fn build(wkb_type: u32, lines: Lines<'_>, settings: RawSettings, rooms: Buil
             lines.kinds.as_ptr(),
             lines.kinds.len(),
             settings.tolerance,
+            origin_x,
+            origin_y,
             settings.switch,
             settings.limit,
             rooms.table.as_mut_ptr(),
@@ -181,6 +188,7 @@ pub fn build_offset(
     settings: RawOffset,
     rooms: BuildRooms<'_>,
 ) -> i64 {
+    let [origin_x, origin_y] = settings.origin;
     unsafe {
         declared::lovasuku_build_offset(
             wkb_type,
@@ -193,6 +201,8 @@ pub fn build_offset(
             lines.kinds.as_ptr(),
             lines.kinds.len(),
             settings.tolerance,
+            origin_x,
+            origin_y,
             settings.switch,
             settings.offset,
             rooms.table.as_mut_ptr(),

@@ -1,7 +1,7 @@
 //! Chains that own what they hold, in the shape of tylertoo's `build_chains`.
 
 use crate::size::POINT;
-use crate::{limit_of_bend, Chain, LinesBuf, Refusal, Rooms, Settings};
+use crate::{Chain, LinesBuf, Refusal, Rooms, Settings};
 
 /// A line for [`build_chains`].
 #[derive(Clone, Debug)]
@@ -58,7 +58,7 @@ impl From<Chain<'_>> for OwnedChain {
 /// ```
 ///
 /// The Rust compares degrees that a library's arc cosine rounds; here the angle becomes a limit of
-/// the dot product once, by [`limit_of_bend`].
+/// the dot product once, by [`limit_of_bend`](crate::limit_of_bend).
 ///
 /// # Errors
 ///
@@ -95,9 +95,9 @@ where
             None => all.push_empty(line.group),
         }
     }
-    let limit = limit_of_bend(junction_angle_deg);
+    let settings = Settings::default().with_tolerance(snap_tol).with_bend(junction_angle_deg);
     let mut rooms = Rooms::default();
-    let chains = rooms.build(all.lines(), Settings { tolerance: snap_tol, limit })?;
+    let chains = rooms.build(all.lines(), settings)?;
     Ok(chains.iter().map(OwnedChain::from).collect())
 }
 

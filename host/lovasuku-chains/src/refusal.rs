@@ -38,6 +38,8 @@ pub enum Refusal {
     BadLimit,
     /// 22: the offset that stands in the limit's place is above 1,000 millimetres per metre run.
     BadOffset,
+    /// 17: an x or a y of the origin is NaN or infinite, whatever the tolerance is.
+    BadOrigin,
     /// 7: a room is too short. [`Rooms`](crate::Rooms) never lends one that is.
     RoomTooShort,
     /// 8: a piece number occurs more than twice.
@@ -89,6 +91,7 @@ impl Refusal {
             14 => Refusal::RecordRoomTooShort,
             15 => Refusal::NoPlace,
             16 => Refusal::UnknownOrder,
+            17 => Refusal::BadOrigin,
             22 => Refusal::BadOffset,
             25 => Refusal::MixedTypes,
             26 => Refusal::NoTwoEnds,
@@ -107,6 +110,7 @@ impl Refusal {
             Refusal::NoPlace => 15,
             Refusal::BadLimit => 6,
             Refusal::BadOffset => 22,
+            Refusal::BadOrigin => 17,
             Refusal::RoomTooShort => 7,
             Refusal::PieceTooOften => 8,
             Refusal::NotFinite => 9,
@@ -133,6 +137,7 @@ impl Refusal {
             Refusal::NoPlace => "an x or a y is not finite, so that it is no place",
             Refusal::BadLimit => "the limit is not a number from -1 to 1",
             Refusal::BadOffset => "the offset is above 1,000 millimetres per metre run",
+            Refusal::BadOrigin => "the origin is not finite, so that it is no place",
             Refusal::RoomTooShort => "a room is too short",
             Refusal::PieceTooOften => "a piece number occurs more than twice",
             Refusal::NotFinite => {
@@ -170,7 +175,7 @@ mod tests {
         for number in 1..=30 {
             let refusal = Refusal::of_number(number);
             assert_eq!(refusal.number(), number);
-            let known = number <= 16 || [22, 25, 26].contains(&number);
+            let known = number <= 17 || [22, 25, 26].contains(&number);
             assert_eq!(!known, matches!(refusal, Refusal::Unknown(_)));
         }
     }

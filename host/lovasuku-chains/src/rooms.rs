@@ -82,7 +82,7 @@ impl Rooms {
     ///
     /// The first of these that applies: [`Refusal::TooMany`], [`Refusal::TablesDiffer`],
     /// [`Refusal::MarkAboveOne`], [`Refusal::CountsDoNotAddUp`], [`Refusal::TooManyCoordinates`],
-    /// [`Refusal::NoPlace`], [`Refusal::BadLimit`].
+    /// [`Refusal::NoPlace`], [`Refusal::BadLimit`], [`Refusal::BadOrigin`].
     pub fn build<'a>(
         &'a mut self,
         lines: Lines<'a>,
@@ -92,7 +92,8 @@ impl Rooms {
         let n = lines.len();
         self.grow_for_building(n, lines.coordinates.len());
         let (switch, limit) = settings.switch_and_limit();
-        let raw = RawSettings { tolerance: settings.tolerance, switch, limit };
+        let Settings { tolerance, origin, .. } = settings;
+        let raw = RawSettings { tolerance, origin, switch, limit };
         let Rooms { table, members, marks, merged, spare, workspace, .. } = self;
         let rooms = BuildRooms { table, members, marks, merged, spare, workspace };
         let chains = door::result(door::build(lines.dimension.wkb_type(), lines, raw, rooms))?;

@@ -2,21 +2,49 @@
 
 use crate::Offset;
 
-/// The snap tolerance, and whether and how far junctions are paired.
+/// The snap tolerance with the corner that its cells are counted from, and whether and how far
+/// junctions are paired.
 ///
 /// ```
 /// use lovasuku_chains::Settings;
 ///
 /// let exact = Settings::default();
 /// let coarse = exact.with_tolerance(25.0).with_limit(-0.5);
-/// assert_eq!(exact, Settings { tolerance: 0.0, limit: None });
-/// assert_eq!(coarse, Settings { tolerance: 25.0, limit: Some(-0.5) });
+/// assert_eq!(exact, Settings { tolerance: 0.0, origin: [0.0, 0.0], limit: None });
+/// assert_eq!(coarse, Settings { tolerance: 25.0, origin: [0.0, 0.0], limit: Some(-0.5) });
+/// ```
+///
+/// Tiles in coordinates of their own have the same cells where each names the corner that they
+/// all count from, in its own coordinates:
+///
+/// ```
+/// use lovasuku_chains::{LinesBuf, Rooms, Settings};
+///
+/// # fn main() -> Result<(), lovasuku_chains::Refusal> {
+/// let mut rooms = Rooms::default();
+/// let mut chains = |west: f64, origin: [f64; 2]| {
+///     let mut tile = LinesBuf::default();
+///     tile.push([[90.0 - west, 0.0], [108.0 - west, 0.0]], 0);
+///     tile.push([[109.0 - west, 0.0], [120.0 - west, 0.0]], 0);
+///     let settings = Settings::default().with_tolerance(10.0).with_origin(origin);
+///     Ok(rooms.build(tile.lines(), settings)?.len())
+/// };
+/// assert_eq!(chains(0.0, [0.0, 0.0])?, 1);
+/// // Counted from the tile's own zero, a line of the grid runs through the gap.
+/// assert_eq!(chains(99.0, [0.0, 0.0])?, 2);
+/// assert_eq!(chains(99.0, [-99.0, 0.0])?, 1);
+/// # Ok(())
+/// # }
 /// ```
 #[derive(Clone, Copy, Debug, Default, PartialEq)]
 pub struct Settings {
     /// The side of the square cells within which ends meet in round two. Round two runs only
     /// where this is above 0; no tolerance is refused, NaN and infinities included.
     pub tolerance: f64,
+    /// x and y of the corner that cells are counted from: the cell of a coordinate is the floor of
+    /// (coordinate - origin) / tolerance, by x and by y. Refused where it is not finite, whatever
+    /// the tolerance is.
+    pub origin: [f64; 2],
     /// Where given, ends at junctions of three or more are paired, straightest first, as long as
     /// the dot product of their two unit directions is at or below it: -1 takes only a straight
     /// continuation, 0 a right angle too, 1 any turn. Refused where it is not from -1 to 1.
@@ -27,6 +55,11 @@ impl Settings {
     /// The same with another tolerance.
     pub fn with_tolerance(self, tolerance: f64) -> Self {
         Settings { tolerance, ..self }
+    }
+
+    /// The same with cells counted from another corner.
+    pub fn with_origin(self, origin: [f64; 2]) -> Self {
+        Settings { origin, ..self }
     }
 
     /// The same with junctions paired up to a limit.

@@ -165,6 +165,17 @@ fn building_names_its_refusals() {
     );
     assert_eq!(refused(good, plain.with_limit(1.5)), Some(Refusal::BadLimit));
     assert_eq!(refused(good, plain.with_tolerance(f64::NAN)), None);
+    for lost in [f64::NAN, f64::INFINITY, f64::NEG_INFINITY] {
+        for origin in [[lost, 0.0], [0.0, lost]] {
+            // Whatever the tolerance is, for no lines too, and after the limit.
+            let away = plain.with_origin(origin);
+            assert_eq!(refused(good, away), Some(Refusal::BadOrigin));
+            assert_eq!(refused(good, away.with_tolerance(1.0)), Some(Refusal::BadOrigin));
+            assert_eq!(refused(Lines::default(), away), Some(Refusal::BadOrigin));
+            assert_eq!(refused(good, away.with_limit(1.5)), Some(Refusal::BadLimit));
+        }
+    }
+    assert_eq!(refused(good, plain.with_origin([f64::MAX, f64::MIN])), None);
 }
 
 #[test]

@@ -182,6 +182,30 @@ fn case_n_cells_about_zero() {
     assert_eq!(met(-0., -0.25), 2);
 }
 
+/// The number of chains of case G's two lines, the second from the given place, with cells counted
+/// from an origin.
+fn from(origin: [f64; 2], second: f64) -> usize {
+    let lines: [&[Point]; 2] = [&[(0.25, 0.), (1.25, 0.)], &[(second, 0.), (3.5, 0.)]];
+    built(&lines, tolerance(1.).with_origin(origin)).len()
+}
+
+#[test]
+fn cells_are_counted_from_the_origin() {
+    assert_eq!([1.75, 2.].map(|second| from([0., 0.], second)), [1, 2]);
+    assert_eq!([1.75, 2.].map(|second| from([-0., -0.], second)), [1, 2]);
+    // A quarter further on the line of the grid runs behind 2 and not before it.
+    assert_eq!([1.75, 2.].map(|second| from([0.25, 0.], second)), [1, 1]);
+    // Between 1.25 and 1.75 it runs from the half, by x alone.
+    assert_eq!([1.75, 2.].map(|second| from([0.5, 0.], second)), [2, 2]);
+    assert_eq!([1.75, 2.].map(|second| from([0., 0.5], second)), [1, 2]);
+    // Differences to a far origin round alike, so that all ends lie in one cell.
+    assert_eq!(from([1e300, 0.], 2.), 2);
+    // Ends that meet exactly are joined wherever cells are counted from.
+    let chains =
+        built(&[&[(0., 0.), (1., 0.)], &[(1., 0.), (2., 0.)]], exact().with_origin([7., 7.]));
+    assert_eq!(members(&chains), [[0, 1]]);
+}
+
 #[test]
 fn a_limit_is_not_looked_at_without_junction_pairing() {
     let mut rooms = Rooms::default();

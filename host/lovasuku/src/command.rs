@@ -70,7 +70,7 @@ fn tally(
     let tolerance = request.settings.tolerance;
     let mut tally = Tally::of(delivery, lines, chains, lengths, tolerance);
     if tolerance > 0.0 {
-        tally.gaps = gaps(lines, chains, tolerance);
+        tally.gaps = gaps(lines, chains, request.settings);
     }
     tally
 }

@@ -13,7 +13,7 @@ pub fn join(
     capacity: Capacity,
     progress: &Progress,
 ) -> Result<Vec<Chain>, Fault> {
-    let batches = batches(lines, settings.tolerance, capacity)?;
+    let batches = batches(lines, settings, capacity)?;
     progress.begin("joining", lines.len());
     let build = |caller: &mut Caller, batch: &Batch| {
         let chains = caller.build(lines, batch);

@@ -5,13 +5,14 @@ use crate::command::name_of_input;
 use crate::delivery::object::Object;
 use crate::delivery::{Delivery, Heights};
 use crate::joining::Chain;
-use crate::map::{map, Sheet};
+use crate::map::{map, Cells, Sheet};
 use crate::measure::Measure;
 use crate::numbers::{count, short};
 use crate::progress::Progress;
 use crate::tally::Tally;
 use crate::writing::{own_names, Bridges, Chains, Format, Output, Target};
 use anyhow::Result;
+use lovasuku_chains::Settings;
 use std::path::{Path, PathBuf};
 
 /// Where the outputs go.
@@ -113,6 +114,7 @@ impl Outcome<'_> {
         map(&Sheet {
             name: &name,
             settings: &settings_in_words(self.request, self.measure),
+            cells: cells(self.request),
             delivery: self.delivery,
             measure: self.measure,
             chains: self.chains,
@@ -122,9 +124,19 @@ impl Outcome<'_> {
     }
 }
 
+/// The cells of a run, where it has a tolerance.
+fn cells(request: &Request) -> Option<Cells> {
+    let Settings { tolerance, origin, .. } = request.settings;
+    (tolerance > 0.0).then_some(Cells { side: tolerance, origin })
+}
+
 /// The settings of a run in words.
 fn settings_in_words(request: &Request, measure: &Measure) -> String {
-    let mut words = format!("tolerance {}", request.settings.tolerance);
+    let Settings { tolerance, origin: [x, y], .. } = request.settings;
+    let mut words = format!("tolerance {tolerance}");
+    if tolerance > 0.0 && [x, y] != [0.0; 2] {
+        words += &format!(" from {x} {y}");
+    }
     words += &match (request.bend, request.offset, request.settings.limit) {
         (_, Some(offset), Some(limit)) => format!(
             " · junctions paired up to an offset of {offset} (limit {limit}, {}°)",

@@ -7,6 +7,7 @@ use crate::joining::Why;
 use crate::measure::{Measure, RADIUS};
 use crate::numbers::{count, parted, rounded};
 use crate::tally::Tally;
+use lovasuku_chains::Settings;
 use std::fmt::Write;
 use std::time::Duration;
 
@@ -32,6 +33,7 @@ impl Summary<'_> {
             ("joined", Some(self.joined())),
             ("bridges", Some(self.bridges())),
             ("gaps", self.gaps()),
+            ("cells", self.cells()),
             ("limit", self.limit()),
             ("lengths", self.lengths()),
         ];
@@ -173,6 +175,12 @@ impl Summary<'_> {
             None => " (--bridges FILE lists them)",
             Some(_) => "",
         }
+    }
+
+    fn cells(&self) -> Option<String> {
+        let Settings { tolerance, origin: [x, y], .. } = self.request.settings;
+        let counted = tolerance > 0.0 && [x, y] != [0.0; 2];
+        counted.then(|| format!("of side {tolerance}, counted from {x} {y}"))
     }
 
     fn limit(&self) -> Option<String> {

@@ -9,13 +9,15 @@ use lovasuku_command::progress::Progress;
 use networks::{network, Network};
 use std::collections::HashSet;
 
-const SETTINGS: [Settings; 6] = [
-    Settings { tolerance: 0.0, limit: None },
-    Settings { tolerance: 0.0, limit: Some(-0.5) },
-    Settings { tolerance: 0.5, limit: None },
-    Settings { tolerance: 1.0, limit: Some(0.0) },
-    Settings { tolerance: 1.0, limit: Some(-1.0) },
-    Settings { tolerance: 2.0, limit: Some(1.0) },
+const SETTINGS: [Settings; 8] = [
+    Settings { tolerance: 0.0, origin: [0.0, 0.0], limit: None },
+    Settings { tolerance: 0.0, origin: [0.0, 0.0], limit: Some(-0.5) },
+    Settings { tolerance: 0.5, origin: [0.0, 0.0], limit: None },
+    Settings { tolerance: 1.0, origin: [0.0, 0.0], limit: Some(0.0) },
+    Settings { tolerance: 1.0, origin: [0.0, 0.0], limit: Some(-1.0) },
+    Settings { tolerance: 2.0, origin: [0.0, 0.0], limit: Some(1.0) },
+    Settings { tolerance: 1.0, origin: [0.5, -0.25], limit: None },
+    Settings { tolerance: 2.0, origin: [-1e9, 0.75], limit: Some(0.0) },
 ];
 
 fn chains(network: &Network, settings: Settings, capacity: Capacity) -> Option<Vec<Chain>> {
@@ -137,7 +139,7 @@ fn joints_tell_what_they_were_made_by() {
         &[[2.0, 0.0], [1.0, 0.0]],
         &[[1.25, 1.25], [3.0, 3.0]],
     ];
-    let settings = Settings { tolerance: 0.5, limit: Some(-1.0) };
+    let settings = Settings { tolerance: 0.5, origin: [0.0, 0.0], limit: Some(-1.0) };
     let chains = joined(&lines, settings);
     let kinds = |chain: &Chain| chain.joints.iter().map(|joint| joint.kind).collect::<Vec<_>>();
     // The pair that is straight on is selected in round one; the two ends left there meet in round
@@ -155,11 +157,11 @@ fn joints_tell_what_they_were_made_by() {
 fn a_bridge_to_a_piece_that_was_turned() {
     let lines: [&[Point]; 3] =
         [&[[0.0, 0.0], [1.25, 0.0]], &[[4.5, 0.0], [3.5, 0.0]], &[[4.5, 0.0], [6.0, 0.0]]];
-    let chains = joined(&lines, Settings { tolerance: 2.5, limit: None });
+    let chains = joined(&lines, Settings { tolerance: 2.5, origin: [0.0, 0.0], limit: None });
     assert_eq!(chains.len(), 2);
     let lines: [&[Point]; 3] =
         [&[[0.0, 0.0], [1.25, 0.0]], &[[4.5, 0.0], [1.75, 0.0]], &[[4.5, 0.0], [6.0, 0.0]]];
-    let chains = joined(&lines, Settings { tolerance: 1.0, limit: None });
+    let chains = joined(&lines, Settings { tolerance: 1.0, origin: [0.0, 0.0], limit: None });
     // The piece of lines 1 and 2 runs from 6 to 1.75 and is walked backwards, so its members stand
     // against the way of the points.
     assert_eq!(chains[0].members, [0, 2, 1]);

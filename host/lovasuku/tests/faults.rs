@@ -145,12 +145,18 @@ fn an_output_that_is_there_stays_where_a_run_fails() {
 
 #[test]
 fn arguments() {
-    let all: [(&[&str], &str); 13] = [
+    let two = "not two numbers with a comma between them";
+    let all: [(&[&str], &str); 18] = [
         (&["join", "-", "-o", "-", "--limit", "-1.5"], "not a number from -1 to 1"),
         (&["join", "-", "-o", "-", "--limit", "NaN"], "not a number from -1 to 1"),
         (&["join", "-", "-o", "-", "--bend", "181"], "not a number from 0 to 180"),
         (&["join", "-", "-o", "-", "--tolerance", "-1"], "not a number from 0 up"),
         (&["join", "-", "-o", "-", "--tolerance", "inf"], "not a number from 0 up"),
+        (&["join", "-", "-o", "-", "--origin", "1"], two),
+        (&["join", "-", "-o", "-", "--origin", "1,2,3"], two),
+        (&["join", "-", "-o", "-", "--origin", "1,NaN"], two),
+        (&["join", "-", "-o", "-", "--origin", "-inf,0"], two),
+        (&["join", "-", "-o", "-", "--origin", "1 2"], two),
         (&["join", "-", "-o", "-", "--limit", "0", "--bend", "1"], "cannot be used with"),
         (&["join", "-", "-o", "-", "--offset", "1001"], "not a whole number from 0 to 1000"),
         (&["join", "-", "-o", "-", "--offset", "-1"], "not a whole number from 0 to 1000"),

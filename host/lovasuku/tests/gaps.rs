@@ -60,9 +60,10 @@ fn every_open_end_and_its_nearest() {
         let network = network(seed, 20 + seed as usize % 90);
         let tolerance = [0.5, 1.0, 2.0][seed as usize % 3];
         let lines = network.lines();
-        let settings = Settings { tolerance, limit: None };
+        let origin = [0.0, 0.25 * (seed % 5) as f64];
+        let settings = Settings { tolerance, origin, limit: None };
         let chains = join(Dimension::Xy, &lines, settings, Capacity::default()).unwrap();
-        let found = gaps(&lines, &chains, tolerance);
+        let found = gaps(&lines, &chains, settings);
         let ends = ends(&lines, &chains);
         let open = ends.iter().filter(|(_, point, _, group)| at(&lines, *group, *point) == 1);
         let mut wanted = 0;

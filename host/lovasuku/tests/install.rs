@@ -54,12 +54,12 @@ int main(void) {
     double *merged = calloc(lovasuku_merged_room(LOVASUKU_XYZ, c), sizeof *merged);
     double *spare = calloc(lovasuku_spare_room(LOVASUKU_XYZ, c), sizeof *spare);
     uint64_t *workspace = calloc(lovasuku_workspace_room(n), sizeof *workspace);
-    int64_t exact = lovasuku_build(LOVASUKU_XYZ, coordinates, 3 * c, counts, n, groups, n, kinds, n, 0.0, 0, 0.0,
+    int64_t exact = lovasuku_build(LOVASUKU_XYZ, coordinates, 3 * c, counts, n, groups, n, kinds, n, 0.0, 0.0, 0.0, 0, 0.0,
         table, lovasuku_table_room(n), members, lovasuku_members_room(n), marks, lovasuku_marks_room(n),
         merged, lovasuku_merged_room(LOVASUKU_XYZ, c), spare, lovasuku_spare_room(LOVASUKU_XYZ, c),
         workspace, lovasuku_workspace_room(n));
     /* One less of any room is refused, so the helpers name what a call needs and no more. */
-    int64_t less = lovasuku_build(LOVASUKU_XYZ, coordinates, 3 * c, counts, n, groups, n, kinds, n, 0.0, 0, 0.0,
+    int64_t less = lovasuku_build(LOVASUKU_XYZ, coordinates, 3 * c, counts, n, groups, n, kinds, n, 0.0, 0.0, 0.0, 0, 0.0,
         table, lovasuku_table_room(n), members, lovasuku_members_room(n), marks, lovasuku_marks_room(n),
         merged, lovasuku_merged_room(LOVASUKU_XYZ, c), spare, lovasuku_spare_room(LOVASUKU_XYZ, c),
         workspace, lovasuku_workspace_room(n) - 1);

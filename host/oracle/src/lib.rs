@@ -1,14 +1,14 @@
 //! The Rust original as the judge.
 //!
-//! The build script makes two modules of it: one with the two edits of the rules, which is the
+//! The build script makes two modules of it: one with the three edits of the rules, which is the
 //! oracle, and one without. [`Oracle`] calls both. Where the original is not at hand this package
 //! compiles all the same, and [`Oracle::find`] says in one sentence why there is no oracle.
 
 pub mod chains;
 pub mod differences;
 pub mod record;
+pub mod settings;
 pub mod stand_ins;
-pub mod switch;
 
 // The original imports from a crate `geo`; this crate answers to that name as well.
 extern crate self as geo;
@@ -39,7 +39,7 @@ impl Oracle {
     /// The chains of the edited original.
     pub fn chains(self, call: &BuildCall) -> Vec<Chain> {
         let build = || edited::coalesce::window::build(call, f64::from_bits(call.limit));
-        switch::under(call.switch == 1, build)
+        settings::under(call, build)
     }
 
     /// The pairs of the edited original by a route.
@@ -53,7 +53,7 @@ impl Oracle {
     }
 
     /// A building call of the edited original on its geometries, ready to be timed. It is to be
-    /// run under the call's switch, by [`switch::under`].
+    /// run under the call's switch and origin, by [`settings::under`].
     pub fn ready_build<'a>(
         self,
         geometries: &'a [Geometry<f64>],
@@ -82,7 +82,7 @@ impl Oracle {
         unedited::coalesce::window::measure(a, b)
     }
 
-    /// The chains of the unedited original at an angle; switch and limit are not looked at.
+    /// The chains of the unedited original at an angle; switch, limit and origin are not looked at.
     pub fn unedited_chains(self, call: &BuildCall, angle: f64) -> Vec<Chain> {
         unedited::coalesce::window::build(call, angle)
     }
@@ -94,8 +94,8 @@ impl Oracle {
 }
 
 /// The edited original as something that answers calls. The marks and the extras, which it does not
-/// know, are the model's, and so are the refusals of types that are none and of coordinates that are
-/// no place.
+/// know, are the model's, and so are the refusals of types that are none and of coordinates and
+/// origins that are no place.
 impl Port for Oracle {
     fn build(&mut self, call: &BuildCall) -> Result<Built, Refusal> {
         let Built { marks, merged, .. } = Model.build(call)?;

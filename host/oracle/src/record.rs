@@ -4,7 +4,7 @@ use crate::Oracle;
 use answers::format::{write, BuildEntry, PairingEntry, Recorded};
 use answers::random::Random;
 use answers::replay::{folder, FILES};
-use answers::styles::{networks, shapes, stars, tiny, tolerances, wild, Style, PAIRING};
+use answers::styles::{networks, origins, shapes, stars, tiny, tolerances, wild, Style, PAIRING};
 use answers::{BuildCall, PairingCall, Port, Route};
 
 /// How many calls are made of each size.
@@ -44,6 +44,7 @@ pub fn bytes(oracle: Oracle, name: &str) -> Result<Vec<u8>, String> {
                 [("wild", wild::wild), ("bits", wild::bits), ("far", wild::far)];
             building(oracle, &calls(5, &styles, LINES))
         }
+        "origins.bin" => building(oracle, &calls(7, &[("tiles", origins::tiles)], LINES)),
         "pairing.bin" => pairing(oracle, &calls(6, &PAIRING, ENDS))?,
         _ => return Err(format!("{name} is no recorded file")),
     };

@@ -54,6 +54,9 @@ left7 c = rung (left6 (c .before .before)) (placed _ _ _ (c .before .before .bef
 left8 : (c : tie.Else8) → After 8 (start (c .before .before .before .before .before .before .before .before .before .before .before .before))
 left8 c = rung (left7 (c .before .before)) (sym (c .before .switch-bad .ensures) ∙ c .if8 .left)
 
+left9 : (c : tie.Else9) → After 9 (start (c .before .before .before .before .before .before .before .before .before .before .before .before .before .before))
+left9 c = rung (left8 (c .before .before)) (sym (c .before .origin-bad .ensures) ∙ c .if9 .left)
+
 width-of-requires : tie.Need-width-of-requires
 width-of-requires c κs = search needs
 
@@ -100,14 +103,20 @@ switch-bad-requires c κs = search needs
 returns-8 : tie.Need-returns-8
 returns-8 c = halt (left7 (c .before .before)) (sym (c .before .switch-bad .ensures) ∙ c .if8 .taken)
 
+origin-bad-requires : tie.Need-origin-bad-requires
+origin-bad-requires c κs = search needs
+
+returns-9 : tie.Need-returns-9
+returns-9 c = halt (left8 (c .before .before)) (sym (c .before .origin-bad .ensures) ∙ c .if9 .taken)
+
 room-short-requires : tie.Need-room-short-requires
 room-short-requires c κs = search needs
 
-returns-9 : tie.Need-returns-9
-returns-9 c = halt (left8 (c .before .before)) (sym (c .before .room-short .ensures) ∙ c .if9 .taken)
-
 returns-10 : tie.Need-returns-10
-returns-10 c = top (rung (left8 (c .before .before)) (sym (c .before .room-short .ensures) ∙ c .if9 .left))
+returns-10 c = halt (left9 (c .before .before)) (sym (c .before .room-short .ensures) ∙ c .if10 .taken)
+
+returns-11 : tie.Need-returns-11
+returns-11 c = top (rung (left9 (c .before .before)) (sym (c .before .room-short .ensures) ∙ c .if10 .left))
 
 pub refusal-spec : {M : Type 1} → statement M
 refusal-spec =
@@ -128,6 +137,8 @@ refusal-spec =
     returns-7
     switch-bad-requires
     returns-8
-    room-short-requires
+    origin-bad-requires
     returns-9
-    returns-10)
+    room-short-requires
+    returns-10
+    returns-11)

@@ -7,11 +7,11 @@ use native.Mathlib.Omega.{arith}
 use Rattle.chain_keys.proofs.Laws.{Keying, keying-start, keying-placed, keying-group, keying-step, keying-done}
 
 abbrev Inv-loop : tie.InvT-loop
-Inv-loop w₀ records members keys count width groups input spare tolerance e₀ w e =
-    (e ≤ count * 2) × Keying width records members keys count groups input spare (Cells tolerance) w w₀ e
+Inv-loop w₀ records members keys count width groups input spare tolerance ox oy e₀ w e =
+    (e ≤ count * 2) × Keying width records members keys count groups input spare (Cells tolerance ox oy) w w₀ e
 
 abbrev μ-loop : tie.MeasureT-loop
-μ-loop w₀ records members keys count width groups input spare tolerance e₀ w e = count * 2 - e
+μ-loop w₀ records members keys count width groups input spare tolerance ox oy e₀ w e = count * 2 - e
 
 abbrev start : tie.At-loop Inv-loop μ-loop → tie.Start Inv-loop μ-loop
 start c = c .before .before .before .before .before

@@ -6,12 +6,12 @@ use Prim.Native.Nat.{_+_, _≤_}
 use native.Mathlib.Omega.{arith}
 use lib.ListN.{length, getD}
 use Rattle.rules.specs.Walking.{pieceOf}
-use Rattle.rules.specs.Refusals.{recordSize}
+use Rattle.rules.specs.Refusals.{pieceSize}
 use Rattle.chain_pieces.specs.Held.{recordOf}
 use Rattle.chain_merging.proofs.Walked.{sum-fits, first-inside, emitted-alone, emitted-copied}
 
 -- the record of the first entry
-in-record : (s : tie.Start) → recordOf (s .args .old) (pieceOf (getD (s .args .w .now) (s .args .from) 0)) + recordSize ≤ length (s .args .w .now)
+in-record : (s : tie.Start) → recordOf (s .args .old) (pieceOf (getD (s .args .w .now) (s .args .from) 0)) + pieceSize ≤ length (s .args .w .now)
 in-record s =
     let a = s .args in
     first-inside (a .width) (a .w .now) (a .old) (a .from) (a .to) (a .input .now) (a .spare .now) (s .pre .laying .entered)

@@ -9,14 +9,14 @@ use native.Mathlib.Omega.{arith}
 use lib.ListN.{length, getD}
 use Rattle.rules.specs.Plane.{Point, flat}
 use Rattle.rules.specs.Walking.{pieceOf}
-use Rattle.rules.specs.Refusals.{recordSize}
+use Rattle.rules.specs.Refusals.{pieceSize}
 use Rattle.point_slices.specs.Holds.{HoldsFrom}
 use Rattle.chain_pieces.specs.Held.{recordOf}
 use Rattle.chain_merging.proofs.Coordinates.{more-points, lone-recorded, lone-asks, lone-held}
 use Rattle.chain_merging.proofs.Walked.{first-inside}
 
 -- the record of the first entry
-in-record : (s : tie.Start) → recordOf (s .args .old) (pieceOf (getD (s .args .w .now) (s .args .from) 0)) + recordSize ≤ length (s .args .w .now)
+in-record : (s : tie.Start) → recordOf (s .args .old) (pieceOf (getD (s .args .w .now) (s .args .from) 0)) + pieceSize ≤ length (s .args .w .now)
 in-record s =
     let a = s .args in
     first-inside (a .width) (a .w .now) (a .old) (a .from) (a .to) (a .input .now) (a .spare .now) (s .pre .entered)

@@ -6,7 +6,7 @@ use mathlib.Core.Path.{_≡_}
 use native.Mathlib.Omega.{arith}
 use lib.ListN.{length, getD}
 use Rattle.rules.specs.Walking.{pieceOf}
-use Rattle.rules.specs.Refusals.{recordSize}
+use Rattle.rules.specs.Refusals.{pieceSize}
 use Rattle.chain_pieces.specs.Held.{recordOf}
 use Rattle.chain_merging.specs.Emit.{PiecesListable}
 use Rattle.chain_merging.proofs.Listing.{Listing, listing-start, listing-done, listing-record, listing-part, listing-fits, listing-step}
@@ -36,7 +36,7 @@ module _ (i : tie.In-loop Inv-loop μ-loop) where
   abbrev at : ℕ
   at = recordOf (a .args .old) (pieceOf (getD (l .loop .w) (a .args .entries + l .loop .k) 0))
 
-  in-record : (at + recordSize ≤ length (l .loop .w)) × (length (l .loop .w) ≡ length (a .args .w .now))
+  in-record : (at + pieceSize ≤ length (l .loop .w)) × (length (l .loop .w) ≡ length (a .args .w .now))
   in-record = (
     listing-record (a .args .w .now) (a .args .n) (a .args .old) (a .args .entries) (a .args .m) (a .pre) (l .loop .w) (l .loop .r) (l .loop .k) (listing l) (i .loop-test .taken),
     listing l .size,

@@ -17,7 +17,8 @@ returns : tie.Need-returns
 returns c =
     let o = c .before .before .of-bits in
     let e = c .before .floor in
-    joined (c .lift .result) (c .before .before .before .args .n) (e .result) (o .result) (c .before .before .before .args .tolerance) (c .lift .ensures) (e .ensures) (o .ensures)
+    let a = c .before .before .before .args in
+    joined (c .lift .result) (a .n) (e .result) (o .result) (a .origin) (a .tolerance) (c .lift .ensures) (e .ensures) (o .ensures)
 
 pub cell-key-spec : {M : Type 1} → statement M
 cell-key-spec = tie.close (tie.spec of-bits-requires floor-requires lift-requires returns)

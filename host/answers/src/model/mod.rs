@@ -3,8 +3,8 @@
 //! One file per heading of the rules: [`plane`] (keys, directions, the measure), [`selecting`],
 //! [`reasons`] (why two ends are joined or not), [`walking`] (joining and walks), [`layout`] (the
 //! answer's tables). This file has the two rounds. The model refuses types that are none of the
-//! four, coordinates that are no place and what the question adds, and nothing else: it is put only
-//! to calls to which no other refusal applies.
+//! four, coordinates and origins that are no place and what the question adds, and nothing else: it
+//! is put only to calls to which no other refusal applies.
 
 pub mod layout;
 pub mod plane;
@@ -55,10 +55,19 @@ impl Port for Model {
     }
 }
 
+/// What ends meet by: the key of a point of a group.
+pub type KeyOf<'a> = &'a dyn Fn(u32, Point) -> Key;
+
 /// The answer by the rules, whatever the coordinates are.
 pub fn built(call: &BuildCall) -> Built {
+    let tolerance = f64::from_bits(call.tolerance);
+    built_by(call, &exact_key, &|group, point| cell_key(group, point, call.origin, tolerance))
+}
+
+/// The answer where ends meet by the given keys, of round one and of round two.
+pub fn built_by(call: &BuildCall, exact: KeyOf, cells: KeyOf) -> Built {
     let (plain, passing) = lines(call);
-    let mut chains = rounds(call, plain);
+    let mut chains = rounds(call, plain, exact, cells);
     chains.extend(passing);
     layout::built(call, &chains)
 }
@@ -85,18 +94,17 @@ fn run(call: &BuildCall, line: usize, first: usize) -> Vec<Coordinate> {
 }
 
 /// Round one by exact keys and, where the tolerance is above 0, round two by cells.
-fn rounds(call: &BuildCall, pieces: Vec<Piece>) -> Vec<Piece> {
-    let tolerance = f64::from_bits(call.tolerance);
-    let pieces = round(call, pieces, &exact_key);
-    if tolerance > 0.0 {
-        round(call, pieces, &|group, point| cell_key(group, point, tolerance))
+fn rounds(call: &BuildCall, pieces: Vec<Piece>, exact: KeyOf, cells: KeyOf) -> Vec<Piece> {
+    let pieces = round(call, pieces, exact);
+    if f64::from_bits(call.tolerance) > 0.0 {
+        round(call, pieces, cells)
     } else {
         pieces
     }
 }
 
 /// One round: the ends meet at nodes of equal keys, and each walk becomes a piece.
-fn round(call: &BuildCall, pieces: Vec<Piece>, key: &dyn Fn(u32, Point) -> Key) -> Vec<Piece> {
+fn round(call: &BuildCall, pieces: Vec<Piece>, key: KeyOf) -> Vec<Piece> {
     let limit = (call.switch == 1).then(|| f64::from_bits(call.limit));
     let joins = joins(&pieces, key, limit);
     walks(&joins).iter().map(|walk| merge(&pieces, walk)).collect()

@@ -21,15 +21,16 @@ pub fn exact_key(group: u32, point: Point) -> Key {
     (group, point[0] as i64, point[1] as i64)
 }
 
-/// The key of round two: the cells of x and y.
-pub fn cell_key(group: u32, point: Point, tolerance: f64) -> Key {
-    let (x, y) = floats(point);
-    (group, cell(x, tolerance), cell(y, tolerance))
+/// The key of round two: the cells of x and y, counted from an origin.
+pub fn cell_key(group: u32, point: Point, origin: Point, tolerance: f64) -> Key {
+    let ((x, y), (from_x, from_y)) = (floats(point), floats(origin));
+    (group, cell(x, from_x, tolerance), cell(y, from_y, tolerance))
 }
 
-/// The floor of coordinate / tolerance, held within the range of i64, and 0 for NaN.
-pub fn cell(coordinate: f64, tolerance: f64) -> i64 {
-    let floor = (coordinate / tolerance).floor();
+/// The floor of (coordinate - origin) / tolerance, held within the range of i64, and 0 for NaN. The
+/// difference is rounded, and then the quotient.
+pub fn cell(coordinate: f64, origin: f64, tolerance: f64) -> i64 {
+    let floor = ((coordinate - origin) / tolerance).floor();
     let bound = (1u64 << 63) as f64;
     if floor.is_nan() {
         0

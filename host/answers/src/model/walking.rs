@@ -2,15 +2,11 @@
 
 use super::plane::{direction, Key, Point};
 use super::selecting::selected;
-use super::Piece;
+use super::{KeyOf, Piece};
 use std::collections::BTreeMap;
 
 /// Per end the end that it is joined with. Without a limit no junction is paired.
-pub fn joins(
-    pieces: &[Piece],
-    key: &dyn Fn(u32, Point) -> Key,
-    limit: Option<f64>,
-) -> Vec<Option<usize>> {
+pub fn joins(pieces: &[Piece], key: KeyOf, limit: Option<f64>) -> Vec<Option<usize>> {
     let mut joins = vec![None; 2 * pieces.len()];
     for node in nodes(pieces, key) {
         for [a, b] in joined(pieces, &node, limit) {
@@ -22,7 +18,7 @@ pub fn joins(
 }
 
 /// The ends by their keys; within a node they ascend.
-fn nodes(pieces: &[Piece], key: &dyn Fn(u32, Point) -> Key) -> Vec<Vec<usize>> {
+fn nodes(pieces: &[Piece], key: KeyOf) -> Vec<Vec<usize>> {
     let mut nodes: BTreeMap<Key, Vec<usize>> = BTreeMap::new();
     for (p, piece) in pieces.iter().enumerate() {
         let ends = [piece.run[0].point, piece.run[piece.run.len() - 1].point];

@@ -3,6 +3,7 @@
 
 pub mod heights;
 pub mod networks;
+pub mod origins;
 pub mod pairing;
 pub mod shapes;
 pub mod stars;

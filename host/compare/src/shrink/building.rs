@@ -32,8 +32,9 @@ fn lines(call: &BuildCall) -> Vec<Line> {
 
 /// The call with other lines.
 fn with_lines(call: &BuildCall, lines: Vec<Line>) -> BuildCall {
-    let BuildCall { wkb_type, tolerance, switch, limit, .. } = *call;
-    let mut with = BuildCall { wkb_type, tolerance, switch, limit, ..BuildCall::default() };
+    let BuildCall { wkb_type, tolerance, origin, switch, limit, .. } = *call;
+    let settings = BuildCall { tolerance, origin, switch, limit, ..BuildCall::default() };
+    let mut with = BuildCall { wkb_type, ..settings };
     for (numbers, group, kind) in lines {
         with.push_numbers(&numbers.concat(), group, kind);
     }
@@ -57,10 +58,13 @@ fn settings(call: &BuildCall) -> impl Iterator<Item = BuildCall> + '_ {
     let off = (call.switch == 1).then(|| BuildCall { switch: 0, ..call.clone() });
     let tolerances =
         simpler_words(call.tolerance).map(|tolerance| BuildCall { tolerance, ..call.clone() });
+    let origins = simpler_lists(&call.origin)
+        .filter_map(|origin| origin.try_into().ok())
+        .map(|origin| BuildCall { origin, ..call.clone() });
     let limits = simpler_words(call.limit)
         .filter(|&limit| (-1.0..=1.0).contains(&f64::from_bits(limit)))
         .map(|limit| BuildCall { limit, ..call.clone() });
-    off.into_iter().chain(tolerances).chain(limits)
+    off.into_iter().chain(tolerances).chain(origins).chain(limits)
 }
 
 /// Groups and kinds of 0, all at once and one by one.

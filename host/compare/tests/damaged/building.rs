@@ -112,6 +112,11 @@ fn every_refusal_of_the_empty_call() {
     assert_eq!(refused(BuildCall { switch: 2, ..empty() }), -6);
     assert_eq!(refused(BuildCall { switch: 1, limit: u64::MAX, ..empty() }), -6);
     assert_eq!(refused(BuildCall { switch: 0, limit: u64::MAX, ..empty() }), 0);
+    for origin in [[0, u64::MAX], [u64::MAX, 0]] {
+        assert_eq!(refused(BuildCall { origin, ..empty() }), -17);
+        assert_eq!(refused(BuildCall { origin, tolerance: 1f64.to_bits(), ..empty() }), -17);
+        assert_eq!(refused(BuildCall { origin, switch: 2, ..empty() }), -6);
+    }
 }
 
 #[test]
@@ -134,6 +139,17 @@ fn extras_may_be_any_double() {
             }
             assert_eq!(compare_build(&Library, Judge::Model, &call, lost), Ok(()), "{name}");
         }
+    }
+}
+
+#[test]
+fn every_finite_origin_is_taken() {
+    let mut random = Random::new(13);
+    let mut call = accepted().remove(0).1;
+    for k in 0..2_000u64 {
+        call.tolerance = random.pick(&[0f64, 1.0, -1.0, f64::NAN, 1e-300]).to_bits();
+        call.origin = [if k < 64 { 1 << k } else { random.bits() }, random.bits()];
+        assert_eq!(compare_build(&Library, Judge::Model, &call, k), Ok(()), "{call}");
     }
 }
 

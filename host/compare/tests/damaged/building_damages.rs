@@ -33,6 +33,7 @@ pub fn accepted() -> Vec<(&'static str, BuildCall)> {
     small.push_plain(&[(1.0, 0.0), (2.0, 0.0), (3.0, 0.0)]);
     small.push(&[[GREATEST, GREATEST | 1 << 63]], u32::MAX, 1);
     small.limit = f64::NAN.to_bits();
+    small.origin = [GREATEST | 1 << 63, GREATEST];
     let mut edge = small.clone();
     edge.kinds.fill(1);
     (edge.switch, edge.limit) = (1, 1f64.to_bits());
@@ -67,6 +68,7 @@ pub fn damages() -> Vec<Damage> {
     all.extend(counts());
     all.extend(places());
     all.extend(settings());
+    all.extend(origins());
     all.extend(short_rooms(["table", "members", "marks", "merged", "spare", "workspace"]));
     all
 }
@@ -179,5 +181,18 @@ fn settings() -> Vec<Damage> {
         let name = format!("limit {:?}", f64::from_bits(limit));
         all.push(damage(6, &name, move |call| (call.switch, call.limit) = (1, limit)));
     }
+    all
+}
+
+/// Refusal 17: an origin that is no place, by x, by y and by both.
+fn origins() -> Vec<Damage> {
+    let mut all = Vec::new();
+    for lost in NO_PLACES {
+        for (k, name) in ["x", "y"].into_iter().enumerate() {
+            let name = format!("origin's {name} {:?} ({lost:x})", f64::from_bits(lost));
+            all.push(damage(17, &name, move |call| call.origin[k] = lost));
+        }
+    }
+    all.push(damage(17, "origin NaN", |call| call.origin = [u64::MAX; 2]));
     all
 }

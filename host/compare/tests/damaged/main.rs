@@ -83,13 +83,15 @@ pub fn short_rooms<C, const ROOMS: usize>(names: [&str; ROOMS]) -> Vec<Damage<C,
 }
 
 /// The refusals of building in the order of checking.
-pub const IN_ORDER: [i64; 9] = [12, 1, 2, 3, 4, 5, 15, 6, 7];
+pub const IN_ORDER: [i64; 10] = [12, 1, 2, 3, 4, 5, 15, 6, 17, 7];
 
-/// The place of a refusal in the order of checking: 12 stands first, and 15 between 5 and 6.
+/// The place of a refusal in the order of checking: 12 stands first, 15 between 5 and 6, and 17
+/// between 6 and 7.
 fn place(refusal: i64) -> i64 {
     match refusal {
         12 => 0,
         15 => 11,
+        17 => 13,
         _ => 2 * refusal,
     }
 }

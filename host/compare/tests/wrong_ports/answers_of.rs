@@ -1,8 +1,8 @@
 //! Right answers, and wrong ones that a port could plausibly give.
 
-use answers::model::plane::measure;
+use answers::model::plane::{cell_key, exact_key, measure, Point};
 use answers::model::reasons::{told, Told};
-use answers::model::{built, Model};
+use answers::model::{built, built_by, Model};
 use answers::{BuildCall, Built, Pair, PairingCall, Port, Route, WhyCall};
 
 /// The right answer.
@@ -185,6 +185,44 @@ pub fn unturned(call: &BuildCall) -> Built {
 /// Does round one and skips round two.
 pub fn exact_alone(call: &BuildCall) -> Built {
     right(&BuildCall { tolerance: 0, ..call.clone() })
+}
+
+/// Counts cells from 0,0.
+pub fn origin_ignored(call: &BuildCall) -> Built {
+    right(&BuildCall { origin: [0; 2], ..call.clone() })
+}
+
+/// Takes the origin's x for y, and its y for x.
+pub fn axes_exchanged(call: &BuildCall) -> Built {
+    let [x, y] = call.origin;
+    right(&BuildCall { origin: [y, x], ..call.clone() })
+}
+
+/// Adds the origin where it is to be taken away.
+pub fn origin_added(call: &BuildCall) -> Built {
+    right(&BuildCall { origin: call.origin.map(|bits| bits ^ 1 << 63), ..call.clone() })
+}
+
+/// Each number of a point with that of the origin.
+fn from_origin(call: &BuildCall, point: Point, by: impl Fn(f64, f64) -> f64) -> Point {
+    let of = |k: usize| by(f64::from_bits(point[k]), f64::from_bits(call.origin[k])).to_bits();
+    [of(0), of(1)]
+}
+
+/// Divides the coordinate and the origin by the tolerance each, and takes the difference of the two.
+pub fn quotient_first(call: &BuildCall) -> Built {
+    let tolerance = f64::from_bits(call.tolerance);
+    built_by(call, &exact_key, &|group, point| {
+        let quotients = from_origin(call, point, |x, origin| x / tolerance - origin / tolerance);
+        cell_key(group, quotients, [0; 2], 1.0)
+    })
+}
+
+/// Takes the origin away from exact keys too.
+pub fn origin_in_exact_keys(call: &BuildCall) -> Built {
+    let tolerance = f64::from_bits(call.tolerance);
+    let exact = |group, point| exact_key(group, from_origin(call, point, |x, origin| x - origin));
+    built_by(call, &exact, &|group, point| cell_key(group, point, call.origin, tolerance))
 }
 
 /// Joins nothing.

@@ -12,6 +12,8 @@ pub struct Pretended {
     pub typed: fn(u32) -> bool,
     /// Whether a building call is refused for a coordinate that is no place.
     pub nowhere: fn(&BuildCall) -> bool,
+    /// Whether it is refused for an origin that is no place.
+    pub adrift: fn(&BuildCall) -> bool,
     /// The answer to a building call.
     pub build: fn(&BuildCall) -> Built,
     /// The pairs of a pairing call.
@@ -33,6 +35,7 @@ impl Default for Pretended {
         Pretended {
             typed: |wkb_type| stride_of(wkb_type).is_some(),
             nowhere: BuildCall::nowhere,
+            adrift: BuildCall::adrift,
             build: answers_of::right,
             pairs: answers_of::right_pairs,
             told: answers_of::right_reason,
@@ -54,6 +57,9 @@ impl Door for Pretended {
         }
         if (self.nowhere)(call) {
             return -15;
+        }
+        if (self.adrift)(call) {
+            return -17;
         }
         let built = (self.build)(call);
         let merged: Vec<f64> = built.merged.iter().map(|&bits| f64::from_bits(bits)).collect();

@@ -3,6 +3,7 @@
 use super::components::components;
 use super::{at, Line, Point};
 use crate::size::{MOST_LINES, MOST_POINTS};
+use crate::Settings;
 use std::error::Error;
 use std::fmt;
 
@@ -61,14 +62,18 @@ impl fmt::Display for TooLarge {
 impl Error for TooLarge {}
 
 /// Cuts lines into batches of whole components. There is one batch where one call holds all.
-pub fn batches(lines: &[Line], tolerance: f64, capacity: Capacity) -> Result<Vec<Batch>, TooLarge> {
+pub fn batches(
+    lines: &[Line],
+    settings: Settings,
+    capacity: Capacity,
+) -> Result<Vec<Batch>, TooLarge> {
     let all: Batch = (0..lines.len() as u32).collect();
     if size(lines, &all).within(capacity) {
         return Ok(vec![all]);
     }
     let full = Capacity { lines: capacity.lines / SPREAD, points: capacity.points / SPREAD };
     let mut batches: Vec<(Batch, Capacity)> = Vec::new();
-    for component in components(lines, tolerance) {
+    for component in components(lines, settings) {
         let more = size(lines, &component);
         if !more.within(capacity) {
             return Err(too_large(lines, &component, capacity));
@@ -115,7 +120,7 @@ fn too_large(lines: &[Line], component: &[u32], capacity: Capacity) -> TooLarge 
 
 #[cfg(test)]
 mod tests {
-    use super::{batches, Capacity, Line};
+    use super::{batches, Capacity, Line, Settings};
 
     /// Two lines that meet at each of so many places.
     fn twos(places: usize) -> Vec<[[f64; 2]; 2]> {
@@ -137,14 +142,17 @@ mod tests {
     fn what_fits_is_one_batch() {
         let points = twos(8);
         let capacity = Capacity { lines: 16, points: 32 };
-        assert_eq!(batches(&lines(&points), 0.0, capacity), Ok(vec![(0..16).collect()]));
+        assert_eq!(
+            batches(&lines(&points), Settings::default(), capacity),
+            Ok(vec![(0..16).collect()])
+        );
     }
 
     #[test]
     fn every_line_is_in_one_batch_and_components_stay_whole() {
         let points = twos(50);
         let lines = lines(&points);
-        let cut = batches(&lines, 0.0, Capacity { lines: 24, points: 99 }).unwrap();
+        let cut = batches(&lines, Settings::default(), Capacity { lines: 24, points: 99 }).unwrap();
         assert_eq!(cut.len(), 17);
         let mut all: Vec<u32> = cut.concat();
         assert!(cut.iter().all(|batch| batch.len() <= 6 && batch.len() % 2 == 0));
@@ -156,7 +164,8 @@ mod tests {
     fn a_component_that_no_call_holds() {
         let points = twos(4);
         let lines = lines(&points);
-        let fault = batches(&lines, 8.0, Capacity { lines: 7, points: 99 }).unwrap_err();
+        let settings = Settings::default().with_tolerance(8.0);
+        let fault = batches(&lines, settings, Capacity { lines: 7, points: 99 }).unwrap_err();
         assert_eq!((fault.group, fault.lines, fault.points, fault.first), (7, 8, 16, 0));
         assert_eq!(fault.place, [[0.0, 0.0], [2.0, 3.0]]);
     }

@@ -1,6 +1,7 @@
 //! Components: lines that share a key or a cell, directly or over other lines.
 
 use super::{Line, Point};
+use crate::Settings;
 use std::collections::HashMap;
 
 /// What the ends at one node have in common: the group and two whole numbers.
@@ -8,9 +9,10 @@ pub type Key = (u32, i64, i64);
 
 /// The key of an end: its cells where the tolerance is above 0, and else the bits of x and y. Ends
 /// of equal bits lie in one cell, so cells alone tell what meets in either round.
-pub fn key(group: u32, [x, y]: Point, tolerance: f64) -> Key {
+pub fn key(group: u32, [x, y]: Point, settings: Settings) -> Key {
+    let Settings { tolerance, origin: [from_x, from_y], .. } = settings;
     if tolerance > 0.0 {
-        (group, cell(x, tolerance), cell(y, tolerance))
+        (group, cell(x, from_x, tolerance), cell(y, from_y, tolerance))
     } else {
         exact_key(group, [x, y])
     }
@@ -21,19 +23,19 @@ pub fn exact_key(group: u32, [x, y]: Point) -> Key {
     (group, x.to_bits() as i64, y.to_bits() as i64)
 }
 
-/// The floor of coordinate / tolerance, held within the range of i64, and 0 for NaN.
-fn cell(coordinate: f64, tolerance: f64) -> i64 {
-    (coordinate / tolerance).floor() as i64
+/// The floor of (coordinate - origin) / tolerance, held within the range of i64, and 0 for NaN.
+fn cell(coordinate: f64, origin: f64, tolerance: f64) -> i64 {
+    ((coordinate - origin) / tolerance).floor() as i64
 }
 
 /// The components in order of their lowest lines, each with its lines in order. A line that passes
 /// through is a component by itself.
-pub fn components(lines: &[Line], tolerance: f64) -> Vec<Vec<u32>> {
+pub fn components(lines: &[Line], settings: Settings) -> Vec<Vec<u32>> {
     let mut lowest = Lowest::new(lines.len());
     let mut met: HashMap<Key, usize> = HashMap::new();
     for (line, each) in lines.iter().enumerate() {
         for end in each.ends().into_iter().flatten() {
-            let other = *met.entry(key(each.group, end, tolerance)).or_insert(line);
+            let other = *met.entry(key(each.group, end, settings)).or_insert(line);
             lowest.unite(line, other);
         }
     }
@@ -75,12 +77,16 @@ impl Lowest {
 
 #[cfg(test)]
 mod tests {
-    use super::{components, Line};
+    use super::{components, Line, Settings};
 
-    fn of(points: &[[[f64; 2]; 2]], tolerance: f64) -> Vec<Vec<u32>> {
+    fn by(points: &[[[f64; 2]; 2]], settings: Settings) -> Vec<Vec<u32>> {
         let line = |points| Line { points: Some(points), extras: &[], group: 0 };
         let lines: Vec<Line> = points.iter().map(|points| line(&points[..])).collect();
-        components(&lines, tolerance)
+        components(&lines, settings)
+    }
+
+    fn of(points: &[[[f64; 2]; 2]], tolerance: f64) -> Vec<Vec<u32>> {
+        by(points, Settings::default().with_tolerance(tolerance))
     }
 
     #[test]
@@ -95,6 +101,17 @@ mod tests {
         assert_eq!(of(&lines, 0.0), [vec![0, 2, 4], vec![1], vec![3]]);
         assert_eq!(of(&lines, 0.5), [vec![0, 2, 4], vec![1, 3]]);
         assert_eq!(of(&lines, 100.0), [vec![0, 1, 2, 3, 4]]);
+    }
+
+    #[test]
+    fn cells_are_counted_from_the_origin() {
+        let lines = [[[0.0, 0.0], [9.0, 0.0]], [[11.0, 0.0], [30.0, 0.0]]];
+        let from = |origin| by(&lines, Settings { tolerance: 10.0, origin, limit: None });
+        assert_eq!(from([0.0, 0.0]), [vec![0], vec![1]]);
+        assert_eq!(from([5.0, 0.0]), [vec![0, 1]]);
+        assert_eq!(from([0.0, 5.0]), [vec![0], vec![1]]);
+        // Without a tolerance there are no cells.
+        assert_eq!(by(&lines, Settings::default().with_origin([5.0, 5.0])).len(), 2);
     }
 
     #[test]
@@ -115,6 +132,7 @@ mod tests {
             line(Some(&points[..1]), 0),
             line(Some(&points[..]), 0),
         ];
-        assert_eq!(components(&lines, 1.0), [vec![0, 4], vec![1], vec![2], vec![3]]);
+        let settings = Settings::default().with_tolerance(1.0);
+        assert_eq!(components(&lines, settings), [vec![0, 4], vec![1], vec![2], vec![3]]);
     }
 }

@@ -7,7 +7,7 @@
 use super::components::{exact_key, key};
 use super::joints::{distance, end_counts};
 use super::{at, Chain, Line, Point};
-use crate::Nearest;
+use crate::{Nearest, Settings};
 use std::collections::{HashMap, HashSet};
 
 /// A gap below the tolerance that stayed open.
@@ -53,13 +53,14 @@ struct End {
 }
 
 /// The gaps below the tolerance, in order of the chains.
-pub fn gaps(lines: &[Line], chains: &[Chain], tolerance: f64) -> Vec<Gap> {
+pub fn gaps(lines: &[Line], chains: &[Chain], settings: Settings) -> Vec<Gap> {
+    let Settings { tolerance, .. } = settings;
     let counts = end_counts(lines.iter().copied());
     let ends = ends(lines, chains);
     let mut cells: HashMap<_, usize> = HashMap::new();
     let mut groups: HashMap<u32, Vec<End>> = HashMap::new();
     for end in &ends {
-        *cells.entry(key(end.group, end.point, tolerance)).or_default() += 1;
+        *cells.entry(key(end.group, end.point, settings)).or_default() += 1;
         groups.entry(end.group).or_default().push(*end);
     }
     let order =
@@ -78,7 +79,7 @@ pub fn gaps(lines: &[Line], chains: &[Chain], tolerance: f64) -> Vec<Gap> {
             point != from.point && candidate
         };
         let to = others[nearest[&from.group].within(from.point, tolerance, other)?];
-        let [a, b] = [from, &to].map(|end| key(end.group, end.point, tolerance));
+        let [a, b] = [from, &to].map(|end| key(end.group, end.point, settings));
         let why = match a == b {
             false => Why::Cells,
             true if cells[&a] > 2 => Why::Junction,

@@ -128,7 +128,7 @@ pub fn join(
     capacity: Capacity,
 ) -> Result<Vec<Chain>, Fault> {
     let mut caller = Caller::new(dimension, settings);
-    let batches = batches(lines, settings.tolerance, capacity)?;
+    let batches = batches(lines, settings, capacity)?;
     let built = batches.iter().map(|batch| caller.build(lines, batch));
     Ok(in_order(lines, built.collect::<Result<_, Fault>>()?))
 }

@@ -22,6 +22,8 @@ Examples:
       joins what meets exactly, and draws the chains
   lovasuku join roads.geojson -o chains.geojson --tolerance 2 --bridges bridges.geojson
       closes gaps within cells of 2 units too, and lists every segment made that way
+  lovasuku join tile.geojson -o chains.geojson --tolerance 2 --origin -1024,0
+      the same with cells counted from a corner that this tile and its neighbours share
   lovasuku join roads.geojson -o chains.geojsonl --bend 40 --class surface --keep longest
       goes straight on at junctions, up to a bend of 40 degrees, within each class; a feature a line
   lovasuku join roads.geojson -o chains.geojson --offset 268
@@ -53,6 +55,12 @@ because each end lies in exactly one, so that which ends meet never depends on t
 The summary counts bridges longer than T and gaps below T that stayed open, and --bridges lists them
 with their places.
 Degrees are units too: for 2 metres at the equator T is about 0.00002.";
+
+pub const ORIGIN: &str = "\
+Count the cells of the tolerance from this corner: an end lies in column floor((x - X) / T) and row
+floor((y - Y) / T). Tiles that are joined one by one, each in coordinates of its own, have the same cells
+where each names one corner that they share, in its own coordinates. Without this it is 0,0. Which ends
+meet exactly does not depend on it.";
 
 pub const OFFSET: &str = "\
 The same by a bend as road crews state it: so many millimetres of offset per metre run, a whole number

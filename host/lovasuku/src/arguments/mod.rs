@@ -3,7 +3,7 @@
 mod help;
 mod options;
 
-use crate::delivery::{Heights, Reading};
+use crate::delivery::{Heights, Point, Reading};
 use crate::writing::{apart, Format, Keep};
 use clap::error::ErrorKind;
 use clap::{ArgMatches, Command};
@@ -100,6 +100,7 @@ fn of_join(matches: &ArgMatches) -> Result<Request, String> {
         format: text("format").and_then(|name| Format::of(&name)),
         settings: Settings {
             tolerance: number("tolerance").unwrap_or_default(),
+            origin: matches.get_one::<Point>("origin").copied().unwrap_or_default(),
             limit: limit.or_else(|| bend.and_then(limit_of_bend)),
         },
         bend,

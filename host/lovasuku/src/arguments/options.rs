@@ -1,6 +1,7 @@
 //! The subcommands and their options.
 
 use super::help;
+use crate::delivery::Point;
 use crate::writing::{Format, Keep};
 use clap::{value_parser, Arg, ArgAction, Command};
 use lovasuku_chains::Offset;
@@ -65,7 +66,7 @@ fn outputs() -> [Arg; 5] {
     ]
 }
 
-fn settings() -> [Arg; 5] {
+fn settings() -> [Arg; 6] {
     [
         Arg::new("tolerance")
             .long("tolerance")
@@ -75,6 +76,13 @@ fn settings() -> [Arg; 5] {
             .value_parser(|text: &str| within(text, 0.0, f64::MAX))
             .help("Join ends in one square cell of this side, in units of the coordinates")
             .long_help(help::TOLERANCE),
+        Arg::new("origin")
+            .long("origin")
+            .value_name("X,Y")
+            .allow_hyphen_values(true)
+            .value_parser(point)
+            .help("Count the cells of the tolerance from this corner, which else is 0,0")
+            .long_help(help::ORIGIN),
         Arg::new("limit")
             .long("limit")
             .value_name("M")
@@ -160,6 +168,13 @@ fn within(text: &str, lowest: f64, highest: f64) -> Result<f64, String> {
         _ if highest == f64::MAX => Err(format!("not a number from {lowest} up")),
         _ => Err(format!("not a number from {lowest} to {highest}")),
     }
+}
+
+/// Two finite numbers with a comma between them.
+fn point(text: &str) -> Result<Point, String> {
+    let number = |text: &str| text.trim().parse().ok().filter(|x: &f64| x.is_finite());
+    let point = text.split_once(',').and_then(|(x, y)| Some([number(x)?, number(y)?]));
+    point.ok_or_else(|| "not two numbers with a comma between them".into())
 }
 
 /// A whole number of millimetres per metre run that is an offset.

@@ -1,9 +1,10 @@
 //! The head of the page, the legend and the scale.
 
+use super::cells::are_drawn;
 use super::drawing::DIAMOND;
 use super::page::{Page, HEAD, MARGIN, PANEL, WIDTH};
 use super::svg::escape;
-use super::{bridges_of, Sheet};
+use super::{bridges_of, Cells, Sheet};
 use crate::delivery::Point;
 use crate::numbers::{count, parted, short, to_decimals};
 use std::fmt::{Result, Write};
@@ -35,6 +36,10 @@ pub fn legend(out: &mut String, sheet: &Sheet, page: &Page, colours: &[&str]) ->
     row(out, &mut y, INPUT, "line of the input, and its ends")?;
     row(out, &mut y, &stroke("chain", colours.first()), "chain of several lines")?;
     row(out, &mut y, &stroke("alone", colours.last()), "chain of one line")?;
+    if let Some(Cells { side, .. }) = sheet.cells.filter(|_| are_drawn(sheet, page)) {
+        let unit = if sheet.measure.degrees { "degrees" } else { &sheet.measure.unit };
+        row(out, &mut y, CELLS, &format!("cells of the tolerance, {side} {unit}"))?;
+    }
     if sheet.tally.junctions > 0 {
         let diamond = format!(
             "<g class=\"junctions\"><path transform=\"translate(21 0)\" d=\"{DIAMOND}\"/></g>"
@@ -53,6 +58,9 @@ pub fn legend(out: &mut String, sheet: &Sheet, page: &Page, colours: &[&str]) ->
     bridges(out, sheet, page, &mut y)?;
     chains(out, sheet, page, colours, y)
 }
+
+const CELLS: &str =
+    "<path class=\"cells\" d=\"M5-8v16M13-8v16M21-8v16M29-8v16M37-8v16M1-4h40M1 4h40\"/>";
 
 const GAP: &str = "<g class=\"gaps\"><circle cx=\"21\" cy=\"0\" r=\"7\"/></g>";
 

@@ -1,6 +1,7 @@
 //! The map: an SVG of the input, the chains, the junctions and the bridges.
 
 mod bridging;
+mod cells;
 mod colours;
 mod detail;
 mod drawing;
@@ -13,6 +14,7 @@ use crate::delivery::Delivery;
 use crate::joining::{Chain, Joint};
 use crate::measure::Measure;
 use crate::tally::Tally;
+pub use cells::Cells;
 use detail::{Detail, MOST_BYTES};
 use page::{fineness, Page, FEW_BRIDGES, FEW_LINES, HEAD, MARGIN, WIDTH};
 use std::fmt::{Error, Write};
@@ -24,6 +26,8 @@ pub struct Sheet<'a> {
     pub name: &'a str,
     /// The settings in words.
     pub settings: &'a str,
+    /// The cells that ends met in, where there is a tolerance.
+    pub cells: Option<Cells>,
     pub delivery: &'a Delivery<'a>,
     pub measure: &'a Measure,
     pub chains: &'a [Chain],
@@ -38,6 +42,8 @@ text{font:14px system-ui,'Segoe UI',Helvetica,Arial,sans-serif;fill:#2b2b2b}\
 .words{fill:#4a4a4a}\
 .heading{font-weight:600;font-size:15px}\
 .frame{fill:#fff;stroke:#d9d5cc}\
+.cells{fill:none;stroke:#d3cec3;stroke-width:.7}\
+.legend .cells{stroke:#aaa498}\
 .chains path,.chain path,.alone path{fill:none;stroke-linecap:round;stroke-linejoin:round}\
 .alone path{stroke-opacity:.8}\
 .input path{fill:none;stroke:#555;stroke-linejoin:round}\
@@ -115,6 +121,7 @@ fn draw(out: &mut String, sheet: &Sheet, detail: Detail) -> Result<(), Error> {
         page.frame_width(),
         page.frame_height
     )?;
+    cells::grid(out, sheet, &page)?;
     let colours = drawing::chains(out, sheet, &page)?;
     drawing::lines(out, sheet, &page)?;
     drawing::junctions(out, sheet, &page)?;

@@ -64,10 +64,22 @@ impl Page {
 
     /// The place of a point on the page, in pixels from its upper left corner.
     pub fn place(&self, [x, y]: Point) -> Point {
-        let [[west, south], [east, north]] = self.bounds;
-        let right = self.scale * self.narrow * half(middle(west, east), x);
-        let up = self.scale * half(middle(south, north), y);
+        let [middle_x, middle_y] = self.middle();
+        let right = self.scale * self.narrow * half(middle_x, x);
+        let up = self.scale * half(middle_y, y);
         [MARGIN + FRAME_WIDTH / 2.0 + right, HEAD + self.frame_height / 2.0 - up]
+    }
+
+    /// The point in the middle of the frame.
+    pub fn middle(&self) -> Point {
+        let [[west, south], [east, north]] = self.bounds;
+        [middle(west, east), middle(south, north)]
+    }
+
+    /// The pixels of a length, along x and along y.
+    pub fn pixels(&self, length: f64) -> Point {
+        let pixels = self.scale * (length / 2.0);
+        [pixels * self.narrow, pixels]
     }
 
     /// A round length for the scale: its pixels and its words.

@@ -100,6 +100,11 @@ fn digits(steps: i64, grid: f64) -> String {
     }
 }
 
+/// A number of pixels in digits, to a tenth.
+pub fn digits_of(pixels: f64) -> String {
+    digits((pixels * 10.0).round() as i64, 0.1)
+}
+
 /// A place on the page in digits: x and y, on the page's grid.
 pub fn place(page: &Page, point: Point) -> [String; 2] {
     step(page, point).map(|steps| digits(steps, page.detail.grid))
