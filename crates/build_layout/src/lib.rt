@@ -3,11 +3,13 @@ use chain_pieces::MARKS;
 use chain_pieces::MEMBERS;
 use rules::PIECE;
 use rules::RECORD;
-ghost use Prim.Native.Nat.{_+_, _^_};
+ghost use Prim.Native.Nat.{_+_, _*_, _^_};
 ghost use lib.Seq.{slice};
-ghost use Rattle.rules.specs.Layout.{build, lent};
-ghost use Rattle.point_slices.specs.Holds.{Holds};
-ghost use Rattle.build_layout.specs.Laying.{Narrow, ChainLayable, Chained, Rest, passingOf, Rested, Layable, Outputs};
+ghost use mathlib.Core.List.{_++_};
+ghost use Rattle.rules.specs.Layout.{table as table-of, laidOut, lent};
+ghost use Rattle.rules.specs.Refusals.{recordSize};
+ghost use Rattle.point_slices.specs.Holds.{HoldsFrom};
+ghost use Rattle.build_layout.specs.Laying.{Narrow, PiecesLayable, ChainLayable, Chained, Rest, passingOf, Rested, Layable, Outputs};
 
 // The k words of w from `from` on, as u32, in `out` from `at` on.
 fn lay_words(w: &[u64], from: usize, k: usize, out: &mut [u32], at: usize)
@@ -23,8 +25,8 @@ fn lay_words(w: &[u64], from: usize, k: usize, out: &mut [u32], at: usize)
 
 // The k words of w from `from` on, as u8.
 fn lay_marks(w: &[u64], from: usize, k: usize, out: &mut [u8])
-    requires { ⌜ Narrow (now w) from k (2 ^ 8) (now out) ⌝ }
-    ensures { λ _. ⌜ Holds (now (out .exit)) (now (out .entry)) k (slice from (from + k) (now (w .entry))) ⌝ }
+    requires { ⌜ Narrow (now w) from k (2 ^ 8) (now out) 0 ⌝ }
+    ensures { λ _. ⌜ HoldsFrom (now (out .exit)) (now (out .entry)) 0 k (slice from (from + k) (now (w .entry))) ⌝ }
 {
     let mut i = 0;
     while i < k {
@@ -41,7 +43,11 @@ fn lay_pieces<'a>(
     coordinates: &'a [u64],
     copies: &'a [u64],
     table: &mut [u32],
-) {
+)
+    requires { ⌜ PiecesLayable width (now w) p (now coordinates) (now copies) (now table) ⌝ }
+    ensures { λ _. ⌜ ((y : PiecesLayable width (now (w .entry)) p (now (coordinates .entry)) (now (copies .entry)) (now (table .entry)))
+        → HoldsFrom (now (table .exit)) (now (table .entry)) 0 (p * recordSize) (table-of (y .counts) 0 0 (y .ps))) ⌝ }
+{
     let mut q = 0;
     while q < p {
         lay_words(w, q * PIECE, PIECE, table, q * RECORD);
