@@ -99,7 +99,8 @@ fn lay_rest(
     marks: &mut [u8],
 ) -> usize
     requires { ⌜ Rest width (now coordinates) (now counts) (now kinds) j m (now table) (now members) (now marks) ⌝ }
-    ensures { λ r. ⌜ ((y : Rest width (now (coordinates .entry)) (now (counts .entry)) (now (kinds .entry)) j m (now (table .entry)) (now (members .entry)) (now (marks .entry)))
+    ensures { λ r. ⌜ ((y : Rest width (now (coordinates .entry)) (now (counts .entry)) (now (kinds .entry)) j m
+        (now (table .entry)) (now (members .entry)) (now (marks .entry)))
         → Rested (now (counts .entry)) j m (passingOf width (lent (now (coordinates .entry)) (now (counts .entry)) (y .groups) (now (kinds .entry))))
         (now (table .exit)) (now (table .entry))
         (now (members .exit)) (now (members .entry))
@@ -142,7 +143,8 @@ pub fn lay_out<'a>(
     requires { ⌜ Layable width (now w) n p l (now coordinates) (now copies) (now counts) (now kinds) (now table) (now members) (now marks) ⌝ }
     ensures { λ r. ⌜ ((y : Layable width (now (w .entry)) n p l (now (coordinates .entry)) (now (copies .entry)) (now (counts .entry)) (now (kinds .entry))
         (now (table .entry)) (now (members .entry)) (now (marks .entry)))
-        → Outputs (laidOut width (now (counts .entry)) (y .ps ++ passingOf width (lent (now (coordinates .entry)) (now (counts .entry)) (y .groups) (now (kinds .entry)))))
+        → Outputs (laidOut width (now (counts .entry))
+        (y .ps ++ passingOf width (lent (now (coordinates .entry)) (now (counts .entry)) (y .groups) (now (kinds .entry)))))
         (now (table .exit)) (now (table .entry))
         (now (members .exit)) (now (members .entry))
         (now (marks .exit)) (now (marks .entry)) r) ⌝ }
