@@ -115,7 +115,7 @@ module _ (t : ℕ) (l : Lines) (s : Settings) (o : Rooms) where
       accepted {table′} {members′} {marks′} {spare′} {workspace′} {r} q p c =
           let same : build w s l ≡ builtOf t l s = ap (λ (v : ℕ). build v s l) e in
           let u : Outputs (builtOf t l s) table′ (o .table) members′ (o .members) marks′ (o .marks) r =
-              subst (λ (b : Laid). Outputs b table′ (o .table) members′ (o .members) marks′ (o .marks) r) same q in
+          subst (λ (b : Laid). Outputs b table′ (o .table) members′ (o .members) marks′ (o .marks) r) same q in
           record {
             answer = accepted-is (refusalOf t l s o) _ (builtOf t l s .number) (u .number) z;
             rooms =
