@@ -9,8 +9,8 @@ use native.Mathlib.Nat.{add-mul, mul-le-mul-right}
 use lib.ListN.{length, getD, take, drop, length-drop}
 use Rattle.rules.specs.Lists.{one, total}
 use Rattle.rules.specs.Plane.{points}
-use Rattle.rules.specs.Chaining.{Piece, Line, plain, alone, pieces}
-use Rattle.rules.specs.Layout.{lines, copy, loop, five, six, rows, table as table-of, lent}
+use Rattle.rules.specs.Chaining.{Piece, Line, alone, pieces}
+use Rattle.rules.specs.Layout.{lines, copy, loop, six, rows, table as table-of, lent}
 use Rattle.rules.specs.Refusals.{mostPoints, recordSize}
 use Rattle.chain_laws.proofs.Records.{line-at}
 use Rattle.chain_laws.proofs.Room.{lines-length}

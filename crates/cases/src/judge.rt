@@ -267,7 +267,9 @@ pub fn joins(
     if 16 < l {
         return false;
     }
-    let records = [0, n as u32, 1, 0, (l / 2) as u32, closed];
+    let lines = n as u32;
+    let points = (l / 2) as u32;
+    let records = [0, lines, 1, 0, points, closed];
     builds(
         coordinates,
         counts,

@@ -1,7 +1,7 @@
 -- Loops, computed on the book: which points are one, and that every chain's record says so, whether it is a line alone, a line that passes through, or merged.
 use mathlib.Core.Path.{refl}
 use lib.Ieee.{lt, eq, sub}
-use Rattle.rules.specs.Library.{ℕ, _≡_, true, false, List, [], _∷_, replicate}
+use Rattle.rules.specs.Library.{ℕ, _≡_, true, false, [], _∷_, replicate}
 use Rattle.rules.specs.Plane.{points, float}
 use Rattle.rules.specs.Layout.{Lines, lent, loop}
 use Rattle.rules.specs.Refusals.{rooms, refusalOf}
@@ -15,7 +15,7 @@ use Rattle.rules.proofs.Given.{+0, -0, +0·25, +1, +2, not-a-number}
 pub closed : (loop (points 2 (+0 ∷ +0 ∷ +1 ∷ +0 ∷ +0 ∷ +1 ∷ +0 ∷ +0 ∷ [])) ≡ true)
     × (loop (points 2 (+0 ∷ +1 ∷ +2 ∷ +0 ∷ +0 ∷ +1 ∷ [])) ≡ true)
     × (loop (points 2 (+1 ∷ +2 ∷ +1 ∷ +2 ∷ +1 ∷ +2 ∷ [])) ≡ true)
-unfolding book
+unfolding book eq
 closed = (refl, refl, refl)
 
 -- two equal points, one, and none; ends that agree in x alone, in y alone, or by `==` alone
@@ -26,13 +26,13 @@ pub apart : (loop (points 2 (+1 ∷ +2 ∷ +1 ∷ +2 ∷ [])) ≡ false)
     × (loop (points 2 (+0 ∷ +0 ∷ +0 ∷ +1 ∷ +1 ∷ +0 ∷ [])) ≡ false)
     × (loop (points 2 (+0 ∷ +0 ∷ +1 ∷ +0 ∷ +0 ∷ +1 ∷ -0 ∷ +0 ∷ [])) ≡ false)
     × (loop (points 2 (+0 ∷ -0 ∷ +1 ∷ +0 ∷ +0 ∷ +1 ∷ +0 ∷ +0 ∷ [])) ≡ false)
-unfolding book
+unfolding book eq
 apart = (refl, refl, refl, refl, refl, refl, refl)
 
 -- extras are not looked at, neither where they differ nor where they agree
 pub extras : (loop (points 3 (+0 ∷ +0 ∷ 5 ∷ +1 ∷ +0 ∷ 6 ∷ +0 ∷ +0 ∷ not-a-number ∷ [])) ≡ true)
     × (loop (points 3 (+0 ∷ +0 ∷ 5 ∷ +1 ∷ +0 ∷ 6 ∷ +2 ∷ +0 ∷ 5 ∷ [])) ≡ false)
-unfolding book
+unfolding book eq
 extras = (refl, refl)
 
 -- ---- calls
