@@ -57,7 +57,7 @@ extern "C" {
               : (wkb_type) == LOVASUKU_XYZM ? 4 : 0))
 
 /* Numbers of a chain's record; words of workspace for each line and for each end. */
-#define LOVASUKU_RECORD 5
+#define LOVASUKU_RECORD 6
 #define LOVASUKU_LINE_WORKSPACE 192
 #define LOVASUKU_END_WORKSPACE 64
 
@@ -119,15 +119,16 @@ enum lovasuku_reason {
  * are joined if switch_on is 1, as long as the dot product of their directions is at or below limit (-1 straight on, 0
  * a right angle, 1 any turn); with switch_on 0 none are, and limit is not looked at.
  *
- * Written are, with k chains: table, 5k numbers, for each chain its first member, its number of members, its source (0
+ * Written are, with k chains: table, 6k numbers, for each chain its first member, its number of members, its source (0
  * the caller's coordinates, 1 merged), its first coordinate and its number of coordinates, each coordinate counted
- * once; members, n positions of lines, chain by chain; marks, n bytes in the members' order, 1 where the piece that
- * held the line was entered at its last coordinate in the last round that ran; merged, the coordinates of the chains
- * of several lines with their extras, one chain behind another, without repeats of x and y. A chain of one line names
- * the line's own coordinates and is not copied. Chains come in the order of their starts, lines that pass through
- * last.
+ * once, and 1 where it is a loop, else 0; members, n positions of lines, chain by chain; marks, n bytes in the members'
+ * order, 1 where the piece that held the line was entered at its last coordinate in the last round that ran; merged,
+ * the coordinates of the chains of several lines with their extras, one chain behind another, without repeats of x and
+ * y. A chain of one line names the line's own coordinates and is not copied. Chains come in the order of their starts,
+ * lines that pass through last. A loop has at least three coordinates, of which the first and the last agree in x and y
+ * bit for bit: a turning loop, a line there and back, a closed line that passes through.
  *
- * Rooms: table 5n, members n, marks n, merged and spare 2c (3c or 4c with extras), workspace 192n.
+ * Rooms: table 6n, members n, marks n, merged and spare 2c (3c or 4c with extras), workspace 192n.
  *
  * Refusals: 12 wkb_type is none of the four. 1 n is above 4,096. 2 groups or kinds are not n numbers. 3 a kind is
  * above 1. 4 the counts do not add up to the coordinates' length, by the numbers of a coordinate. 5 c is above 65,536.
@@ -262,7 +263,8 @@ int64_t lovasuku_pairs_chosen_offset(const uint8_t *present, size_t present_leng
 /* The chain question: does record k of a table name a chain? The result is 0, which says yes.
  *
  * Lent are the type of the chains, the coordinates and the merged coordinates that the table speaks of, and the table,
- * of which any may come from anywhere. Nothing is written and no room is needed.
+ * of which any may come from anywhere. The last number of a record is not looked at. Nothing is written and no room is
+ * needed.
  *
  * Refusals: 12 wkb_type is none of the four. 10 record k is not wholly in the table, its source is above 1, or the sum
  * of its first coordinate and its number of coordinates, times the numbers of a coordinate, is above the length of the

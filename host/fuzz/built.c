@@ -53,6 +53,13 @@ static bool is_of_a_member(const struct building *call, const uint32_t *record, 
     return false;
 }
 
+/* A loop has at least three coordinates, of which the first and the last agree in x and y bit for bit. */
+static void require_loop_mark(const struct building *call, const uint32_t *record) {
+    const uint64_t *first = (record[2] == 0 ? call->coordinates : call->merged) + call->width * record[3];
+    bool loop = record[4] >= 3 && memcmp(first, first + call->width * (record[4] - 1), 16) == 0;
+    require(record[5] == loop, "a loop is marked, and nothing else");
+}
+
 static bool same(const uint64_t *a, const uint64_t *b) {
     return double_of(a[0]) == double_of(b[0]) && double_of(a[1]) == double_of(b[1]);
 }
@@ -186,6 +193,7 @@ size_t require_built(const struct building *call, size_t chains) {
     for (size_t k = 0; k < chains; k++) {
         const uint32_t *record = call->table + LOVASUKU_RECORD * k;
         merged = require_record(call, record, members, merged);
+        require_loop_mark(call, record);
         start = require_start(call, record, start);
         members += record[1];
     }

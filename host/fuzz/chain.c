@@ -21,11 +21,11 @@ static uint32_t next_number(struct bytes *bytes) {
     return choice < RARELY ? choice % 32 : (uint32_t)rare_number(bytes, choice, edges, COUNT(edges), 4);
 }
 
-/* Mostly a small number, at times one whose fivefold goes beyond 64 bits, at times any. */
+/* Mostly a small number, at times one whose sixfold goes beyond 64 bits, at times any. */
 static uint64_t next_k(struct bytes *bytes) {
-    static const uint64_t edges[] = {UINT64_MAX,         0x3333333333333334, 0x6666666666666667,
-                                     0x999999999999999a, 0xcccccccccccccccd, 0x8000000000000000,
-                                     0x3333333333333333};
+    static const uint64_t edges[] = {UINT64_MAX,         0x2aaaaaaaaaaaaaab, 0x5555555555555556,
+                                     0xaaaaaaaaaaaaaaab, 0xd555555555555556, 0x8000000000000000,
+                                     0x2aaaaaaaaaaaaaaa};
     uint8_t choice = next_byte(bytes);
     return choice < RARELY ? choice % 16 : rare_number(bytes, choice, edges, COUNT(edges), 8);
 }

@@ -1,21 +1,25 @@
 -- From what the rounds leave to the book's record of a building call: what each step asks of a call that no refusal meets, and what a refused one answers.
 use Prim.Native.Nat.{ℕ, zero, suc, _*_, _≤_}
 use mathlib.Core.Path.{_≡_, refl, sym, _∙_, ap, subst}
-use mathlib.Core.List.{List}
+use mathlib.Core.List.{List, _++_}
 use native.Mathlib.Omega.{arith}
 use lib.ListN.{length}
 use Rattle.rules.specs.declared.Settings.{Settings}
 use Rattle.rules.specs.declared.Answer.{Answer}
 use Rattle.rules.specs.declared.Answer.the-variants.{Accepted, Refused}
-use Rattle.rules.specs.Layout.{Lines, build}
+use Rattle.rules.specs.Chaining.{chains}
+use Rattle.rules.specs.Layout.{Lines, Laid, laidOut, build}
 use Rattle.rules.specs.Types.{widthOf}
 use Rattle.rules.specs.Refusals.{Rooms, rooms, lineRoom, refusalOf}
 use Rattle.rules.specs.Calls.{unless, answerOf, written, cleared, builtOf, filled, Built}
 use Rattle.build_refusals.specs.Admitted.{Admitted}
 use Rattle.build_refusals.proofs.Laws.{admitted}
 use Rattle.build_lines.specs.Taken.{Adds}
-use Rattle.build_layout.specs.Laying.{Layable, Outputs}
-use Rattle.build_layout.proofs.Left.{merged-left}
+use Rattle.build_lines.specs.Taken.{plainOf}
+use Rattle.chain_laws.proofs.Counts.{each-weak}
+use Rattle.build_layout.specs.Laying.{passingOf, leftOf, Layable, Outputs}
+use Rattle.build_layout.proofs.Small.{rounds-marks}
+use Rattle.build_layout.proofs.Left.{pieces-all, members-all, left-marked, left-low, left-size, merged-left}
 use Rattle.build_chains.specs.Building.{Buildable, partFrom, AllLeft}
 use Rattle.build_chains.proofs.Parts.{cleared-same}
 
@@ -68,35 +72,33 @@ module _ (t : ℕ) (l : Lines) (s : Settings) (o : Rooms) where
     pub joinable-by : {w : ℕ} → w ≡ widthOf t → Buildable w l s (o .merged) (o .workspace)
     joinable-by e = subst (λ (v : ℕ). Buildable v l s (o .merged) (o .workspace)) (sym e) joinable
 
-    pub left-by : {w at number lines : ℕ} {merged′ spare₁ workspace₁ : List ℕ} → w ≡ widthOf t
-        → AllLeft w l s at number lines merged′ (o .merged) spare₁ (o .spare) workspace₁ (o .workspace)
-        → AllLeft (widthOf t) l s at number lines merged′ (o .merged) spare₁ (o .spare) workspace₁ (o .workspace)
-    left-by {w} {at} {number} {lines} {merged′} {spare₁} {workspace₁} e L =
-        subst (λ (v : ℕ). AllLeft v l s at number lines merged′ (o .merged) spare₁ (o .spare) workspace₁ (o .workspace)) e L
-
     pub spare-long : length (l .coordinates) ≤ length (o .spare)
     spare-long = a .spare-long
 
     module _
-        {at number lines : ℕ}
+        {w at number lines : ℕ}
         {merged′ spare₁ workspace₁ : List ℕ}
-        (L : AllLeft (widthOf t) l s at number lines merged′ (o .merged) spare₁ (o .spare) workspace₁ (o .workspace)) where
+        (e : w ≡ widthOf t)
+        (L : AllLeft w l s at number lines merged′ (o .merged) spare₁ (o .spare) workspace₁ (o .workspace)) where
       -- has the pieces laid out that the rounds leave
-      unfoldable pub layable : Layable (partFrom (length (l .counts)) at workspace₁) (length (l .counts)) number lines (l .counts) (l .kinds) (o .table) (o .members) (o .marks)
+      unfoldable pub layable : Layable w (partFrom (length (l .counts)) at workspace₁) (length (l .counts)) number lines (l .coordinates) merged′ (l .counts) (l .kinds) (o .table) (o .members) (o .marks)
       layable = record {
-        width = widthOf t;
-        coordinates = l .coordinates;
         groups = l .groups;
-        settings = s;
-        copies = merged′;
+        ps = leftOf w s l;
         held = L .left .held;
         turned = L .left .turned;
         number = L .left .number-is;
         listed = L .lines-are;
+        marked = left-marked w s (l .coordinates) (l .counts) (l .groups) (l .kinds);
+        members-low = each-weak _ _ _ (λ x h. omega (arith, a .few)) (left-low w s (l .coordinates) (l .counts) (l .groups) (l .kinds));
+        marks-low = rounds-marks s (plainOf w l);
+        points-few = omega (arith, left-size w s (l .coordinates) (l .counts) (l .groups) (l .kinds), a .small);
+        pieces-all = pieces-all w s (l .coordinates) (l .counts) (l .groups) (l .kinds);
+        members-all = omega (arith, members-all w s (l .coordinates) (l .counts) (l .groups) (l .kinds));
         few = a .few;
         counts-long = refl;
         kinds-long = a .kinds-long;
-        adds = adds;
+        adds = joinable-by e .adds;
         small = a .small;
         table-long = a .table-long;
         members-long = a .members-long;
@@ -105,23 +107,27 @@ module _ (t : ℕ) (l : Lines) (s : Settings) (o : Rooms) where
 
       -- and clears what it used
       pub accepted : {table′ members′ marks′ spare′ workspace′ : List ℕ} {r : ℕ}
-          → Outputs (build (widthOf t) s l) table′ (o .table) members′ (o .members) marks′ (o .marks) r
+          → Outputs (laidOut w (l .counts) (leftOf w s l ++ passingOf w l)) table′ (o .table) members′ (o .members) marks′ (o .marks) r
           → spare′ ≡ cleared (length (l .coordinates)) spare₁
           → workspace′ ≡ cleared (length (l .counts) * lineRoom) workspace₁
           → Built t l s o (Accepted r) (rooms table′ members′ marks′ merged′ spare′ workspace′)
-      unfolding filled
-      accepted u p w = record {
-        answer = accepted-is (refusalOf t l s o) _ (builtOf t l s .number) (u .number) z;
-        rooms =
-            (λ i. rooms
-            (u .records i)
-            (u .listed i)
-            (u .turned i)
-            ((L .left .copied-is ∙ ap (λ (m : List ℕ). written m (o .merged)) (sym (merged-left (widthOf t) s (l .coordinates) (l .counts) (l .groups) (l .kinds)))) i)
-            ((p ∙ cleared-same (length (l .coordinates)) spare₁ (o .spare) (L .spare-rest)) i)
-            ((w ∙ cleared-same (length (l .counts) * lineRoom) workspace₁ (o .workspace) (L .left .rest)) i))
-            ∙ unless-fine (refusalOf t l s o) o (filled t l s o) z;
-      }
+      unfolding filled build chains
+      accepted {table′} {members′} {marks′} {spare′} {workspace′} {r} q p c =
+          let same : build w s l ≡ builtOf t l s = ap (λ (v : ℕ). build v s l) e in
+          let u : Outputs (builtOf t l s) table′ (o .table) members′ (o .members) marks′ (o .marks) r =
+          subst (λ (b : Laid). Outputs b table′ (o .table) members′ (o .members) marks′ (o .marks) r) same q in
+          record {
+            answer = accepted-is (refusalOf t l s o) _ (builtOf t l s .number) (u .number) z;
+            rooms =
+                (λ i. rooms
+                (u .records i)
+                (u .listed i)
+                (u .turned i)
+                ((L .left .copied-is ∙ ap (λ (m : List ℕ). written m (o .merged)) (sym (merged-left w s (l .coordinates) (l .counts) (l .groups) (l .kinds)) ∙ ap (λ (b : Laid). b .merged) same)) i)
+                ((p ∙ cleared-same (length (l .coordinates)) spare₁ (o .spare) (L .spare-rest)) i)
+                ((c ∙ cleared-same (length (l .counts) * lineRoom) workspace₁ (o .workspace) (L .left .rest)) i))
+                ∙ unless-fine (refusalOf t l s o) o (filled t l s o) z;
+          }
 
 -- ---- one record, one answer
 

@@ -7,7 +7,7 @@ use lib.ListN.{length, take, drop, replicate, length-append, length-drop}
 use lib.Seq.{length-take-le, take-at, drop-at, drop-drop}
 use borrow.Rule.Slice.PartMut.{midOf, putMid}
 use Rattle.rules.specs.Chaining.{Piece}
-use Rattle.rules.specs.Refusals.{recordSize}
+use Rattle.rules.specs.Refusals.{pieceSize}
 use Rattle.rules.specs.Calls.{written, cleared}
 use Rattle.point_slices.proofs.Laws.{slice-part}
 use Rattle.chain_pieces.specs.Held.{linesOf, Held}
@@ -52,7 +52,7 @@ held-shift width w a n input copies counts ps l h =
       listed = h .listed;
       room = omega (arith, h .room);
       records =
-          slice-part a (length ps * recordSize) w ∙ sym (slice-part 0 (length ps * recordSize) (drop a w)) ∙ h .records;
+          slice-part a (length ps * pieceSize) w ∙ sym (slice-part 0 (length ps * pieceSize) (drop a w)) ∙ h .records;
       members =
           slice-part (a + n * memberBlock) (length (linesOf ps)) w
           ∙ ap (take (length (linesOf ps))) (sym (drop-drop (n * memberBlock) a w) ∙ ap (λ (k : ℕ). drop k (drop a w)) (sym nought))

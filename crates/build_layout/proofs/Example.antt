@@ -1,5 +1,5 @@
 -- What `lay_out` asks for can be met: a plain line alone, and a line that passes through. Everything computes.
-use Prim.Native.Nat.{ℕ, zero, suc, _<_}
+use Prim.Native.Nat.{ℕ, zero, suc, _<_, zero-le}
 use mathlib.Core.Path.{refl}
 use mathlib.Core.List.{List, [], _∷_}
 use native.Mathlib.Omega.{arith}
@@ -11,6 +11,7 @@ use Rattle.rules.specs.Plane.{nought}
 use Rattle.rules.specs.Chaining.{nothing}
 use Rattle.rules.proofs.Computing.{book}
 use Rattle.point_numbers.specs.Width.{AllWide, none-wide, more-wide}
+use Rattle.chain_laws.proofs.Counts.{nil, cons}
 use Rattle.chain_pieces.specs.Held.{Own}
 use Rattle.build_layout.specs.Laying.{leftOf, Layable}
 
@@ -29,7 +30,7 @@ groups = 0 ∷ 0 ∷ []
 abbrev kinds : List ℕ
 kinds = 0 ∷ 1 ∷ []
 
--- room for two records, two members and two marks, of which one each is used
+-- room for two pieces' records, two members and two marks, of which one each is used
 abbrev work : List ℕ
 work = 0 ∷ 1 ∷ 0 ∷ 0 ∷ 2 ∷ replicate 9 0
 
@@ -48,15 +49,12 @@ unfolding book lt
 wide zero h = more-wide refl (more-wide refl none-wide)
 wide (suc q) h = absurd (omega arith)
 
-pub example : Layable work 2 1 1 counts kinds (replicate 10 0) (replicate 2 0) (replicate 2 0)
+pub example : Layable 2 work 2 1 1 coordinates [] counts kinds (replicate 12 0) (replicate 2 0) (replicate 2 0)
 unfolding book lt
 example =
     record {
-      width = 2;
-      coordinates = coordinates;
       groups = groups;
-      settings = settings;
-      copies = [];
+      ps = leftOf 2 settings (lent coordinates counts groups kinds);
       held = record {
         few = omega arith;
         listed = omega arith;
@@ -71,6 +69,12 @@ example =
       turned = refl;
       number = refl;
       listed = refl;
+      marked = refl;
+      members-low = cons zero-le nil;
+      marks-low = cons zero-le nil;
+      points-few = omega arith;
+      pieces-all = omega arith;
+      members-all = omega arith;
       few = omega arith;
       counts-long = refl;
       kinds-long = refl;

@@ -1,5 +1,5 @@
--- The call as a whole: the words of the pieces that the rounds leave are small, so that they are laid out as they stand; and behind them come the
--- lines that pass through, which is the book's layout of the chains.
+-- The call as a whole: the words of the pieces that stand are small, so that they are laid out as they stand; and behind them come the lines that pass
+-- through, which is the book's layout of both together.
 use Prim.Native.Nat.{ℕ, _+_, _*_, _^_, _≤_, _<_}
 use mathlib.Core.Path.{_≡_, sym, ap, ap₂, _∙_}
 use mathlib.Core.List.{List, _++_, flatMap}
@@ -7,62 +7,57 @@ use native.Mathlib.Omega.{arith}
 use native.Mathlib.Nat.{zero-add}
 use lib.ListN.{length, getD, take, length-append, length-take, length-drop}
 use lib.Seq.{slice}
-use Rattle.rules.specs.Chaining.{Piece, chains}
-use Rattle.rules.specs.Layout.{copy, pieceTable as table-of, laidOut, build, lent}
-use Rattle.rules.specs.Refusals.{mostPoints, recordSize}
+use Rattle.rules.specs.Chaining.{Piece}
+use Rattle.rules.specs.Layout.{copy, six, pieceTable, table as table-of, laidOut, lent}
+use Rattle.rules.specs.Refusals.{mostLines, mostPoints, recordSize, pieceSize}
 use Rattle.rules.specs.Calls.{written}
 use Rattle.chain_laws.proofs.Counts.{each-getD}
-use Rattle.chain_laws.proofs.Records.{table-behind}
+use Rattle.chain_laws.proofs.Records.{rows-behind}
 use Rattle.chain_laws.proofs.Lines.{flatMap-append}
-use Rattle.point_slices.specs.Holds.{Holds}
-use Rattle.point_slices.proofs.Laws.{holds-length, part-length}
+use Rattle.point_slices.specs.Holds.{HoldsFrom}
+use Rattle.point_slices.proofs.Laws.{from-length, part-length}
 use Rattle.chain_pieces.specs.Held.{linesOf, marksOf}
 use Rattle.chain_pieces.proofs.Reading.{getD-part}
-use Rattle.build_layout.specs.Laying.{passingOf, leftOf, Narrow, Rest, Rested, Layable, Outputs}
+use Rattle.build_layout.specs.Laying.{passingOf, Narrow, PiecesLayable, Rest, Rested, Low, Layable, Outputs}
 use Rattle.build_layout.proofs.Parts.{written-on}
-use Rattle.build_layout.proofs.Small.{Low, rounds-marks, table-low}
-use Rattle.build_layout.proofs.Left.{pieces-all, members-all, left-marked, left-low, left-size}
+use Rattle.build_layout.proofs.Small.{table-low}
 use Rattle.chain_pieces.specs.Map.{markBlock, memberBlock}
 
 -- a part of small numbers
-part-narrow : (w : List ℕ) (from k most b : ℕ) (out room : List ℕ) → slice from (from + k) w ≡ out → Low b out → b < most → from + k ≤ length w → k ≤ length room
-    → Narrow w from k most room
-part-narrow w from k most b out room e a h i r =
-    record {
-      inside = i;
-      room = r;
-      below = λ j g.
-          omega (
-            arith,
-            getD-part from k w j g,
-            ap (λ (l : List ℕ). getD l j 0) e,
-            each-getD (λ (x : ℕ). x ≤ b) out j 0 a (omega (arith, ap length e, part-length from k w i)),
-          );
-    }
+part-small : (w : List ℕ) (from k most b : ℕ) (out : List ℕ) → slice from (from + k) w ≡ out → Low b out → b < most → from + k ≤ length w
+    → (i : ℕ) → i < k → getD w (from + i) 0 < most
+part-small w from k most b out e a h i j g =
+    omega (
+      arith,
+      getD-part from k w j g,
+      ap (λ (l : List ℕ). getD l j 0) e,
+      each-getD (λ (x : ℕ). x ≤ b) out j 0 a (omega (arith, ap length e, part-length from k w i)),
+    )
 
-module _ {w : List ℕ} {n p l : ℕ} {counts kinds table members marks : List ℕ} (y : Layable w n p l counts kinds table members marks) where
+module _ {width : ℕ} {w : List ℕ} {n p l : ℕ} {coordinates copies counts kinds table members marks : List ℕ}
+    (y : Layable width w n p l coordinates copies counts kinds table members marks) where
   abbrev qs : List Piece
-  qs = leftOf (y .width) (y .settings) (lent (y .coordinates) counts (y .groups) kinds)
+  qs = y .ps
 
   abbrev rest : List Piece
-  rest = passingOf (y .width) (lent (y .coordinates) counts (y .groups) kinds)
+  rest = passingOf width (lent coordinates counts (y .groups) kinds)
 
   pieces-fit : p + length rest ≤ n
-  pieces-fit = omega (arith, pieces-all (y .width) (y .settings) (y .coordinates) counts (y .groups) kinds, y .number, y .counts-long)
+  pieces-fit = omega (arith, y .pieces-all, y .number)
 
-  members-fit : l + length rest ≡ n
-  members-fit = omega (arith, members-all (y .width) (y .settings) (y .coordinates) counts (y .groups) kinds, y .listed, y .counts-long)
+  members-fit : l + length rest ≤ n
+  members-fit = omega (arith, y .members-all, y .listed)
 
   -- ---- what stands in w
 
-  records-are : slice 0 (0 + p * recordSize) w ≡ table-of counts 0 0 qs
-  records-are = ap (λ (i : ℕ). slice 0 (0 + i * recordSize) w) (y .number) ∙ y .held .records
+  records-are : slice 0 (0 + p * pieceSize) w ≡ pieceTable counts 0 0 qs
+  records-are = ap (λ (i : ℕ). slice 0 (0 + i * pieceSize) w) (y .number) ∙ y .held .records
 
   members-are : slice (n * memberBlock) (n * memberBlock + l) w ≡ linesOf qs
   members-are = ap₂ (λ (i j : ℕ). slice i (i + j) w) (sym (zero-add (n * memberBlock))) (y .listed) ∙ y .held .members
 
   marked : l ≡ length (marksOf qs)
-  marked = y .listed ∙ sym (left-marked (y .width) (y .settings) (y .coordinates) counts (y .groups) kinds)
+  marked = y .listed ∙ sym (y .marked)
 
   marks-are : slice (n * markBlock) (n * markBlock + l) w ≡ marksOf qs
   marks-are = ap (λ (i : ℕ). slice (n * markBlock) (n * markBlock + i) w) marked ∙ y .turned
@@ -80,36 +75,56 @@ module _ {w : List ℕ} {n p l : ℕ} {counts kinds table members marks : List �
 
   -- ---- it is small
 
-  pub records-narrow : Narrow w 0 (p * recordSize) (2 ^ 32) table
-  records-narrow =
-      part-narrow w 0 (p * recordSize) (2 ^ 32) mostPoints (table-of counts 0 0 qs) table records-are
-      (table-low mostPoints counts (omega arith) (y .small) 0 0 qs
-      (omega (arith, y .held .listed, y .few))
-      (omega (arith, left-size (y .width) (y .settings) (y .coordinates) counts (y .groups) kinds, y .small)))
-      (omega arith)
-      (omega (arith, y .held .room, pieces-fit))
-      (omega (arith, y .table-long, pieces-fit))
+  records-small : (i : ℕ) → i < p * pieceSize → getD w i 0 < 2 ^ 32
+  records-small i h =
+      rw zero-add at
+      (part-small w 0 (p * pieceSize) (2 ^ 32) mostPoints (pieceTable counts 0 0 qs) records-are
+      (table-low mostPoints counts (omega arith) (y .small) 0 0 qs (omega (arith, y .held .listed, y .few)) (omega (arith, y .points-few)))
+      (omega arith) (omega (arith, y .held .room, pieces-fit)) i h)
 
-  pub members-narrow : Narrow w (n * memberBlock) l (2 ^ 32) members
+  pub pieces-layable : PiecesLayable width w p coordinates copies table
+  pieces-layable =
+      record {
+        n = n;
+        counts = counts;
+        ps = y .ps;
+        two = y .adds .two;
+        held = y .held;
+        number = y .number;
+        small = records-small;
+        room = omega (arith, y .table-long, pieces-fit);
+      }
+
+  pub members-narrow : Narrow w (n * memberBlock) l (2 ^ 32) members 0
   members-narrow =
-      part-narrow w (n * memberBlock) l (2 ^ 32) (length counts) (linesOf qs) members members-are
-      (left-low (y .width) (y .settings) (y .coordinates) counts (y .groups) kinds)
-      (omega (arith, y .counts-long, y .few))
-      (omega (arith, y .held .room, members-fit))
-      (omega (arith, y .members-long, members-fit))
+      record {
+        inside = inside;
+        room = omega (arith, y .members-long, members-fit);
+        below = part-small w (n * memberBlock) l (2 ^ 32) mostLines (linesOf qs) members-are (y .members-low) (omega arith) inside;
+      }
+    where
+      inside : n * memberBlock + l ≤ length w
+      inside = omega (arith, y .held .room, members-fit)
 
-  pub marks-narrow : Narrow w (n * markBlock) l (2 ^ 8) marks
+  pub marks-narrow : Narrow w (n * markBlock) l (2 ^ 8) marks 0
   marks-narrow =
-      part-narrow w (n * markBlock) l (2 ^ 8) 1 (marksOf qs) marks marks-are (rounds-marks (y .settings) _) (omega arith) marks-inside
-      (omega (arith, y .marks-long, members-fit))
+      record {
+        inside = marks-inside;
+        room = omega (arith, y .marks-long, members-fit);
+        below = part-small w (n * markBlock) l (2 ^ 8) 1 (marksOf qs) marks-are (y .marks-low) (omega arith) marks-inside;
+      }
 
   -- ---- and the lines that pass through fit behind it
 
   module _ {table₁ members₁ marks₁ : List ℕ}
-      (a : Holds table₁ table (p * recordSize) (slice 0 (0 + p * recordSize) w))
-      (b : Holds members₁ members l (slice (n * memberBlock) (n * memberBlock + l) w))
-      (d : Holds marks₁ marks l (slice (n * markBlock) (n * markBlock + l) w))
+      (f : (z : PiecesLayable width w p coordinates copies table) → HoldsFrom table₁ table 0 (p * recordSize) (table-of (z .counts) 0 0 (z .ps)))
+      (b : HoldsFrom members₁ members 0 l (slice (n * memberBlock) (n * memberBlock + l) w))
+      (d : HoldsFrom marks₁ marks 0 l (slice (n * markBlock) (n * markBlock + l) w))
     where
+      a : HoldsFrom table₁ table 0 (p * recordSize) (table-of counts 0 0 qs)
+      unfolding pieces-layable
+      a = f pieces-layable
+
       table-fits : p * recordSize ≤ length table
       table-fits = omega (arith, y .table-long, pieces-fit)
 
@@ -119,36 +134,33 @@ module _ {w : List ℕ} {n p l : ℕ} {counts kinds table members marks : List �
       marks-fits : l ≤ length marks
       marks-fits = omega (arith, y .marks-long, members-fit)
 
-      pub rest-fits : Rest counts kinds p l table₁ members₁ marks₁
+      pub rest-fits : Rest width coordinates counts kinds p l table₁ members₁ marks₁
       rest-fits =
           record {
-            width = y .width;
-            coordinates = y .coordinates;
             groups = y .groups;
             few = omega (arith, y .few, y .counts-long);
             kinds-long = omega (arith, y .kinds-long, y .counts-long);
             adds = y .adds;
             small = y .small;
             members-few = omega (arith, members-fit, y .few);
-            table-fits = omega (arith, holds-length a table-fits, y .table-long, pieces-fit);
-            members-fit = omega (arith, holds-length b members-fits, y .members-long, members-fit);
-            marks-fit = omega (arith, holds-length d marks-fits, y .marks-long, members-fit);
+            table-fits = omega (arith, from-length a (rw zero-add table-fits), y .table-long, pieces-fit);
+            members-fit = omega (arith, from-length b (rw zero-add members-fits), y .members-long, members-fit);
+            marks-fit = omega (arith, from-length d (rw zero-add marks-fits), y .marks-long, members-fit);
           }
 
       pub outputs : {table₂ members₂ marks₂ : List ℕ} {r : ℕ}
-          → ((z : Rest counts kinds p l table₁ members₁ marks₁)
-          → Rested counts p l (passingOf (z .width) (lent (z .coordinates) counts (z .groups) kinds)) table₂ table₁ members₂ members₁ marks₂ marks₁ r)
-          → Outputs (build (y .width) (y .settings) (lent (y .coordinates) counts (y .groups) kinds)) table₂ table members₂ members marks₂ marks r
-      unfolding build laidOut chains rest-fits
-      outputs {table₂} {members₂} {marks₂} {r} f =
-          let s : Rested counts p l rest table₂ table₁ members₂ members₁ marks₂ marks₁ r = f rest-fits in
+          → ((z : Rest width coordinates counts kinds p l table₁ members₁ marks₁)
+          → Rested counts p l (passingOf width (lent coordinates counts (z .groups) kinds)) table₂ table₁ members₂ members₁ marks₂ marks₁ r)
+          → Outputs (laidOut width counts (y .ps ++ passingOf width (lent coordinates counts (y .groups) kinds))) table₂ table members₂ members marks₂ marks r
+      unfolding laidOut rest-fits
+      outputs {table₂} {members₂} {marks₂} {r} g =
+          let s : Rested counts p l rest table₂ table₁ members₂ members₁ marks₂ marks₁ r = g rest-fits in
           record {
             number = omega (arith, s .number, y .number, length-append qs rest);
             records =
                 written-on a (s .records (length (flatMap copy qs))) table-fits
                 ∙ ap (λ (t : List ℕ). written t table)
-                (ap₂ (λ (t : List ℕ) (m : ℕ). t ++ table-of counts m (length (flatMap copy qs)) rest) records-are (y .listed)
-                ∙ sym (table-behind counts qs rest));
+                (ap (λ (m : ℕ). table-of counts 0 0 qs ++ table-of counts m (length (flatMap copy qs)) rest) (y .listed) ∙ sym (rows-behind (six counts) qs rest));
             listed =
                 written-on b (s .listed) members-fits
                 ∙ ap (λ (t : List ℕ). written t members)

@@ -17,8 +17,8 @@ use Rattle.chain_laws.proofs.Room.{lines-length, lines-size, size, chains-size,
 use Rattle.chain_pieces.specs.Held.{linesOf, marksOf}
 use Rattle.build_lines.specs.Taken.{plainOf}
 use Rattle.build_lines.proofs.Passing.{every, ones-long, Lone, pieces-lone, lone-lines, lone-copies}
-use Rattle.build_layout.specs.Laying.{passingOf, leftOf}
-use Rattle.build_layout.proofs.Small.{Low, members-low}
+use Rattle.build_layout.specs.Laying.{passingOf, leftOf, Low}
+use Rattle.build_layout.proofs.Small.{members-low}
 
 -- a line is plain, or it passes through
 pieces-both : (k : ℕ) (ls : List Line) → length (pieces true k ls) + length (pieces false k ls) ≡ length ls

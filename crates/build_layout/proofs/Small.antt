@@ -16,16 +16,13 @@ use Rattle.rules.specs.Lists.{count, total}
 use Rattle.rules.specs.Plane.{nought, exactKey, cellKey}
 use Rattle.rules.specs.Walking.{sideOf, walks}
 use Rattle.rules.specs.Chaining.{cellsOf, Piece, Rule, pieceAt, merge, join, partner, limitOf, roundOne, roundTwo, ruleOf}
-use Rattle.rules.specs.Layout.{copy, five, pieceTable}
-use Rattle.chain_laws.proofs.Counts.{one-same, Each, nil, cons, each-append}
+use Rattle.rules.specs.Layout.{copy, five, pieceTable, rows}
+use Rattle.chain_laws.proofs.Counts.{one-same, nil, cons, each-append}
 use Rattle.chain_laws.proofs.Room.{size, copy-size}
 use Rattle.chain_pieces.specs.Held.{linesOf, marksOf, placeOf}
 use Rattle.chain_pieces.proofs.Reading.{five-own, five-copied}
 use Rattle.build_lines.proofs.Passing.{total-part}
-
--- no number is above b
-abbrev pub Low : ℕ → List ℕ → Type 0
-Low b l = Each (λ x. x ≤ b) l
+use Rattle.build_layout.specs.Laying.{Low}
 
 -- ---- members
 
@@ -81,7 +78,7 @@ module _ (b : ℕ) (counts : List ℕ) (one : 1 ≤ b) (places : total counts �
       ]
 
   pub table-low : (m c : ℕ) (ps : List Piece) → m + length (linesOf ps) ≤ b → c + total (map size ps) ≤ b → Low b (pieceTable counts m c ps)
-  unfolding pieceTable flatMap total
+  unfolding rows flatMap total
   table-low m c [] h k = nil
   table-low m c (p ∷ ps) h k =
       let g : m + (length (p .lines) + length (linesOf ps)) ≤ b = omega (arith, length-append (p .lines) (linesOf ps)) in

@@ -1,18 +1,19 @@
 -- From the pieces that the rounds of an accepted call leave to its answer. Chains and members are numbered on from the pieces to the lines that pass
 -- through. In each record a name with a prime is what a slice is at return, and the plain name what it was.
-use Prim.Native.Nat.{ℕ, _+_, _*_, _≤_, _<_}
+use Prim.Native.Nat.{ℕ, _+_, _*_, _^_, _≤_, _<_}
 use mathlib.Core.Path.{_≡_}
 use mathlib.Core.Bool.{false}
-use mathlib.Core.List.{List, [], _∷_}
+use mathlib.Core.List.{List, [], _∷_, map}
 use lib.ListN.{length, getD}
 use lib.Seq.{slice}
 use Rattle.rules.specs.declared.Settings.{Settings}
 use Rattle.rules.specs.Lists.{total}
 use Rattle.rules.specs.Chaining.{Piece, pieces, roundOne, roundTwo}
-use Rattle.rules.specs.Layout.{Lines, lent, linesIn, pieceTable as table-of, Laid}
-use Rattle.rules.specs.Refusals.{mostLines, mostPoints, recordSize}
+use Rattle.rules.specs.Layout.{Lines, lent, linesIn, table as table-of, Laid}
+use Rattle.rules.specs.Refusals.{mostLines, mostPoints, recordSize, pieceSize}
 use Rattle.rules.specs.Calls.{written}
 use Rattle.point_slices.specs.Holds.{HoldsFrom}
+use Rattle.chain_laws.proofs.Counts.{Each}
 use Rattle.chain_pieces.specs.Held.{linesOf, marksOf, Held}
 use Rattle.build_lines.specs.Taken.{Adds, plainOf}
 use Rattle.chain_pieces.specs.Map.{markBlock}
@@ -29,11 +30,24 @@ leftOf width s l = roundTwo s (roundOne s (plainOf width l))
 
 -- ---- words that are read narrower than they stand
 
--- the k words of w from `from` on are below `most`, and `out` has room for them
-pub record Narrow (w : List ℕ) (from k most : ℕ) (out : List ℕ) : Type 0 where
+-- the k words of w from `from` on are below `most`, and `out` has room for them from `at` on
+pub record Narrow (w : List ℕ) (from k most : ℕ) (out : List ℕ) (at : ℕ) : Type 0 where
   pub inside : from + k ≤ length w
-  pub room : k ≤ length out
+  pub room : at + k ≤ length out
   pub below : (i : ℕ) → i < k → getD w (from + i) 0 < most
+
+-- ---- the pieces as chains
+
+-- the p pieces ps of n lines stand at the front of w in small words, with what they copy, and the table has room for them
+pub record PiecesLayable (width : ℕ) (w : List ℕ) (p : ℕ) (coordinates copies table : List ℕ) : Type 0 where
+  pub n : ℕ
+  pub counts : List ℕ
+  pub ps : List Piece
+  pub two : 2 ≤ width
+  pub held : Held width w 0 n coordinates copies counts ps
+  pub number : p ≡ length ps
+  pub small : (i : ℕ) → i < p * pieceSize → getD w i 0 < 2 ^ 32
+  pub room : p * recordSize ≤ length table
 
 -- ---- one line that passes through
 
@@ -43,17 +57,16 @@ pub record ChainLayable (k chain m : ℕ) (table members marks : List ℕ) : Typ
   pub member-fits : m < length members
   pub mark-fits : m < length marks
 
-pub record Chained (k first count chain m : ℕ) (table′ table members′ members marks′ marks : List ℕ) : Type 0 where
-  pub row : HoldsFrom table′ table (chain * recordSize) recordSize (m ∷ 1 ∷ 0 ∷ first ∷ count ∷ [])
+-- `closed` tells whether it is a loop
+pub record Chained (k first count closed chain m : ℕ) (table′ table members′ members marks′ marks : List ℕ) : Type 0 where
+  pub row : HoldsFrom table′ table (chain * recordSize) recordSize (m ∷ 1 ∷ 0 ∷ first ∷ count ∷ closed ∷ [])
   pub member : HoldsFrom members′ members m 1 (k ∷ [])
   pub mark : HoldsFrom marks′ marks m 1 (0 ∷ [])
 
 -- ---- all lines that pass through
 
--- the groups are any, and the coordinates any, of any width, to which the counts add up; j chains and m members stand before
-pub record Rest (counts kinds : List ℕ) (j m : ℕ) (table members marks : List ℕ) : Type 0 where
-  pub width : ℕ
-  pub coordinates : List ℕ
+-- the groups are any, and the counts add up to the coordinates; j chains and m members stand before
+pub record Rest (width : ℕ) (coordinates counts kinds : List ℕ) (j m : ℕ) (table members marks : List ℕ) : Type 0 where
   pub groups : List ℕ
   pub few : length counts ≤ mostLines
   pub kinds-long : length kinds ≡ length counts
@@ -73,17 +86,25 @@ pub record Rested (counts : List ℕ) (j m : ℕ) (ps : List Piece) (table′ ta
 
 -- ---- a call
 
--- the pieces that the rounds leave stand at the front of w, p pieces with l members in all; n, the coordinates and the rooms are those of an accepted call
-pub record Layable (w : List ℕ) (n p l : ℕ) (counts kinds table members marks : List ℕ) : Type 0 where
-  pub width : ℕ
-  pub coordinates : List ℕ
+-- no number is above b
+abbrev pub Low : ℕ → List ℕ → Type 0
+Low b l = Each (λ x. x ≤ b) l
+
+-- Any pieces ps stand at the front of w with what they copy, p pieces with l members in all, beside the lines that pass through: their numbers are small, and
+-- together there are no more of them than lines. n, the coordinates and the rooms are those of an accepted call.
+pub record Layable (width : ℕ) (w : List ℕ) (n p l : ℕ) (coordinates copies counts kinds table members marks : List ℕ) : Type 0 where
   pub groups : List ℕ
-  pub settings : Settings
-  pub copies : List ℕ
-  pub held : Held width w 0 n coordinates copies counts (leftOf width settings (lent coordinates counts groups kinds))
-  pub turned : slice (n * markBlock) (n * markBlock + length (marksOf (leftOf width settings (lent coordinates counts groups kinds)))) w ≡ marksOf (leftOf width settings (lent coordinates counts groups kinds))
-  pub number : p ≡ length (leftOf width settings (lent coordinates counts groups kinds))
-  pub listed : l ≡ length (linesOf (leftOf width settings (lent coordinates counts groups kinds)))
+  pub ps : List Piece
+  pub held : Held width w 0 n coordinates copies counts ps
+  pub turned : slice (n * markBlock) (n * markBlock + length (marksOf ps)) w ≡ marksOf ps
+  pub number : p ≡ length ps
+  pub listed : l ≡ length (linesOf ps)
+  pub marked : length (marksOf ps) ≡ length (linesOf ps)
+  pub members-low : Low mostLines (linesOf ps)
+  pub marks-low : Low 1 (marksOf ps)
+  pub points-few : total (map (λ (q : Piece). length (q .points)) ps) ≤ mostPoints
+  pub pieces-all : length ps + length (passingOf width (lent coordinates counts groups kinds)) ≤ n
+  pub members-all : length (linesOf ps) + length (passingOf width (lent coordinates counts groups kinds)) ≤ n
   pub few : n ≤ mostLines
   pub counts-long : length counts ≡ n
   pub kinds-long : length kinds ≡ n

@@ -8,10 +8,10 @@ use lib.ListN.{length, getD, take, length-append}
 use Rattle.rules.specs.Lists.{total}
 use Rattle.rules.specs.Plane.{points}
 use Rattle.rules.specs.Chaining.{Piece, Line, plain, alone}
-use Rattle.rules.specs.Layout.{lines, copy, five, pieceTable}
+use Rattle.rules.specs.Layout.{lines, copy, five, rows, pieceTable}
 use Rattle.build_lines.specs.Taken.{Adds}
 use Rattle.chain_laws.proofs.Lines.{flatMap-append}
-use Rattle.chain_laws.proofs.Records.{table-append}
+use Rattle.chain_laws.proofs.Records.{rows-append}
 use Rattle.chain_laws.proofs.Room.{lines-length}
 use Rattle.chain_laws.proofs.Sound.{noLine}
 use Rattle.chain_pieces.specs.Held.{linesOf, marksOf}
@@ -21,7 +21,7 @@ use Rattle.build_lines.proofs.Passing.{plainAt, passed, passed-one, pas
 -- ---- a line alone
 
 alone-table : (counts : List ℕ) (m c k : ℕ) (l : Line) → pieceTable counts m c (alone k l ∷ []) ≡ m ∷ 1 ∷ 0 ∷ total (take k counts) ∷ length (l .points) ∷ []
-unfolding pieceTable alone
+unfolding rows alone
 alone-table counts m c k l = append-nil (five counts m c (alone k l)) ∙ five-own counts m c (alone k l) refl
 
 -- ---- one line more
@@ -56,7 +56,7 @@ module _ (want : Bool) (width : ℕ) (input counts groups kinds : List ℕ) (add
       (record {
         number = length-append qs (alone k line ∷ []);
         records = λ m c.
-            table-append counts m c qs (alone k line ∷ [])
+            rows-append (five counts) m c qs (alone k line ∷ [])
             ∙ ap (λ (r : List ℕ). pieceTable counts m c qs ++ r)
             (alone-table counts (m + length (linesOf qs)) (c + length (flatMap copy qs)) k line
             ∙ ap₂ (λ (i j : ℕ). (m + i) ∷ 1 ∷ 0 ∷ total (take k counts) ∷ j ∷ [])

@@ -11,7 +11,7 @@ use lib.Seq.{slice, slice-empty}
 use Rattle.rules.specs.Lists.{total}
 use Rattle.rules.specs.Plane.{points, flat}
 use Rattle.rules.specs.Chaining.{Piece, nothing, pieces}
-use Rattle.rules.specs.Layout.{lines, pieceTable, lent}
+use Rattle.rules.specs.Layout.{lines, rows, pieceTable, lent}
 use Rattle.point_numbers.specs.Width.{AllWide}
 use Rattle.chain_laws.proofs.Counts.{Each, each-getD}
 use Rattle.chain_laws.proofs.Room.{lines-length}
@@ -44,7 +44,7 @@ pub record Taking (w w₀ : List ℕ) (n k m first : ℕ) (counts kinds : List �
   pub standing : (width : ℕ) (input groups : List ℕ) → Adds width counts input → Standing w n m counts (passed true (lines (points width input) counts groups kinds) k)
 
 pub taking-start : (w : List ℕ) (n : ℕ) (counts kinds : List ℕ) → Taking w w n 0 0 0 counts kinds
-unfolding pieces pieceTable flatMap total
+unfolding pieces rows flatMap total
 taking-start w n counts kinds =
     record {
       within = omega arith;

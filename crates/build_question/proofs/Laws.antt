@@ -15,25 +15,25 @@ use Rattle.rules.specs.Calls.{asked, viewed, answerOf, unless}
 use Rattle.build_question.specs.Parts.{partOf}
 
 module _ (width : ℕ) (input merged table : List ℕ) (k : ℕ) where
-  pub no-record : length table / 5 ≤ k → noChain width input merged table k ≡ true
+  pub no-record : length table / recordSize ≤ k → noChain width input merged table k ≡ true
   unfolding noChain
-  no-record h = simp (lt-ltb (length table) (k * recordSize + 5) (omega arith))
+  no-record h = simp (lt-ltb (length table) (k * recordSize + recordSize) (omega arith))
 
-  pub no-source : k < length table / 5 → 1 < entry table k 2 → noChain width input merged table k ≡ true
+  pub no-source : k < length table / recordSize → 1 < entry table k 2 → noChain width input merged table k ≡ true
   unfolding noChain
-  no-source h s = simp (le-ltb (length table) (k * recordSize + 5) (omega arith), lt-ltb 1 (entry table k 2) s)
+  no-source h s = simp (le-ltb (length table) (k * recordSize + recordSize) (omega arith), lt-ltb 1 (entry table k 2) s)
 
-  pub room-input : k < length table / 5 → entry table k 2 ≡ 0
+  pub room-input : k < length table / recordSize → entry table k 2 ≡ 0
       → noChain width input merged table k ≡ ltb (length input) ((entry table k 3 + entry table k 4) * width)
   unfolding noChain sourceOf
-  room-input h s = simp (le-ltb (length table) (k * recordSize + 5) (omega arith), s)
+  room-input h s = simp (le-ltb (length table) (k * recordSize + recordSize) (omega arith), s)
 
-  pub room-merged : k < length table / 5 → entry table k 2 ≤ 1 → (entry table k 2 ≡ 0 → ⊥)
+  pub room-merged : k < length table / recordSize → entry table k 2 ≤ 1 → (entry table k 2 ≡ 0 → ⊥)
       → noChain width input merged table k ≡ ltb (length merged) ((entry table k 3 + entry table k 4) * width)
   unfolding noChain sourceOf
   room-merged h s z =
       let e : entry table k 2 ≡ 1 = omega arith in
-      simp (le-ltb (length table) (k * recordSize + 5) (omega arith), e)
+      simp (le-ltb (length table) (k * recordSize + recordSize) (omega arith), e)
 
 -- ---- a chain that stands
 
@@ -46,7 +46,7 @@ or-false true b e = let z : _≡_ {A = ℕ} 0 1 = cc in absurd (omega arith)
 or-false false b e = (refl, e)
 
 pub record Stands (width : ℕ) (input merged table : List ℕ) (k : ℕ) : Type 0 where
-  pub row : k * recordSize + 5 ≤ length table
+  pub row : k * recordSize + recordSize ≤ length table
   pub source : entry table k 2 ≤ 1
   pub part : (entry table k 3 + entry table k 4) * width ≤ length (sourceOf (entry table k 2) input merged)
 

@@ -11,7 +11,7 @@ use Rattle.rules.specs.Lists.{count}
 use Rattle.rules.specs.Plane.{points, flat}
 use Rattle.rules.specs.Chaining.{Piece, chains}
 use Rattle.rules.specs.Types.{widthOf}
-use Rattle.rules.specs.Layout.{Lines, linesIn, copy, pieceTable, laidOut, build}
+use Rattle.rules.specs.Layout.{Lines, linesIn, copy, table as table-of, laidOut, build}
 use Rattle.rules.specs.Refusals.{Rooms, refusalOf, lineRoom}
 use Rattle.rules.specs.Calls.{unless, answerOf, written, cleared, builtOf, filled, Built}
 use Rattle.build_refusals.specs.Admitted.{Admitted}
@@ -60,7 +60,7 @@ module _ {t : ℕ} {l : Lines} {s : Settings} {o o′ : Rooms} {n : ℕ} (built 
       (λ x. readAll t (l .coordinates) (filled-is x) (taken .1 x))
       ∙ chains-read t (widthOf t) refl (l .coordinates) (l .counts) (linesIn (widthOf t) l) ps (chains-sound s (linesIn (widthOf t) l))
       (λ k. line-stands (widthOf t) (l .coordinates) (l .counts) (l .groups) (l .kinds) k adds)
-      (drop (length (pieceTable (l .counts) 0 0 ps)) (o .table))
+      (drop (length (table-of (l .counts) 0 0 ps)) (o .table))
       (drop (length (flatMap (λ p. p .lines) ps)) (o .members))
       (drop (length (flatMap (λ p. p .marks) ps)) (o .marks))
       (drop (length (flat (widthOf t) (flatMap copy ps))) (o .merged))

@@ -9,20 +9,20 @@ use native.Mathlib.Omega.{arith}
 use native.Mathlib.Nat.{add-mul, mul-le-mul-right, eq-of-mul-eq-mul-right}
 use lib.Dec.{eqb}
 use lib.ListN.{length, getD, take, drop, length-append, take-append-drop, List·getD-append}
-use lib.Seq.{split-at, length-take-le, getD-take, getD-drop, take-at, drop-at}
+use lib.Seq.{split-at, length-take-le, getD-take, getD-drop, take-at, drop-at, getD-append-add}
 use borrow.Author.Tests.{le-ltb, eqb-true}
 use Rattle.rules.specs.Lists.{one, from, upto, total}
 use Rattle.rules.specs.Plane.{Point, points, flat}
 use Rattle.rules.specs.Chaining.{Piece, nothing, Line}
-use Rattle.rules.specs.Layout.{lines, copied, copy, five, pieceTable}
+use Rattle.rules.specs.Layout.{lines, copied, copy, loop as loopOf, five, six, table as table-of}
 use Rattle.rules.specs.Types.{widthOf}
-use Rattle.rules.specs.Refusals.{rooms, recordSize, entry, sourceOf, noChain}
+use Rattle.rules.specs.Refusals.{rooms, recordSize, pieceSize, entry, sourceOf, noChain}
 use Rattle.build_question.specs.Parts.{partOf}
 use Rattle.build_question.proofs.Laws.{part-there, viewed-part}
 use Rattle.chain_laws.proofs.Counts.{Each, nil, cons, each-getD}
 use Rattle.chain_laws.proofs.Lines.{flatMap-append, map-from}
 use Rattle.chain_laws.proofs.Sound.{noLine, Sound}
-use Rattle.chain_laws.proofs.Records.{record-at, table-length, line-at}
+use Rattle.chain_laws.proofs.Records.{five-length, six-length, rows-length, row-at, line-at}
 use Rattle.point_numbers.proofs.Points.{flat-append, flat-length, points-back}
 use Rattle.build_lines.specs.Taken.{Adds}
 use Rattle.build_lines.proofs.Passing.{total-part}
@@ -136,7 +136,7 @@ module _
     (own : (k : ℕ) → Stands w input (total (take k counts)) (getD ls k noLine .points))
     (t m a c s z : List ℕ) where
   abbrev table′ : List ℕ
-  table′ = pieceTable counts 0 0 ps ++ t
+  table′ = table-of counts 0 0 ps ++ t
 
   abbrev members′ : List ℕ
   members′ = flatMap (λ p. p .lines) ps ++ m
@@ -182,17 +182,32 @@ module _
     pre-size : length pre ≡ q
     pre-size = length-take-le q ps (omega arith)
 
-    -- the five numbers
-    words : take recordSize (drop (q * recordSize) (pieceTable counts 0 0 ps)) ≡ five counts before copies p
+    -- its numbers: the five of a piece, and the loop mark
+    words : take recordSize (drop (q * recordSize) (table-of counts 0 0 ps)) ≡ six counts before copies p
     words =
-        ap₂ (λ (k : ℕ) (l : List Piece). take recordSize (drop (k * recordSize) (pieceTable counts 0 0 l))) (sym pre-size) whole ∙ record-at counts pre p post
+        ap₂ (λ (k : ℕ) (l : List Piece). take recordSize (drop (k * recordSize) (table-of counts 0 0 l))) (sym pre-size) whole ∙ row-at (six counts) recordSize (six-length counts) pre p post
 
-    word : (i : ℕ) → i < recordSize → entry table′ q i ≡ getD (five counts before copies p) i 0
-    word i h =
-        List·getD-append (pieceTable counts 0 0 ps) t 0 (q * recordSize + i) (omega (arith, table-length counts 0 0 ps))
-        ∙ sym (getD-drop (q * recordSize) (pieceTable counts 0 0 ps) i 0)
-        ∙ sym (getD-take recordSize (drop (q * recordSize) (pieceTable counts 0 0 ps)) i 0 h)
+    row-word : (i : ℕ) → i < recordSize → entry table′ q i ≡ getD (six counts before copies p) i 0
+    row-word i h =
+        List·getD-append (table-of counts 0 0 ps) t 0 (q * recordSize + i) (omega (arith, rows-length (six counts) recordSize (six-length counts) 0 0 ps))
+        ∙ sym (getD-drop (q * recordSize) (table-of counts 0 0 ps) i 0)
+        ∙ sym (getD-take recordSize (drop (q * recordSize) (table-of counts 0 0 ps)) i 0 h)
         ∙ ap (λ (l : List ℕ). getD l i 0) words
+
+    word : (i : ℕ) → i < pieceSize → entry table′ q i ≡ getD (five counts before copies p) i 0
+    unfolding six
+    word i h =
+        row-word i (omega arith) ∙ List·getD-append (five counts before copies p) (one (loopOf (p .points)) ∷ []) 0 i (omega (arith, five-length counts before copies p))
+
+    loop-is : entry table′ q 5 ≡ one (loopOf (p .points))
+    unfolding six
+    loop-is =
+        row-word 5 (omega arith)
+        ∙ ap (λ (i : ℕ). getD (six counts before copies p) i 0) (sym e)
+        ∙ getD-append-add (five counts before copies p) (one (loopOf (p .points)) ∷ []) 0 0
+      where
+        e : length (five counts before copies p) + 0 ≡ 5
+        e = omega (arith, five-length counts before copies p)
 
     common : let r = five counts before copies p in (getD r 0 0 ≡ before) × (getD r 1 0 ≡ length (p .lines)) × (getD r 4 0 ≡ length (p .points))
     unfolding five
@@ -232,7 +247,7 @@ module _
     -- ---- the coordinates
 
     row : q * recordSize + recordSize ≤ length table′
-    row = omega (arith, length-append (pieceTable counts 0 0 ps) t, table-length counts 0 0 ps)
+    row = omega (arith, length-append (table-of counts 0 0 ps) t, rows-length (six counts) recordSize (six-length counts) 0 0 ps)
 
     view-copied : copied p ≡ true → partOf w input merged′ table′ q ≡ flat w (p .points)
     unfolding five copy sourceOf
@@ -296,12 +311,13 @@ module _
       members = members-are j;
       marks = marks-are j;
       source = source-is j;
+      loop = loop-is j;
       coordinates = (viewed-part type input merged′ table′ q ∙ ap (λ (v : ℕ). partOf v input merged′ table′ q) (sym wide) ∙ coordinates-are) j;
     }
 
   -- WHAT IS READ IS THE CHAINS
   pub chains-read : readAll type input
-      (rooms (pieceTable counts 0 0 ps ++ t) (flatMap (λ p. p .lines) ps ++ m) (flatMap (λ p. p .marks) ps ++ a) (flat w (flatMap copy ps) ++ c) s z) (length ps)
+      (rooms (table-of counts 0 0 ps ++ t) (flatMap (λ p. p .lines) ps ++ m) (flatMap (λ p. p .marks) ps ++ a) (flat w (flatMap copy ps) ++ c) s z) (length ps)
       ≡ map (readOf w) ps
   unfolding readAll
   chains-read = by-index (readAt type input (rooms table′ members′ marks′ merged′ s z)) (readOf w) nothing ps chain-read

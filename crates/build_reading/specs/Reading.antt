@@ -1,11 +1,11 @@
--- What a host reads in the rooms that a building call leaves: chain by chain its members, their marks, its source, and its coordinates by the view.
+-- What a host reads in the rooms that a building call leaves: chain by chain its members, their marks, its source, whether it is a loop, and its coordinates by the view.
 use Prim.Native.Nat.{ℕ}
 use mathlib.Core.List.{List, map}
 use lib.ListN.{take, drop}
 use Rattle.rules.specs.Lists.{one, upto}
 use Rattle.rules.specs.Plane.{flat}
 use Rattle.rules.specs.Chaining.{Piece}
-use Rattle.rules.specs.Layout.{copied}
+use Rattle.rules.specs.Layout.{copied, loop as loopOf}
 use Rattle.rules.specs.Refusals.{Rooms, entry}
 use Rattle.rules.specs.Calls.{viewed}
 
@@ -13,6 +13,7 @@ pub record ChainRead : Type 0 where
   pub members : List ℕ
   pub marks : List ℕ
   pub source : ℕ
+  pub loop : ℕ
   pub coordinates : List ℕ
 
 -- chain k, of lines of type t
@@ -22,6 +23,7 @@ readAt t input o k =
       members = take (entry (o .table) k 1) (drop (entry (o .table) k 0) (o .members));
       marks = take (entry (o .table) k 1) (drop (entry (o .table) k 0) (o .marks));
       source = entry (o .table) k 2;
+      loop = entry (o .table) k 5;
       coordinates = viewed t input (o .merged) (o .table) k;
     }
 
@@ -31,4 +33,11 @@ readAll t input o n = map (readAt t input o) (upto n)
 
 -- a chain of the book, of points of w numbers each, as it is read
 unfoldable pub readOf : ℕ → Piece → ChainRead
-readOf w p = record { members = p .lines; marks = p .marks; source = one (copied p); coordinates = flat w (p .points) }
+readOf w p =
+    record {
+      members = p .lines;
+      marks = p .marks;
+      source = one (copied p);
+      loop = one (loopOf (p .points));
+      coordinates = flat w (p .points);
+    }

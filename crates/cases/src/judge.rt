@@ -183,7 +183,7 @@ fn leaves(
     }
     let chains = records.len() / RECORD;
     let kinds = [0u8; 3];
-    let mut table_room = [7u32; 16];
+    let mut table_room = [7u32; 20];
     let mut members_room = [7u32; 4];
     let mut marks_room = [7u8; 4];
     let mut merged_room = [7u64; 16];
@@ -248,7 +248,7 @@ pub fn builds(
     )
 }
 
-// Whether building joins all lines of one group into one chain.
+// Whether building joins all lines of one group into one chain, `closed` where it is a loop.
 pub fn joins(
     coordinates: &[f64],
     counts: &[u32],
@@ -256,6 +256,7 @@ pub fn joins(
     members: &[u32],
     marks: &[u8],
     laid: &[f64],
+    closed: u32,
 ) -> bool {
     let groups = [0u32; 3];
     let n = counts.len();
@@ -266,7 +267,9 @@ pub fn joins(
     if 16 < l {
         return false;
     }
-    let records = [0, n as u32, 1, 0, (l / 2) as u32];
+    let lines = n as u32;
+    let points = (l / 2) as u32;
+    let records = [0, lines, 1, 0, points, closed];
     builds(
         coordinates,
         counts,

@@ -8,10 +8,10 @@ use mathlib.Core.List.{List, [], _∷_, _++_, map, flatMap, map-append}
 use native.Mathlib.Omega.{arith}
 use lib.ListN.{length, getD, take, drop, length-map}
 use Rattle.rules.specs.declared.Settings.{Settings}
-use Rattle.rules.specs.Lists.{total}
+use Rattle.rules.specs.Lists.{one, total}
 use Rattle.rules.specs.Plane.{Point, point, points, flat}
 use Rattle.rules.specs.Chaining.{Piece, Line, chains}
-use Rattle.rules.specs.Layout.{Lines, lines, linesIn, copied, copy, five, pieceTable, laidOut, build}
+use Rattle.rules.specs.Layout.{Lines, lines, linesIn, copied, copy, loop, five, six, rows, table, laidOut, build}
 use Rattle.rules.specs.Refusals.{nowhere, anyNowhere}
 use Rattle.point_numbers.specs.Width.{Wide, AllWide, none-wide, more-wide}
 use Rattle.point_numbers.proofs.Points.{points-wide, points-flat, points-back}
@@ -112,12 +112,26 @@ five-bare counts m c p =
     let own = total (take (getD (p .lines) 0 0) counts) in
     ap {B = List ℕ} (λ (n : ℕ). m ∷ length (p .lines) ∷ elim (copied p) [ true ↦ 1 ∷ c ∷ n ∷ [] | false ↦ 0 ∷ own ∷ n ∷ [] ]) (length-map (p .points) bare)
 
-table-bare : (counts : List ℕ) (m c : ℕ) (ps : List Piece) → pieceTable counts m c (map barePiece ps) ≡ pieceTable counts m c ps
-unfolding pieceTable
+getD-bare : (ps : List Point) (k : ℕ) → getD (map bare ps) k (point 0 0) ≡ bare (getD ps k (point 0 0))
+getD-bare [] k = refl
+getD-bare (p ∷ ps) zero = refl
+getD-bare (p ∷ ps) (suc k) = getD-bare ps k
+
+-- LOOP MARKS LOOK AT X AND Y ONLY
+pub loop-bare : (ps : List Point) → loop (map bare ps) ≡ loop ps
+unfolding loop
+loop-bare ps = simp (length-map, getD-bare)
+
+six-bare : (counts : List ℕ) (m c : ℕ) (p : Piece) → six counts m c (barePiece p) ≡ six counts m c p
+unfolding six
+six-bare counts m c p = ap₂ (λ (l : List ℕ) (t : Bool). l ++ (one t ∷ [])) (five-bare counts m c p) (loop-bare (p .points))
+
+table-bare : (counts : List ℕ) (m c : ℕ) (ps : List Piece) → table counts m c (map barePiece ps) ≡ table counts m c ps
+unfolding rows
 table-bare counts m c [] = refl
 table-bare counts m c (p ∷ ps) =
-    ap₂ _++_ (five-bare counts m c p)
-    (ap (λ (n : ℕ). pieceTable counts (m + length (p .lines)) (c + n) (map barePiece ps)) (ap length (copy-bare p) ∙ length-map (copy p) bare)
+    ap₂ _++_ (six-bare counts m c p)
+    (ap (λ (n : ℕ). table counts (m + length (p .lines)) (c + n) (map barePiece ps)) (ap length (copy-bare p) ∙ length-map (copy p) bare)
     ∙ table-bare counts (m + length (p .lines)) (c + length (copy p)) ps)
 
 members-bare : (ps : List Piece) → flatMap (λ p. p .lines) (map barePiece ps) ≡ flatMap (λ p. p .lines) ps
@@ -183,7 +197,7 @@ module _ (w : ℕ) (s : Settings) (l : Lines) (two : 2 ≤ w) where
   build-bare =
       record {
         number = ap length same-chains ∙ length-map built barePiece;
-        records = ap (pieceTable (l .counts) 0 0) same-chains ∙ table-bare (l .counts) 0 0 built;
+        records = ap (table (l .counts) 0 0) same-chains ∙ table-bare (l .counts) 0 0 built;
         members = ap (flatMap (λ (p : Piece). p .lines)) same-chains ∙ members-bare built;
         marks = ap (flatMap (λ (p : Piece). p .marks)) same-chains ∙ marks-bare built;
         merged =

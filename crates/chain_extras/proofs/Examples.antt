@@ -25,7 +25,7 @@ heights = lent (+0 ∷ +0 ∷ +2 ∷ +1 ∷ +0 ∷ +3·5 ∷ +1 ∷ +0 ∷ +4·5
 
 -- they are one chain, the earlier height remains, and the NaN keeps its bits
 pub heights-ride : (build 3 (tolerant +0) heights .merged ≡ +0 ∷ +0 ∷ +2 ∷ +1 ∷ +0 ∷ +3·5 ∷ +2 ∷ +0 ∷ odd ∷ [])
-    × (build 3 (tolerant +0) heights .records ≡ 0 ∷ 2 ∷ 1 ∷ 0 ∷ 3 ∷ [])
+    × (build 3 (tolerant +0) heights .records ≡ 0 ∷ 2 ∷ 1 ∷ 0 ∷ 3 ∷ 0 ∷ [])
 unfolding book lt eq
 heights-ride = (refl, refl)
 

@@ -5,21 +5,23 @@ use mathlib.Core.Path.{_≡_, refl, sym, ap, ap₂, _∙_}
 use mathlib.Core.Bool.{Bool, true, false}
 use mathlib.Core.List.{List, [], _∷_, _++_, flatMap, append-assoc}
 use native.Mathlib.Omega.{arith}
-use native.Mathlib.Nat.{add-zero, zero-add}
+use native.Mathlib.Nat.{add-zero, zero-add, zero-mul, suc-mul}
 use lib.ListN.{length, getD, take, drop, length-append}
 use lib.Seq.{take-at, drop-at, drop-drop}
-use Rattle.rules.specs.Lists.{total}
+use Rattle.rules.specs.Lists.{one, total}
 use Rattle.rules.specs.Plane.{Point, flat}
 use Rattle.rules.specs.Chaining.{Piece}
 use Rattle.point_numbers.proofs.Points.{flat-append, flat-length}
-use Rattle.rules.specs.Refusals.{pieceSize}
-use Rattle.rules.specs.Layout.{lines, copied, copy, five, pieceTable}
+use Rattle.rules.specs.Refusals.{pieceSize, recordSize}
+use Rattle.rules.specs.Layout.{lines, copied, copy, loop, five, six, rows}
 use Rattle.chain_laws.proofs.Lines.{flatMap-append}
 use Rattle.chain_laws.proofs.Sound.{noLine}
 
 -- what stands between two others
 part : {A : Type 0} (a x b : List A) (m n : ℕ) → length a ≡ m → length x ≡ n → take n (drop m (a ++ (x ++ b))) ≡ x
 part a x b m n h k = ap (take n) (drop-at a (x ++ b) m h) ∙ take-at x b n k
+
+-- ---- the numbers of a record
 
 pub five-length : (counts : List ℕ) (m c : ℕ) (p : Piece) → length (five counts m c p) ≡ pieceSize
 unfolding five
@@ -29,46 +31,58 @@ five-length counts m c p = go (copied p) refl
     go true e = rw (e, five)
     go false e = rw (e, five)
 
--- the records of some chains, and those of the chains behind them
-pub table-append : (counts : List ℕ) (m c : ℕ) (a b : List Piece)
-    → pieceTable counts m c (a ++ b) ≡ pieceTable counts m c a ++ pieceTable counts (m + length (flatMap (λ p. p .lines) a)) (c + length (flatMap copy a)) b
-unfolding pieceTable flatMap
-table-append counts m c [] b = ap₂ (λ (i j : ℕ). pieceTable counts i j b) (sym (add-zero m)) (sym (add-zero c))
-table-append counts m c (p ∷ a) b =
-    ap {B = List ℕ} (λ l. five counts m c p ++ l) (table-append counts (m + length (p .lines)) (c + length (copy p)) a b)
-    ∙ ap₂ (λ (i j : ℕ). five counts m c p ++ (pieceTable counts (m + length (p .lines)) (c + length (copy p)) a ++ pieceTable counts i j b))
-    (omega (arith, length-append (p .lines) (flatMap (λ (p : Piece). p .lines) a)))
-    (omega (arith, length-append (copy p) (flatMap copy a)))
-    ∙ sym (append-assoc (five counts m c p) (pieceTable counts (m + length (p .lines)) (c + length (copy p)) a) _)
+pub six-length : (counts : List ℕ) (m c : ℕ) (p : Piece) → length (six counts m c p) ≡ recordSize
+unfolding six
+six-length counts m c p = omega (arith, length-append (five counts m c p) (one (loop (p .points)) ∷ []), five-length counts m c p)
 
--- from the first chain on
-pub table-behind : (counts : List ℕ) (a b : List Piece)
-    → pieceTable counts 0 0 (a ++ b) ≡ pieceTable counts 0 0 a ++ pieceTable counts (length (flatMap (λ p. p .lines) a)) (length (flatMap copy a)) b
-table-behind counts a b =
-    table-append counts 0 0 a b
-    ∙ ap₂ (λ (i j : ℕ). pieceTable counts 0 0 a ++ pieceTable counts i j b) (zero-add (length (flatMap (λ (p : Piece). p .lines) a))) (zero-add (length (flatMap copy a)))
+-- ---- records one after another, of any row
 
-pub table-length : (counts : List ℕ) (m c : ℕ) (ps : List Piece) → length (pieceTable counts m c ps) ≡ length ps * pieceSize
-unfolding pieceTable
-table-length counts m c [] = refl
-table-length counts m c (p ∷ ps) =
-    omega (
-      arith,
-      length-append (five counts m c p) (pieceTable counts (m + length (p .lines)) (c + length (copy p)) ps),
-      five-length counts m c p,
-      table-length counts (m + length (p .lines)) (c + length (copy p)) ps,
-    )
+module _ (row : ℕ → ℕ → Piece → List ℕ) where
+  -- those of some pieces, and those of the pieces behind them
+  pub rows-append : (m c : ℕ) (a b : List Piece)
+      → rows row m c (a ++ b) ≡ rows row m c a ++ rows row (m + length (flatMap (λ p. p .lines) a)) (c + length (flatMap copy a)) b
+  unfolding rows flatMap
+  rows-append m c [] b = ap₂ (λ (i j : ℕ). rows row i j b) (sym (add-zero m)) (sym (add-zero c))
+  rows-append m c (p ∷ a) b =
+      ap {B = List ℕ} (λ l. row m c p ++ l) (rows-append (m + length (p .lines)) (c + length (copy p)) a b)
+      ∙ ap₂ (λ (i j : ℕ). row m c p ++ (rows row (m + length (p .lines)) (c + length (copy p)) a ++ rows row i j b))
+      (omega (arith, length-append (p .lines) (flatMap (λ (p : Piece). p .lines) a)))
+      (omega (arith, length-append (copy p) (flatMap copy a)))
+      ∙ sym (append-assoc (row m c p) (rows row (m + length (p .lines)) (c + length (copy p)) a) _)
+
+  -- from the first on
+  pub rows-behind : (a b : List Piece)
+      → rows row 0 0 (a ++ b) ≡ rows row 0 0 a ++ rows row (length (flatMap (λ p. p .lines) a)) (length (flatMap copy a)) b
+  rows-behind a b =
+      rows-append 0 0 a b
+      ∙ ap₂ (λ (i j : ℕ). rows row 0 0 a ++ rows row i j b) (zero-add (length (flatMap (λ (p : Piece). p .lines) a))) (zero-add (length (flatMap copy a)))
+
+  -- where all have one length
+  module _ (size : ℕ) (long : (m c : ℕ) (p : Piece) → length (row m c p) ≡ size) where
+    pub rows-length : (m c : ℕ) (ps : List Piece) → length (rows row m c ps) ≡ length ps * size
+    unfolding rows
+    rows-length m c [] = sym (zero-mul size)
+    rows-length m c (p ∷ ps) =
+        omega (
+          arith,
+          length-append (row m c p) (rows row (m + length (p .lines)) (c + length (copy p)) ps),
+          long m c p,
+          rows-length (m + length (p .lines)) (c + length (copy p)) ps,
+          suc-mul (length ps) size,
+        )
+
+    -- record k is that of piece k
+    pub row-at : (pre : List Piece) (p : Piece) (post : List Piece)
+        → take size (drop (length pre * size) (rows row 0 0 (pre ++ (p ∷ post)))) ≡ row (length (flatMap (λ p. p .lines) pre)) (length (flatMap copy pre)) p
+    unfolding rows
+    row-at pre p post =
+        ap (λ (l : List ℕ). take size (drop (length pre * size) l)) (rows-behind pre (p ∷ post))
+        ∙ part (rows row 0 0 pre) (row (length (flatMap (λ p. p .lines) pre)) (length (flatMap copy pre)) p) _ (length pre * size) size
+        (rows-length 0 0 pre) (long (length (flatMap (λ (p : Piece). p .lines) pre)) (length (flatMap copy pre)) p)
+
+-- ---- what a record names
 
 module _ (counts : List ℕ) (pre : List Piece) (p : Piece) (post : List Piece) where
-  -- record k is that of chain k
-  pub record-at : take pieceSize (drop (length pre * pieceSize) (pieceTable counts 0 0 (pre ++ (p ∷ post))))
-      ≡ five counts (length (flatMap (λ p. p .lines) pre)) (length (flatMap copy pre)) p
-  unfolding pieceTable
-  record-at =
-      ap (λ (l : List ℕ). take pieceSize (drop (length pre * pieceSize) l)) (table-behind counts pre (p ∷ post))
-      ∙ part (pieceTable counts 0 0 pre) (five counts (length (flatMap (λ p. p .lines) pre)) (length (flatMap copy pre)) p) _ (length pre * pieceSize) pieceSize
-      (table-length counts 0 0 pre) (five-length counts (length (flatMap (λ (p : Piece). p .lines) pre)) (length (flatMap copy pre)) p)
-
   -- its members
   pub members-at : take (length (p .lines)) (drop (length (flatMap (λ p. p .lines) pre)) (flatMap (λ p. p .lines) (pre ++ (p ∷ post)))) ≡ p .lines
   unfolding flatMap

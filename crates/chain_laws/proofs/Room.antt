@@ -16,13 +16,13 @@ use Rattle.rules.specs.Lists.{upto, total}
 use Rattle.rules.specs.Plane.{Point, points, equal, nought, exactKey, cellKey}
 use Rattle.rules.specs.Walking.{sideOf, walks}
 use Rattle.rules.specs.Chaining.{cellsOf, Piece, Rule, pieceAt, run, lay, merged, merge, join, partner, Line, plain, alone, pieces, limitOf, roundOne, roundTwo, chains, ruleOf}
-use Rattle.rules.specs.Layout.{lines, copied, copy, Laid, laidOut, build, lent}
-use Rattle.rules.specs.Refusals.{pieceSize}
+use Rattle.rules.specs.Layout.{lines, copied, copy, Laid, laidOut, build, lent, six}
+use Rattle.rules.specs.Refusals.{recordSize}
 use Rattle.chain_laws.proofs.Counts.{upto-length, Each, nil, cons}
 use Rattle.chain_laws.proofs.Totals.{total-append, same-length}
 use Rattle.chain_laws.proofs.Lines.{chains-count, linesOf, along, spread, pieces-take, pieces-leave}
 use Rattle.point_numbers.proofs.Points.{flat-length}
-use Rattle.chain_laws.proofs.Records.{table-length}
+use Rattle.chain_laws.proofs.Records.{six-length, rows-length}
 use Rattle.chain_laws.proofs.Sound.{Sound, chains-sound}
 
 pub lay-short : (o : Option Point) (l : List Point) → length (lay o l) ≤ length l
@@ -154,7 +154,7 @@ lines-size ps (c ∷ cs) gs ks = omega (arith, length-take c ps, lines-size (dro
 
 pub record Fits (n numbers : ℕ) (a : Laid) : Type 0 where
   pub chains : a .number ≤ n
-  pub records : length (a .records) ≡ a .number * pieceSize
+  pub records : length (a .records) ≡ a .number * recordSize
   pub members : length (a .members) ≡ n
   pub marks : length (a .marks) ≡ n
   pub merged : length (a .merged) ≤ numbers
@@ -166,7 +166,7 @@ unfolding build laidOut
 build-fits w coordinates counts groups kinds s h =
     record {
       chains = omega (arith, chains-fit s ls, size);
-      records = table-length counts 0 0 (chains s ls);
+      records = rows-length (six counts) recordSize (six-length counts) 0 0 (chains s ls);
       members = members-fit s ls ∙ size;
       marks = marks-fit s ls ∙ members-fit s ls ∙ size;
       merged =

@@ -12,12 +12,12 @@ use Rattle.rules.specs.Lists.{total}
 use Rattle.rules.specs.Plane.{Point, flat}
 use Rattle.rules.specs.Walking.{pieceOf}
 use Rattle.rules.specs.Chaining.{Piece, Rule, pieceAt, merge}
-use Rattle.rules.specs.Layout.{copy, five, pieceTable}
+use Rattle.rules.specs.Layout.{copy, five, rows, pieceTable}
 use Rattle.rules.specs.Refusals.{pieceSize}
 use Rattle.rules.specs.Calls.{written}
 use Rattle.chain_laws.proofs.Totals.{total-append}
 use Rattle.chain_laws.proofs.Lines.{flatMap-append, along}
-use Rattle.chain_laws.proofs.Records.{table-behind}
+use Rattle.chain_laws.proofs.Records.{rows-behind}
 use Rattle.chain_laws.proofs.Room.{size, merges-size, copies-size}
 use Rattle.point_numbers.proofs.Points.{flat-append, flat-length}
 use Rattle.point_slices.specs.Holds.{HoldsFrom}
@@ -52,9 +52,9 @@ module _ (rule : Rule) (ps : List Piece) where
 -- one record more
 table-more : (counts : List ℕ) (ps : List Piece) (p : Piece)
     → pieceTable counts 0 0 (ps ++ (p ∷ [])) ≡ pieceTable counts 0 0 ps ++ five counts (length (linesOf ps)) (length (flatMap copy ps)) p
-unfolding pieceTable
+unfolding rows
 table-more counts ps p =
-    table-behind counts ps (p ∷ [])
+    rows-behind (five counts) ps (p ∷ [])
     ∙ ap (λ (l : List ℕ). pieceTable counts 0 0 ps ++ l) (append-nil (five counts (length (linesOf ps)) (length (flatMap copy ps)) p))
 
 module _ (width : ℕ) (w₀ : List ℕ) (n old m entries lengths r : ℕ) (input spare g₀ : List ℕ) (y : Walks width w₀ n old m entries lengths r input spare g₀) where
@@ -76,7 +76,7 @@ module _ (width : ℕ) (w₀ : List ℕ) (n old m entries lengths r : ℕ) (inpu
     pub merged-size : length merged ≡ length g₀
 
   pub emitting-start : Emitting w₀ g₀ entries 0 0 0
-  unfolding flatten flatMap pieceTable flat
+  unfolding flatten flatMap rows flat
   emitting-start =
       record {
         high = omega arith;

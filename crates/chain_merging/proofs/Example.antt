@@ -10,7 +10,7 @@ use Rattle.rules.specs.Lists.{total}
 use Rattle.rules.specs.Plane.{point, exactKey, numbersOf, flat}
 use Rattle.rules.specs.Walking.{pieceOf}
 use Rattle.rules.specs.Chaining.{Piece, nothing, pieceAt, merge}
-use Rattle.rules.specs.Layout.{copied, copy, five, pieceTable}
+use Rattle.rules.specs.Layout.{copied, copy, five, rows}
 use Rattle.point_numbers.specs.Width.{AllWide, none-wide, more-wide}
 use Rattle.chain_pieces.specs.Held.{Own, Held}
 use Rattle.chain_merging.specs.Emit.{Walks}
@@ -50,7 +50,7 @@ wide (suc zero) h = more-wide refl (more-wide refl none-wide)
 wide (suc (suc q)) h = absurd (omega arith)
 
 held : Held 2 work 14 2 input [] counts pieces
-unfolding flatMap pieceTable copied copy five flat numbersOf total
+unfolding flatMap rows copied copy five flat numbersOf total
 held =
     record {
       few = omega arith;

@@ -16,7 +16,7 @@ use Rattle.rules.specs.Chaining.{Piece, nothing}
 use Rattle.rules.specs.Layout.{copied, copy, five, pieceTable}
 use Rattle.rules.specs.Refusals.{pieceSize, sourceOf}
 use Rattle.chain_laws.proofs.Lines.{flatMap-append}
-use Rattle.chain_laws.proofs.Records.{record-at, members-at, copy-at}
+use Rattle.chain_laws.proofs.Records.{five-length, row-at, members-at, copy-at}
 use Rattle.point_numbers.specs.Width.{Whole}
 use Rattle.point_numbers.proofs.Points.{flat-length, points-flat}
 use Rattle.point_slices.proofs.Laws.{slice-part, rest-slice}
@@ -114,7 +114,7 @@ module _ (width : ℕ) (w : List ℕ) (base n : ℕ) (input copies counts : List
   -- the five words
   words : take pieceSize (drop (q * pieceSize) (pieceTable counts 0 0 ps)) ≡ five counts (length (linesOf pre)) (length (flatMap copy pre)) p
   words =
-      ap₂ (λ (k : ℕ) (l : List Piece). take pieceSize (drop (k * pieceSize) (pieceTable counts 0 0 l))) (sym pre-size) whole ∙ record-at counts pre p post
+      ap₂ (λ (k : ℕ) (l : List Piece). take pieceSize (drop (k * pieceSize) (pieceTable counts 0 0 l))) (sym pre-size) whole ∙ row-at (five counts) pieceSize (five-length counts) pre p post
 
   word : (i : ℕ) → i < pieceSize → getD w (at + i) 0 ≡ getD (five counts (length (linesOf pre)) (length (flatMap copy pre)) p) i 0
   word i c =

@@ -58,12 +58,12 @@ unfolding builds
 case-b =
     let lines : List (List ℕ) = (+0 ∷ +0 ∷ +1 ∷ +0 ∷ []) ∷ (+1 ∷ +0 ∷ +2 ∷ +0 ∷ []) ∷ [] in
     builds (exactly (0 ∷ 0 ∷ []) lines)
-    ((0 ∷ 2 ∷ 1 ∷ 0 ∷ 3 ∷ []) ∷ [])
+    ((0 ∷ 2 ∷ 1 ∷ 0 ∷ 3 ∷ 0 ∷ []) ∷ [])
     (0 ∷ 1 ∷ [])
     (0 ∷ 0 ∷ [])
     (+0 ∷ +0 ∷ +1 ∷ +0 ∷ +2 ∷ +0 ∷ [])
     && builds (exactly (0 ∷ 1 ∷ []) lines)
-    ((0 ∷ 1 ∷ 0 ∷ 0 ∷ 2 ∷ []) ∷ (1 ∷ 1 ∷ 0 ∷ 2 ∷ 2 ∷ []) ∷ [])
+    ((0 ∷ 1 ∷ 0 ∷ 0 ∷ 2 ∷ 0 ∷ []) ∷ (1 ∷ 1 ∷ 0 ∷ 2 ∷ 2 ∷ 0 ∷ []) ∷ [])
     (0 ∷ 1 ∷ [])
     (0 ∷ 0 ∷ [])
     []
@@ -73,18 +73,18 @@ case-c : Bool
 unfolding builds
 case-c =
     builds (exactly (0 ∷ 0 ∷ []) ((+1 ∷ +0 ∷ +0 ∷ +0 ∷ []) ∷ (+1 ∷ +0 ∷ +2 ∷ +0 ∷ []) ∷ []))
-    ((0 ∷ 2 ∷ 1 ∷ 0 ∷ 3 ∷ []) ∷ [])
+    ((0 ∷ 2 ∷ 1 ∷ 0 ∷ 3 ∷ 0 ∷ []) ∷ [])
     (1 ∷ 0 ∷ [])
     (1 ∷ 0 ∷ [])
     (+2 ∷ +0 ∷ +1 ∷ +0 ∷ +0 ∷ +0 ∷ [])
 
--- a closed line is alone; a ring of two is one chain of four coordinates
+-- a closed line is alone; a ring of two is one chain of four coordinates: both are loops
 case-d : Bool
 unfolding builds
 case-d =
-    builds (exactly (0 ∷ []) ((+0 ∷ +0 ∷ +1 ∷ +0 ∷ +0 ∷ +1 ∷ +0 ∷ +0 ∷ []) ∷ [])) ((0 ∷ 1 ∷ 0 ∷ 0 ∷ 4 ∷ []) ∷ []) (0 ∷ []) (0 ∷ []) []
+    builds (exactly (0 ∷ []) ((+0 ∷ +0 ∷ +1 ∷ +0 ∷ +0 ∷ +1 ∷ +0 ∷ +0 ∷ []) ∷ [])) ((0 ∷ 1 ∷ 0 ∷ 0 ∷ 4 ∷ 1 ∷ []) ∷ []) (0 ∷ []) (0 ∷ []) []
     && builds (exactly (0 ∷ 0 ∷ []) ((+0 ∷ +0 ∷ +1 ∷ +0 ∷ []) ∷ (+1 ∷ +0 ∷ +1 ∷ +1 ∷ +0 ∷ +0 ∷ []) ∷ []))
-    ((0 ∷ 2 ∷ 1 ∷ 0 ∷ 4 ∷ []) ∷ [])
+    ((0 ∷ 2 ∷ 1 ∷ 0 ∷ 4 ∷ 1 ∷ []) ∷ [])
     (0 ∷ 1 ∷ [])
     (0 ∷ 0 ∷ [])
     (+0 ∷ +0 ∷ +1 ∷ +0 ∷ +1 ∷ +1 ∷ +0 ∷ +0 ∷ [])
@@ -104,12 +104,12 @@ case-e : Bool
 unfolding builds fork
 case-e =
     builds (fork 1)
-    ((0 ∷ 2 ∷ 1 ∷ 0 ∷ 3 ∷ []) ∷ (2 ∷ 1 ∷ 0 ∷ 4 ∷ 2 ∷ []) ∷ [])
+    ((0 ∷ 2 ∷ 1 ∷ 0 ∷ 3 ∷ 0 ∷ []) ∷ (2 ∷ 1 ∷ 0 ∷ 4 ∷ 2 ∷ 0 ∷ []) ∷ [])
     (0 ∷ 1 ∷ 2 ∷ [])
     (0 ∷ 0 ∷ 0 ∷ [])
     (-1 ∷ +0 ∷ +0 ∷ +0 ∷ +1 ∷ +0 ∷ [])
     && builds (fork 0)
-    ((0 ∷ 1 ∷ 0 ∷ 0 ∷ 2 ∷ []) ∷ (1 ∷ 1 ∷ 0 ∷ 2 ∷ 2 ∷ []) ∷ (2 ∷ 1 ∷ 0 ∷ 4 ∷ 2 ∷ []) ∷ [])
+    ((0 ∷ 1 ∷ 0 ∷ 0 ∷ 2 ∷ 0 ∷ []) ∷ (1 ∷ 1 ∷ 0 ∷ 2 ∷ 2 ∷ 0 ∷ []) ∷ (2 ∷ 1 ∷ 0 ∷ 4 ∷ 2 ∷ 0 ∷ []) ∷ [])
     (0 ∷ 1 ∷ 2 ∷ [])
     (0 ∷ 0 ∷ 0 ∷ [])
     []
@@ -119,7 +119,7 @@ case-f : Bool
 unfolding builds
 case-f =
     builds (exactly (0 ∷ 0 ∷ []) ((+0 ∷ +0 ∷ -0 ∷ +0 ∷ []) ∷ (-0 ∷ +0 ∷ +0 ∷ +0 ∷ []) ∷ []))
-    ((0 ∷ 2 ∷ 1 ∷ 0 ∷ 1 ∷ []) ∷ [])
+    ((0 ∷ 2 ∷ 1 ∷ 0 ∷ 1 ∷ 0 ∷ []) ∷ [])
     (0 ∷ 1 ∷ [])
     (0 ∷ 0 ∷ [])
     (+0 ∷ +0 ∷ [])
@@ -139,11 +139,11 @@ case-g : Bool
 unfolding builds near
 case-g =
     builds (near +1·75)
-    ((0 ∷ 2 ∷ 1 ∷ 0 ∷ 4 ∷ []) ∷ [])
+    ((0 ∷ 2 ∷ 1 ∷ 0 ∷ 4 ∷ 0 ∷ []) ∷ [])
     (0 ∷ 1 ∷ [])
     (0 ∷ 0 ∷ [])
     (+0·25 ∷ +0 ∷ +1·25 ∷ +0 ∷ +1·75 ∷ +0 ∷ +3·5 ∷ +0 ∷ [])
-    && builds (near +2) ((0 ∷ 1 ∷ 0 ∷ 0 ∷ 2 ∷ []) ∷ (1 ∷ 1 ∷ 0 ∷ 2 ∷ 2 ∷ []) ∷ []) (0 ∷ 1 ∷ []) (0 ∷ 0 ∷ []) []
+    && builds (near +2) ((0 ∷ 1 ∷ 0 ∷ 0 ∷ 2 ∷ 0 ∷ []) ∷ (1 ∷ 1 ∷ 0 ∷ 2 ∷ 2 ∷ 0 ∷ []) ∷ []) (0 ∷ 1 ∷ []) (0 ∷ 0 ∷ []) []
 
 -- lines 1 and 2 are one piece after round one, which round two enters at end 1: the piece's members keep their order
 case-h : Bool
@@ -157,7 +157,7 @@ case-h =
       switch = 0;
       limit = +0;
     })
-    ((0 ∷ 3 ∷ 1 ∷ 0 ∷ 5 ∷ []) ∷ [])
+    ((0 ∷ 3 ∷ 1 ∷ 0 ∷ 5 ∷ 0 ∷ []) ∷ [])
     (0 ∷ 1 ∷ 2 ∷ [])
     (0 ∷ 1 ∷ 1 ∷ [])
     (+0 ∷ +0 ∷ +1·25 ∷ +0 ∷ +1·75 ∷ +0 ∷ +3·5 ∷ +0 ∷ +4·5 ∷ +0 ∷ [])
@@ -166,9 +166,9 @@ case-h =
 case-i : Bool
 unfolding builds
 case-i =
-    builds (exactly (0 ∷ []) ((+0 ∷ +0 ∷ +0 ∷ +0 ∷ +1 ∷ +0 ∷ []) ∷ [])) ((0 ∷ 1 ∷ 0 ∷ 0 ∷ 3 ∷ []) ∷ []) (0 ∷ []) (0 ∷ []) []
+    builds (exactly (0 ∷ []) ((+0 ∷ +0 ∷ +0 ∷ +0 ∷ +1 ∷ +0 ∷ []) ∷ [])) ((0 ∷ 1 ∷ 0 ∷ 0 ∷ 3 ∷ 0 ∷ []) ∷ []) (0 ∷ []) (0 ∷ []) []
     && builds (exactly (0 ∷ 0 ∷ []) ((+0 ∷ +0 ∷ +0 ∷ +0 ∷ +1 ∷ +0 ∷ []) ∷ (+1 ∷ +0 ∷ +2 ∷ +0 ∷ []) ∷ []))
-    ((0 ∷ 2 ∷ 1 ∷ 0 ∷ 3 ∷ []) ∷ [])
+    ((0 ∷ 2 ∷ 1 ∷ 0 ∷ 3 ∷ 0 ∷ []) ∷ [])
     (0 ∷ 1 ∷ [])
     (0 ∷ 0 ∷ [])
     (+0 ∷ +0 ∷ +1 ∷ +0 ∷ +2 ∷ +0 ∷ [])
@@ -293,7 +293,7 @@ place-overflow =
       switch = 1;
       limit = +1;
     })
-    ((0 ∷ 1 ∷ 0 ∷ 0 ∷ 2 ∷ []) ∷ (1 ∷ 2 ∷ 1 ∷ 0 ∷ 3 ∷ []) ∷ [])
+    ((0 ∷ 1 ∷ 0 ∷ 0 ∷ 2 ∷ 0 ∷ []) ∷ (1 ∷ 2 ∷ 1 ∷ 0 ∷ 3 ∷ 0 ∷ []) ∷ [])
     (0 ∷ 2 ∷ 1 ∷ [])
     (0 ∷ 1 ∷ 0 ∷ [])
     (+2^1023 ∷ +2^1023 ∷ +2^1023 ∷ +0 ∷ +0 ∷ +0 ∷ [])
@@ -315,7 +315,7 @@ abbrev coarsely : Settings
 coarsely = record { tolerance = float +1; «origin_x» = float +0; «origin_y» = float +0; switch = 0; limit = float +0 }
 
 abbrev refusal : ℕ → ℕ → ℕ
-refusal t numbers = refusalOf t heights coarsely (rooms (replicate 10 0) (replicate 2 0) (replicate 2 0) (replicate numbers 0) (replicate numbers 0) (replicate 384 0))
+refusal t numbers = refusalOf t heights coarsely (rooms (replicate 12 0) (replicate 2 0) (replicate 2 0) (replicate numbers 0) (replicate numbers 0) (replicate 384 0))
 
 pub extrasRide : Bool
 unfolding book

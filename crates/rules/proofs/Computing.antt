@@ -9,7 +9,7 @@ use Rattle.rules.specs.Plane.{numbersOf, reads, points, flat, equal, sam
 use Rattle.rules.specs.Selecting.{within, pair, pairsWith, qualifying, before, insert, sorted, greedy, select}
 use Rattle.rules.specs.Walking.{back, forward, walk, walksFrom, walks}
 use Rattle.rules.specs.Chaining.{mate, lay, pieceAt, run, keyAt, node, endAt, chosen, joined, partner, merged, merge, join, plain, alone, pieces, limitOf, roundOne, roundTwo, chains}
-use Rattle.rules.specs.Layout.{lines, copied, copy, five, pieceTable, laidOut, build, given, ends, listed}
+use Rattle.rules.specs.Layout.{lines, copied, copy, loop, five, six, rows, laidOut, build, given, ends, listed}
 use Rattle.rules.specs.Types.{widthOf}
 use Rattle.rules.specs.Refusals.{firstOf, anyAbove, limitBad, originBad, nowhere, anyNowhere, refusalOf, moreThanTwice, anyWild, pairRefusalOf}
 use Rattle.rules.specs.Calls.{pairsOf}
@@ -35,7 +35,7 @@ unfolding back forward walk walksFrom walks mate lay pieceAt run keyAt node endA
 the-chains = tt
 
 unfoldable pub the-calls : Unit {0}
-unfolding lines copied copy five pieceTable laidOut build given ends listed widthOf firstOf anyAbove limitBad originBad nowhere anyNowhere refusalOf moreThanTwice anyWild pairRefusalOf pairsOf
+unfolding lines copied copy five laidOut build given ends listed widthOf firstOf anyAbove limitBad originBad nowhere anyNowhere refusalOf moreThanTwice anyWild pairRefusalOf pairsOf loop six rows
 the-calls = tt
 
 unfoldable pub book : Unit {0}

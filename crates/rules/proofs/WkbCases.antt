@@ -96,13 +96,13 @@ pub numbers-written : (bytesBy 1 8 one ≡ one-little) × (bytesBy 0 8 one ≡ o
 unfolding writing
 numbers-written = (refl, refl, refl)
 
--- chain 0 is the second coordinate of the input, chain 1 has none and is of the merged, and record 2 isn't wholly there
+-- chain 0 is the second coordinate of the input, and chain 1 has none and is of the merged; the sixth number isn't looked at. Record 2 lacks it, and so isn't wholly there
 abbrev chains : ℕ → ℕ → ℕ → ℕ → ℕ → LentChains
 chains t k order bytes rows = record {
   type = t;
   input = 5 ∷ 5 ∷ one ∷ one ∷ [];
   merged = [];
-  table = 0 ∷ 1 ∷ 0 ∷ 1 ∷ 1 ∷ 1 ∷ 2 ∷ 1 ∷ 0 ∷ 0 ∷ 3 ∷ [];
+  table = 0 ∷ 1 ∷ 0 ∷ 1 ∷ 1 ∷ 0 ∷ 1 ∷ 2 ∷ 1 ∷ 0 ∷ 0 ∷ 9 ∷ 3 ∷ 1 ∷ 0 ∷ 0 ∷ 0 ∷ [];
   number = k;
   order = order;
   run = replicate bytes 7;

@@ -1,7 +1,7 @@
 -- 01, Input and output: numbers read as lines and ends, and chains and pairs written as numbers.
-use Rattle.rules.specs.Library.{ℕ, suc, _+_, Bool, true, false, List, [], _∷_, _++_, flatMap, eqb, Float, nan, length, getD, take, drop, Direction, Absent, Toward, Settings}
-use Rattle.rules.specs.Lists.{total}
-use Rattle.rules.specs.Plane.{Point, points, flat}
+use Rattle.rules.specs.Library.{ℕ, suc, _+_, _-_, Bool, true, false, _&&_, List, [], _∷_, _++_, flatMap, leb, eqb, Float, nan, length, getD, take, drop, Direction, Absent, Toward, Settings}
+use Rattle.rules.specs.Lists.{one, total}
+use Rattle.rules.specs.Plane.{Point, point, points, flat}
 use Rattle.rules.specs.Selecting.{End, Pair}
 use Rattle.rules.specs.Chaining.{Piece, Line, chains}
 
@@ -33,16 +33,35 @@ copied p = elim (eqb (length (p .lines)) 1) [ true ↦ false | false ↦ true ]
 unfoldable pub copy : Piece → List Point
 copy p = elim (copied p) [ true ↦ p .points | false ↦ [] ]
 
--- A chain's record: first member, member count, source, first coordinate, coordinate count. m members and c merged points stand before;
+-- A loop has at least three points, and its first and last agree bit for bit: in x and y, whatever their extras.
+unfoldable pub loop : List Point → Bool
+loop ps =
+    let a = getD ps 0 (point 0 0) in
+    let z = getD ps (length ps - 1) (point 0 0) in
+    leb 3 (length ps) && (eqb (a .x) (z .x) && eqb (a .y) (z .y))
+
+-- A piece's record: first member, member count, source, first coordinate, coordinate count. m members and c merged points stand before;
 -- `counts` are the lines' own, and so a line's first coordinate is the sum of those before it.
 unfoldable pub five : List ℕ → ℕ → ℕ → Piece → List ℕ
 five counts m c p =
     let own = total (take (getD (p .lines) 0 0) counts) in
     m ∷ length (p .lines) ∷ elim (copied p) [ true ↦ 1 ∷ c ∷ length (p .points) ∷ [] | false ↦ 0 ∷ own ∷ length (p .points) ∷ [] ]
 
-unfoldable pub pieceTable : List ℕ → ℕ → ℕ → List Piece → List ℕ
-pieceTable counts m c [] = []
-pieceTable counts m c (p ∷ l) = five counts m c p ++ pieceTable counts (m + length (p .lines)) (c + length (copy p)) l
+-- a chain's record: those five, and 1 exactly if it is a loop
+unfoldable pub six : List ℕ → ℕ → ℕ → Piece → List ℕ
+six counts m c p = five counts m c p ++ (one (loop (p .points)) ∷ [])
+
+-- records one after another
+unfoldable pub rows : (ℕ → ℕ → Piece → List ℕ) → ℕ → ℕ → List Piece → List ℕ
+rows row m c [] = []
+rows row m c (p ∷ l) = row m c p ++ rows row (m + length (p .lines)) (c + length (copy p)) l
+
+-- those of pieces, and those of chains
+abbrev pub pieceTable : List ℕ → ℕ → ℕ → List Piece → List ℕ
+pieceTable counts m c ps = rows (five counts) m c ps
+
+abbrev pub table : List ℕ → ℕ → ℕ → List Piece → List ℕ
+table counts m c ps = rows (six counts) m c ps
 
 -- what is written
 pub record Laid : Type 0 where
@@ -56,7 +75,7 @@ unfoldable pub laidOut : ℕ → List ℕ → List Piece → Laid
 laidOut w counts ps =
     record {
       number = length ps;
-      records = pieceTable counts 0 0 ps;
+      records = table counts 0 0 ps;
       members = flatMap (λ p. p .lines) ps;
       marks = flatMap (λ p. p .marks) ps;
       merged = flat w (flatMap copy ps);

@@ -47,16 +47,16 @@ module _ (t w : ℕ) (wide : w ≡ widthOf t) (input merged table p part rest : 
 module _ (i : LentChains) where
   -- chain k is the line of the record r, which stands behind p in the input and behind q in the table
   one-named : (r p q rest more : List ℕ) (k first : ℕ) → Good (i .type) r → i .input ≡ p ++ (doublesOf r ++ rest)
-      → i .table ≡ q ++ (k ∷ 1 ∷ 0 ∷ first ∷ countOf r ∷ more) → length q ≡ k * recordSize → length p ≡ first * widthOf (i .type)
+      → i .table ≡ q ++ (k ∷ 1 ∷ 0 ∷ first ∷ countOf r ∷ 0 ∷ more) → length q ≡ k * recordSize → length p ≡ first * widthOf (i .type)
       → (entry (i .table) k 4 ≡ countOf r) × (numbersAt i k ≡ doublesOf r) × (noChain (widthOf (i .type)) (i .input) (i .merged) (i .table) k ≡ false)
   one-named r p q rest more k first g a b h f =
       let w : ℕ = widthOf (i .type) in
-      let row : List ℕ = k ∷ 1 ∷ 0 ∷ first ∷ countOf r ∷ more in
+      let row : List ℕ = k ∷ 1 ∷ 0 ∷ first ∷ countOf r ∷ 0 ∷ more in
       let e₂ : entry (i .table) k 2 ≡ 0 = entry-at (i .table) q row k 2 b h in
       let e₃ : entry (i .table) k 3 ≡ first = entry-at (i .table) q row k 3 b h in
       let e₄ : entry (i .table) k 4 ≡ countOf r = entry-at (i .table) q row k 4 b h in
       let n : length (doublesOf r) ≡ countOf r * widthOf (i .type) = doubles-long (i .type) r g in
-      let long : length (i .table) ≡ length q + suc (suc (suc (suc (suc (length more))))) = ap length b ∙ length-append q row in
+      let long : length (i .table) ≡ length q + suc (suc (suc (suc (suc (suc (length more)))))) = ap length b ∙ length-append q row in
       let inside : k * recordSize + recordSize ≤ length (i .table) = omega arith in (
         e₄,
         row-viewed (i .type) (widthOf (i .type)) refl (i .input) (i .merged) (i .table) p (doublesOf r) rest k first (countOf r) inside e₂ e₃ e₄ a f n,
@@ -74,7 +74,7 @@ module _ (i : LentChains) where
       let after : List ℕ = linesTable (suc k) (first + countOf r) (countsOf l) ++ rows in
       let a′ : i .input ≡ p ++ (doublesOf r ++ (coordinatesOf l ++ beyond)) = a ∙ ap (λ (x : List ℕ). p ++ x) (append-assoc (doublesOf r) (coordinatesOf l) beyond) in
       let one = one-named r p q (coordinatesOf l ++ beyond) (linesTable (suc k) (first + countOf r) (countsOf l) ++ rows) k first (g .0) a′ b h f in
-      let row : List ℕ = k ∷ 1 ∷ 0 ∷ first ∷ countOf r ∷ [] in
+      let row : List ℕ = k ∷ 1 ∷ 0 ∷ first ∷ countOf r ∷ 0 ∷ [] in
       let n : length (doublesOf r) ≡ countOf r * widthOf (i .type) = doubles-long (i .type) r (g .0) in
       let more = lines-named l (p ++ doublesOf r) (q ++ row) beyond rows (suc k) (first + countOf r) (g .1)
       (a′ ∙ sym (append-assoc p (doublesOf r) (coordinatesOf l ++ beyond)))

@@ -59,10 +59,10 @@ unfoldable pub Named : LentChains → ℕ → List (List ℕ) → Type 0
 Named i k [] = Unit {0}
 Named i k (r ∷ l) = (entry (i .table) k 4 ≡ countOf r) × (numbersAt i k ≡ doublesOf r) × Named i (suc k) l
 
--- the table that names lines of source 0, each alone: k chains and `first` coordinates stand before
+-- the table that names lines of source 0, each alone: k chains and `first` coordinates stand before. The loop mark is not looked at, and is 0
 unfoldable pub linesTable : ℕ → ℕ → List ℕ → List ℕ
 linesTable k first [] = []
-linesTable k first (c ∷ l) = k ∷ 1 ∷ 0 ∷ first ∷ c ∷ linesTable (suc k) (first + c) l
+linesTable k first (c ∷ l) = k ∷ 1 ∷ 0 ∷ first ∷ c ∷ 0 ∷ linesTable (suc k) (first + c) l
 
 -- the call is accepted, with the run and its lengths
 pub record Rewritten (run lengths : List ℕ) (a : Answer) (run′ run₀ lengths′ lengths₀ : List ℕ) : Type 0 where

@@ -142,11 +142,18 @@ pub fn without_extras(numbers: &[u64], stride: usize) -> Vec<u64> {
     numbers.chunks(stride).flat_map(|p| p.iter().take(2)).copied().collect()
 }
 
+/// The numbers of a chain's record.
+pub const RECORD: usize = 6;
+
+/// A chain's record: first member, member count, source, first coordinate, coordinate count, and 1
+/// where it is a loop.
+pub type Record = [u32; RECORD];
+
 /// The answer of an accepted building call.
 #[derive(Clone, Debug, Default, PartialEq, Eq)]
 pub struct Built {
-    /// Per chain: first member, member count, source, first coordinate, coordinate count.
-    pub table: Vec<[u32; 5]>,
+    /// Per chain its record.
+    pub table: Vec<Record>,
     /// Line positions, chain by chain.
     pub members: Vec<u32>,
     /// The turned mark of each member, in member order.

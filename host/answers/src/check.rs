@@ -1,6 +1,6 @@
 //! What holds of every accepted call and of its answer by their form alone.
 
-use crate::call::{stride_of, BuildCall, Built, Pair, PairingCall};
+use crate::call::{stride_of, BuildCall, Built, Pair, PairingCall, Record};
 use std::collections::HashMap;
 
 /// A sentence about the first thing that does not hold.
@@ -51,6 +51,7 @@ pub fn built(call: &BuildCall, built: &Built) -> Checked {
             _ => several(call, record, chain, merged)?,
         }
         merged += if record[2] == 1 { record[4] as usize } else { 0 };
+        looped(call, built, record)?;
     }
     ensure(members == built.members.len(), "the last members are in no chain")?;
     ensure(call.stride() * merged == built.merged.len(), "the merged coordinates do not add up")?;
@@ -58,13 +59,24 @@ pub fn built(call: &BuildCall, built: &Built) -> Checked {
 }
 
 /// A chain of one line names the line's own coordinates.
-fn lone(call: &BuildCall, record: &[u32; 5], line: usize) -> Checked {
+fn lone(call: &BuildCall, record: &Record, line: usize) -> Checked {
     let own = [0, call.firsts()[line] as u32, call.counts[line]];
-    ensure(record[2..] == own, "a lone line is not its own coordinates")
+    ensure(record[2..5] == own, "a lone line is not its own coordinates")
+}
+
+/// The last number of a record is that of the coordinates that the record names.
+fn looped(call: &BuildCall, built: &Built, record: &Record) -> Checked {
+    let from = if record[2] == 0 { &call.coordinates } else { &built.merged };
+    let (first, count) = (record[3] as usize, record[4] as usize);
+    let part = from.get(call.stride() * first..call.stride() * (first + count));
+    let part = part.ok_or("a chain has coordinates beyond the last")?;
+    let place = |k: usize| [part[call.stride() * k], part[call.stride() * k + 1]];
+    let closed = count >= 3 && place(0) == place(count - 1);
+    ensure(record[5] == u32::from(closed), "a loop is marked as none, or none as a loop")
 }
 
 /// A chain of several lines has one group, only plain lines, and the next merged coordinates.
-fn several(call: &BuildCall, record: &[u32; 5], chain: &[u32], merged: usize) -> Checked {
+fn several(call: &BuildCall, record: &Record, chain: &[u32], merged: usize) -> Checked {
     let group = call.groups[chain[0] as usize];
     let fits = |&line: &u32| call.groups[line as usize] == group && !call.passes(line as usize);
     ensure(chain.iter().all(fits), "a chain mixes groups or has a line that passes through")?;

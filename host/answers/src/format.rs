@@ -1,6 +1,6 @@
 //! The recorded files. `data/oracle/README.md` describes their bytes.
 
-use crate::call::{BuildCall, Built, Pair, PairingCall, Refusal, TYPES};
+use crate::call::{BuildCall, Built, Pair, PairingCall, Record, Refusal, TYPES};
 use std::collections::HashMap;
 
 /// A building call with its answer, or with the refusal that turns it away.
@@ -114,7 +114,7 @@ impl Writer {
         self.number(u64::from(*number));
     }
 
-    fn record(&mut self, record: &[u32; 5]) {
+    fn record(&mut self, record: &Record) {
         record.iter().for_each(|number| self.middle(number));
     }
 

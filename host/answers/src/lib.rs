@@ -22,7 +22,7 @@ pub mod replay;
 pub mod styles;
 pub mod wkb;
 
-pub use call::{stride_of, TYPES};
+pub use call::{stride_of, Record, RECORD, TYPES};
 pub use call::{
     BuildCall, Built, Pair, PairingCall, Port, Refusal, Route, WhyCall, BAD_ORIGIN, NO_PLACE,
     NO_TYPE,

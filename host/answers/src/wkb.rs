@@ -1,7 +1,7 @@
 //! Lines as WKB records, read and written as OGC 06-103r4 and the rules say: the judge of the
 //! library's reader and writer.
 
-use crate::call::stride_of;
+use crate::call::{stride_of, RECORD};
 
 /// The type, coordinates and counts of a run of records; coordinates by their bits.
 #[derive(Clone, Debug, PartialEq, Eq)]
@@ -113,7 +113,7 @@ pub struct Chains {
     pub coordinates: Vec<u64>,
     /// The merged coordinates, source 1.
     pub merged: Vec<u64>,
-    /// Five numbers for each chain.
+    /// Six numbers for each chain, of which the last is not looked at.
     pub table: Vec<u32>,
     /// How many chains are written.
     pub k: u64,
@@ -136,7 +136,7 @@ pub fn write(chains: &Chains, rooms: [usize; 2]) -> Result<(Vec<u8>, Vec<u64>), 
     if chains.order > 1 {
         return Err(16);
     }
-    let rows: Vec<&[u32]> = chains.table.chunks_exact(5).collect();
+    let rows: Vec<&[u32]> = chains.table.chunks_exact(RECORD).collect();
     let rows = usize::try_from(chains.k).ok().and_then(|k| rows.get(..k)).ok_or(10)?;
     let lines: Option<Vec<&[u64]>> = rows.iter().map(|row| chains.line(row, stride)).collect();
     let lines = lines.ok_or(10)?;

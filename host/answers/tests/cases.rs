@@ -42,14 +42,14 @@ fn a_no_lines() {
 fn b_two_lines_meet_within_a_group() {
     let lines: [&Line; 2] = [&[(0.0, 0.0), (1.0, 0.0)], &[(1.0, 0.0), (2.0, 0.0)]];
     let built = build(&lines, 0.0, None);
-    assert_eq!(built.table, [[0, 2, 1, 0, 3]]);
+    assert_eq!(built.table, [[0, 2, 1, 0, 3, 0]]);
     assert_eq!((built.members, built.marks), (vec![0, 1], vec![0, 0]));
     assert_eq!(built.merged, bits(&[(0.0, 0.0), (1.0, 0.0), (2.0, 0.0)]));
     let mut call = BuildCall::default();
     lines.iter().for_each(|line| call.push_plain(line));
     call.groups[1] = 1;
     let built = Model.build(&call).expect("every coordinate is a place");
-    assert_eq!(built.table, [[0, 1, 0, 0, 2], [1, 1, 0, 2, 2]]);
+    assert_eq!(built.table, [[0, 1, 0, 0, 2, 0], [1, 1, 0, 2, 2, 0]]);
 }
 
 #[test]
@@ -62,9 +62,24 @@ fn c_the_head_is_found_going_back() {
 #[test]
 fn d_rings_of_one_and_of_two() {
     let built = build(&[&[(0.0, 0.0), (1.0, 0.0), (0.0, 1.0), (0.0, 0.0)]], 0.0, None);
-    assert_eq!(built.table, [[0, 1, 0, 0, 4]]);
+    assert_eq!(built.table, [[0, 1, 0, 0, 4, 1]]);
     let lines: [&Line; 2] = [&[(0.0, 0.0), (1.0, 0.0)], &[(1.0, 0.0), (1.0, 1.0), (0.0, 0.0)]];
-    assert_eq!(build(&lines, 0.0, None).table, [[0, 2, 1, 0, 4]]);
+    assert_eq!(build(&lines, 0.0, None).table, [[0, 2, 1, 0, 4, 1]]);
+}
+
+#[test]
+fn loops_have_three_points_and_close_bit_for_bit() {
+    let looped = |line: &Line| build(&[line], 0.0, None).table[0][5];
+    assert_eq!([&[][..], &[(1.0, 1.0)], &[(1.0, 1.0); 2]].map(looped), [0; 3]);
+    assert_eq!([&[(1.0, 1.0); 3][..], &[(0.0, 1.0), (7.0, 7.0), (0.0, 1.0)]].map(looped), [1; 2]);
+    let zeros = [(0.0, 1.0), (7.0, 7.0), (-0.0, 1.0)];
+    assert_eq!([looped(&zeros), looped(&[zeros[2], zeros[1], zeros[2]])], [0, 1]);
+    // Extras decide nothing.
+    let mut call = of_type(1002);
+    call.push_numbers(&words([0.0, 0.0, 1.0, 1.0, 0.0, 2.0, 0.0, 0.0, f64::NAN]), 0, 1);
+    call.push_numbers(&words([0.0, 0.0, 1.0, 1.0, 0.0, 2.0, 0.0, 1.0, 1.0]), 0, 1);
+    let built = Model.build(&call).expect("every coordinate is a place");
+    assert_eq!([built.table[0][5], built.table[1][5]], [1, 0]);
 }
 
 #[test]
@@ -72,7 +87,7 @@ fn e_a_junction_with_and_without_the_switch() {
     let lines: [&Line; 3] =
         [&[(-1.0, 0.0), (0.0, 0.0)], &[(0.0, 0.0), (1.0, 0.0)], &[(0.0, 0.0), (0.0, 1.0)]];
     let built = build(&lines, 0.0, Some(-0.5));
-    assert_eq!(built.table, [[0, 2, 1, 0, 3], [2, 1, 0, 4, 2]]);
+    assert_eq!(built.table, [[0, 2, 1, 0, 3, 0], [2, 1, 0, 4, 2, 0]]);
     assert_eq!(built.members, [0, 1, 2]);
     assert_eq!(build(&lines, 0.0, None).table.len(), 3);
 }
@@ -80,14 +95,14 @@ fn e_a_junction_with_and_without_the_switch() {
 #[test]
 fn f_two_zeros_are_two_keys_and_one_coordinate() {
     let built = build(&[&[(0.0, 0.0), (-0.0, 0.0)], &[(-0.0, 0.0), (0.0, 0.0)]], 0.0, None);
-    assert_eq!(built.table, [[0, 2, 1, 0, 1]]);
+    assert_eq!(built.table, [[0, 2, 1, 0, 1, 0]]);
 }
 
 #[test]
 fn g_cells_join_within_and_not_across() {
     let first: &Line = &[(0.25, 0.0), (1.25, 0.0)];
     let within = build(&[first, &[(1.75, 0.0), (3.5, 0.0)]], 1.0, None);
-    assert_eq!(within.table, [[0, 2, 1, 0, 4]]);
+    assert_eq!(within.table, [[0, 2, 1, 0, 4, 0]]);
     let across = build(&[first, &[(2.0, 0.0), (3.5, 0.0)]], 1.0, None);
     assert_eq!(across.table.len(), 2);
 }
@@ -105,8 +120,8 @@ fn h_a_piece_walked_backwards_keeps_its_members_in_order() {
 #[test]
 fn i_repeats_stay_in_a_lone_line() {
     let line: &Line = &[(0.0, 0.0), (0.0, 0.0), (1.0, 0.0)];
-    assert_eq!(build(&[line], 0.0, None).table, [[0, 1, 0, 0, 3]]);
-    assert_eq!(build(&[line, &[(1.0, 0.0), (2.0, 0.0)]], 0.0, None).table, [[0, 2, 1, 0, 3]]);
+    assert_eq!(build(&[line], 0.0, None).table, [[0, 1, 0, 0, 3, 0]]);
+    assert_eq!(build(&[line, &[(1.0, 0.0), (2.0, 0.0)]], 0.0, None).table, [[0, 2, 1, 0, 3, 0]]);
 }
 
 #[test]
@@ -159,7 +174,7 @@ fn differences_of_places_overflow() {
     call.push(&[[greatest, 0], [near, 0]], 0, 0);
     call.push(&[[greatest, 0], [greatest, near]], 0, 0);
     let built = Model.build(&call).expect("every coordinate is a place");
-    assert_eq!(built.table, [[0, 1, 0, 0, 2], [1, 2, 1, 0, 3]]);
+    assert_eq!(built.table, [[0, 1, 0, 0, 2, 0], [1, 2, 1, 0, 3, 0]]);
     assert_eq!(built.members, [0, 2, 1]);
 }
 
@@ -212,7 +227,7 @@ fn of_repeats_the_earlier_one_keeps_its_extras() {
     call.push_numbers(&words([0.0, 0.0, 1.0, 1.0, 0.0, 2.0, 1.0, 0.0, 3.0]), 0, 0);
     call.push_numbers(&words([1.0, 0.0, 4.0, 2.0, 0.0, 5.0]), 0, 0);
     let built = Model.build(&call).expect("every coordinate is a place");
-    assert_eq!(built.table, [[0, 2, 1, 0, 3]]);
+    assert_eq!(built.table, [[0, 2, 1, 0, 3, 0]]);
     assert_eq!(built.merged, words([0.0, 0.0, 1.0, 1.0, 0.0, 2.0, 2.0, 0.0, 5.0]));
 }
 

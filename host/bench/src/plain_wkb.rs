@@ -1,6 +1,7 @@
 //! A reader and a writer of WKB in plain Rust, with the answers of the library's: what these are
 //! held to.
 
+use lovasuku_chains::size::RECORD;
 use std::convert::TryInto;
 
 /// Byte order, type and count.
@@ -109,17 +110,18 @@ pub fn write(
     if order > 1 {
         return Err(16);
     }
-    let rows = usize::try_from(k).ok().and_then(|k| table.get(..k.checked_mul(5)?)).ok_or(10)?;
+    let rows =
+        usize::try_from(k).ok().and_then(|k| table.get(..k.checked_mul(RECORD)?)).ok_or(10)?;
     let mut bytes = 0u64;
-    for row in rows.chunks_exact(5) {
+    for row in rows.chunks_exact(RECORD) {
         let numbers = line(coordinates, merged, row, stride).ok_or(10)?.len();
         bytes = bytes.checked_add(HEADER as u64 + 8 * numbers as u64).ok_or(14)?;
     }
-    if bytes > run.len() as u64 || lengths.len() < rows.len() / 5 {
+    if bytes > run.len() as u64 || lengths.len() < rows.len() / RECORD {
         return Err(14);
     }
     let mut rest = run;
-    for (row, length) in rows.chunks_exact(5).zip(lengths) {
+    for (row, length) in rows.chunks_exact(RECORD).zip(lengths) {
         let numbers = line(coordinates, merged, row, stride).ok_or(10)?;
         let (record, behind) = rest.split_at_mut(HEADER + 8 * numbers.len());
         let (header, body) = record.split_at_mut(HEADER);

@@ -5,8 +5,8 @@ use crate::geos::Geos;
 use crate::plain_wkb;
 use crate::times::{measured, Times};
 use answers::random::Random;
-use answers::stride_of;
 use answers::wkb::{record_of, Records};
+use answers::{stride_of, Record, RECORD};
 use lovasuku_chains::door::{self, ReadRooms, WriteRooms};
 
 /// The coordinates of every run.
@@ -195,15 +195,15 @@ impl Chains {
             *sum += count;
             Some(*sum - count)
         });
-        let row = |(k, (first, &count)): (usize, (u32, &u32))| [k as u32, 1, 0, first, count];
-        let rows: Vec<[u32; 5]> = firsts.zip(&run.read.counts).enumerate().map(row).collect();
+        let row = |(k, (first, &count)): (usize, (u32, &u32))| [k as u32, 1, 0, first, count, 0];
+        let rows: Vec<Record> = firsts.zip(&run.read.counts).enumerate().map(row).collect();
         let coordinates = run.read.coordinates.iter().map(|&bits| f64::from_bits(bits)).collect();
         let wkb_type = run.read.wkb_type;
         Chains { wkb_type, coordinates, table: rows.concat(), order: run.order }
     }
 
     fn k(&self) -> u64 {
-        self.table.len() as u64 / 5
+        (self.table.len() / RECORD) as u64
     }
 }
 

@@ -3,7 +3,7 @@
 use answers::format::Recorded;
 use answers::model::plane::Point;
 use answers::replay::{load, FILES};
-use answers::{BuildCall, Built, Refusal};
+use answers::{BuildCall, Built, Record, Refusal};
 use lovasuku_chains::{self as library, build_chains, LineInput, OwnedChain};
 
 /// The angle in degrees that says the same as switch and limit, where one does to the bit.
@@ -29,17 +29,17 @@ fn floats([x, y]: Point) -> (f64, f64) {
     (f64::from_bits(x), f64::from_bits(y))
 }
 
-/// Members, marks and the bits of points of a chain.
-type Bits = (Vec<usize>, Vec<bool>, Vec<Point>);
+/// Members, marks, the bits of points of a chain, and whether it is a loop.
+type Bits = (Vec<usize>, Vec<bool>, Vec<Point>, bool);
 
 fn bits(chain: OwnedChain) -> Bits {
     let points = chain.points.into_iter().map(|(x, y)| [x.to_bits(), y.to_bits()]);
-    (chain.members, chain.turned, points.collect())
+    (chain.members, chain.turned, points.collect(), chain.is_loop)
 }
 
 /// The recorded chains. Lines that pass through have no points here.
 fn recorded(call: &BuildCall, built: &Built) -> Vec<Bits> {
-    let chain = |&[member, members, source, first, count]: &[u32; 5]| {
+    let chain = |&[member, members, source, first, count, looped]: &Record| {
         let places = member as usize..(member + members) as usize;
         let numbers = 2 * first as usize..2 * (first + count) as usize;
         let lines: Vec<usize> = built.members[places.clone()].iter().map(|&m| m as usize).collect();
@@ -47,7 +47,8 @@ fn recorded(call: &BuildCall, built: &Built) -> Vec<Bits> {
         let from = if source == 0 { &call.coordinates } else { &built.merged };
         let points = from[numbers].chunks_exact(2).map(|two| [two[0], two[1]]);
         let turned = built.marks[places].iter().map(|&mark| mark == 1).collect();
-        (lines, turned, if passes { vec![] } else { points.collect() })
+        let points = if passes { vec![] } else { points.collect() };
+        (lines, turned, points, looped == 1 && !passes)
     };
     built.table.iter().map(chain).collect()
 }

@@ -4,7 +4,7 @@
 use answers::format::Recorded;
 use answers::random::Random;
 use answers::replay::{load, FILES};
-use answers::{BuildCall, Built, TYPES};
+use answers::{BuildCall, Built, Record, RECORD, TYPES};
 use compare::building::{hold_build, BuildRooms};
 use compare::{ByOffset, Door, Library};
 
@@ -66,8 +66,8 @@ fn built(door: &dyn Door, call: &BuildCall) -> Built {
     let mut rooms = BuildRooms::for_call(&mut Random::new(3), call);
     let chains = usize::try_from(door.build(call, &mut rooms)).expect("the call is accepted");
     let record = |numbers: &[u32]| numbers.try_into().expect("a record");
-    let table: Vec<_> = rooms.table.lent().chunks(5).take(chains).map(record).collect();
-    let points = |record: &[u32; 5]| if record[2] == 1 { record[4] as usize } else { 0 };
+    let table: Vec<_> = rooms.table.lent().chunks(RECORD).take(chains).map(record).collect();
+    let points = |record: &Record| if record[2] == 1 { record[4] as usize } else { 0 };
     let merged: usize = table.iter().map(points).sum();
     Built {
         members: rooms.members.lent()[..call.lines()].to_vec(),

@@ -45,8 +45,9 @@ impl<'a> Chains<'a> {
         Iter { chains: *self, records: self.table.chunks_exact(RECORD) }
     }
 
-    /// The records of all chains, five numbers each: first member, member count, source (0 the
-    /// caller's coordinates, 1 the merged ones), first coordinate, coordinate count.
+    /// The records of all chains, six numbers each: first member, member count, source (0 the
+    /// caller's coordinates, 1 the merged ones), first coordinate, coordinate count, and 1 where the
+    /// chain is a loop.
     pub fn table(&self) -> &'a [u32] {
         self.table
     }
@@ -72,8 +73,10 @@ impl<'a> Chains<'a> {
     }
 
     fn chain(&self, record: &[u32]) -> Chain<'a> {
-        let [member, members, source, first, count] = match *record {
-            [member, members, source, first, count] => [member, members, source, first, count],
+        let [member, members, source, first, count, looped] = match *record {
+            [member, members, source, first, count, looped] => {
+                [member, members, source, first, count, looped]
+            }
             _ => [0; RECORD],
         };
         let merged = source == 1;
@@ -85,6 +88,7 @@ impl<'a> Chains<'a> {
             coordinates: part(from, first, count, dimension.stride()),
             dimension,
             merged,
+            looped: looped == 1,
         }
     }
 }
@@ -144,6 +148,7 @@ pub struct Chain<'a> {
     coordinates: &'a [f64],
     dimension: Dimension,
     merged: bool,
+    looped: bool,
 }
 
 impl<'a> Chain<'a> {
@@ -188,5 +193,27 @@ impl<'a> Chain<'a> {
     /// True where the chain has several lines, false where it is a line of the caller's, untouched.
     pub fn is_merged(&self) -> bool {
         self.merged
+    }
+
+    /// True where the chain has at least three coordinates, of which the first and the last agree in
+    /// x and y bit for bit: a turning loop, but also a line there and back. A chain of one line and a
+    /// line that passes through may be loops too.
+    ///
+    /// ```
+    /// use lovasuku_chains::{LinesBuf, Rooms, Settings};
+    ///
+    /// # fn main() -> Result<(), lovasuku_chains::Refusal> {
+    /// let mut roads = LinesBuf::default();
+    /// roads.push([[0.0, 0.0], [1.0, 0.0], [1.0, 1.0]], 0);
+    /// roads.push([[0.0, 0.0], [0.0, 1.0], [1.0, 1.0]], 0);
+    /// roads.push([[5.0, 0.0], [6.0, 0.0]], 0);
+    /// let mut rooms = Rooms::default();
+    /// let chains = rooms.build(roads.lines(), Settings::default())?;
+    /// assert!(chains.iter().map(|chain| chain.is_loop()).eq([true, false]));
+    /// # Ok(())
+    /// # }
+    /// ```
+    pub fn is_loop(&self) -> bool {
+        self.looped
     }
 }

@@ -43,7 +43,7 @@ pub struct RawOffset {
 /// 1002 and 2002, 4 for 3002.
 #[derive(Debug)]
 pub struct BuildRooms<'a> {
-    /// 5 n numbers: the chains' records.
+    /// 6 n numbers: the chains' records.
     pub table: &'a mut [u32],
     /// n numbers: the members of all chains.
     pub members: &'a mut [u32],

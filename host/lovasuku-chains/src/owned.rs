@@ -22,6 +22,8 @@ pub struct OwnedChain {
     pub turned: Vec<bool>,
     /// The chain's points, x and y of each. A line that was given without points has none.
     pub points: Vec<(f64, f64)>,
+    /// Whether it is a loop, as [`Chain::is_loop`] tells. A line that was given without points is none.
+    pub is_loop: bool,
 }
 
 impl From<Chain<'_>> for OwnedChain {
@@ -30,6 +32,7 @@ impl From<Chain<'_>> for OwnedChain {
             members: chain.members().iter().map(|&line| line as usize).collect(),
             turned: chain.turned().collect(),
             points: chain.points().map(|[x, y]| (x, y)).collect(),
+            is_loop: chain.is_loop(),
         }
     }
 }

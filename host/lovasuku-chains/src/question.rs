@@ -9,13 +9,14 @@ use crate::{door, Dimension, Refusal};
 /// # Errors
 ///
 /// [`Refusal::NoSuchChain`] exactly where the record is not wholly in the table, its source is
-/// above 1, or its coordinates reach beyond the slice that its source names.
+/// above 1, or its coordinates reach beyond the slice that its source names. Whether it is a loop is not
+/// looked at.
 ///
 /// ```
 /// use lovasuku_chains::{chain_question, Dimension, Refusal};
 ///
 /// // One chain in the merged coordinates: first coordinate 0, two coordinates.
-/// let (merged, table) = ([0.0, 0.0, 1.0, 0.0], [0, 2, 1, 0, 2]);
+/// let (merged, table) = ([0.0, 0.0, 1.0, 0.0], [0, 2, 1, 0, 2, 0]);
 /// let question = |dimension, k| chain_question(dimension, &[], &merged, &table, k);
 /// assert_eq!(question(Dimension::Xy, 0), Ok(()));
 /// assert_eq!(question(Dimension::Xy, 1), Err(Refusal::NoSuchChain));
@@ -41,7 +42,7 @@ pub fn chain_question(
 /// ```
 /// use lovasuku_chains::{chain_coordinates, Dimension};
 ///
-/// let (merged, table) = ([9.0, 9.0, 0.0, 0.0, 1.0, 0.0], [0, 2, 1, 1, 2]);
+/// let (merged, table) = ([9.0, 9.0, 0.0, 0.0, 1.0, 0.0], [0, 2, 1, 1, 2, 0]);
 /// let chain = chain_coordinates(Dimension::Xy, &[], &merged, &table, 0).unwrap();
 /// assert_eq!(chain, [0.0, 0.0, 1.0, 0.0]);
 /// ```
@@ -56,8 +57,8 @@ pub fn chain_coordinates<'a>(
     let stride = dimension.stride();
     let k = usize::try_from(k).map_err(|_| Refusal::NoSuchChain)?;
     match table.chunks_exact(RECORD).nth(k) {
-        Some(&[_, _, 0, first, count]) => Ok(part(coordinates, first, count, stride)),
-        Some(&[_, _, _, first, count]) => Ok(part(merged, first, count, stride)),
+        Some(&[_, _, 0, first, count, _]) => Ok(part(coordinates, first, count, stride)),
+        Some(&[_, _, _, first, count, _]) => Ok(part(merged, first, count, stride)),
         _ => Err(Refusal::NoSuchChain),
     }
 }

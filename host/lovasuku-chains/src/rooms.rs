@@ -9,7 +9,7 @@ use crate::{Dimension, Ends, Lines, Reason, Refusal, Route, Settings};
 /// The rooms that are lent to every call, again and again.
 ///
 /// They grow where a call needs more than any before it, and never shrink, so that a run of calls
-/// soon allocates nothing: 1,561 bytes for each line and 16 for each number of a coordinate of the
+/// soon allocates nothing: 1,565 bytes for each line and 16 for each number of a coordinate of the
 /// largest call, at most 8.5 megabytes for x and y.
 ///
 /// ```
@@ -210,7 +210,7 @@ pub(crate) fn grow<T: Clone + Default>(room: &mut Vec<T>, length: usize) {
 /// How many coordinates are merged: they end where those of the last merged chain do.
 fn merged_points(table: &[u32]) -> usize {
     let end = |record: &[u32]| match *record {
-        [_, _, 1, first, count] => Some(first as usize + count as usize),
+        [_, _, 1, first, count, _] => Some(first as usize + count as usize),
         _ => None,
     };
     table.chunks_exact(RECORD).rev().find_map(end).unwrap_or(0)

@@ -13,8 +13,8 @@ pub const MOST_ENDS: usize = 8_192;
 pub const MOST_OFFSET: u32 = 1_000;
 
 /// The numbers of a chain's record: first member, member count, source, first coordinate,
-/// coordinate count.
-pub const RECORD: usize = 5;
+/// coordinate count, and 1 where it is a loop.
+pub const RECORD: usize = 6;
 
 /// The numbers of a point: x and y. A [`Dimension`](crate::Dimension) has the extras.
 pub const POINT: usize = 2;

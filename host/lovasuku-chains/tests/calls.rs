@@ -229,11 +229,17 @@ fn pairing_names_its_refusals() {
 #[test]
 fn the_chain_question_is_about_the_named_slice() {
     let (input, merged) = ([0.0; 6], [1.0; 4]);
-    let table = [0, 1, 0, 1, 2, 1, 2, 1, 0, 2, 3, 1, 2, 0, 0, 4, 1, 1, u32::MAX, u32::MAX];
+    let table = [
+        [0, 1, 0, 1, 2, 0],
+        [1, 2, 1, 0, 2, u32::MAX],
+        [3, 1, 2, 0, 0, 0],
+        [4, 1, 1, u32::MAX, u32::MAX, 0],
+    ]
+    .concat();
     let question =
         |k| chain_question(Dimension::Xy, &input, &merged, &table, k).map_err(Refusal::number);
     assert_eq!([0, 1, 2, 3, 4].map(question), [Ok(()), Ok(()), Err(10), Err(10), Err(10)]);
-    assert_eq!(question(u64::MAX / 5), Err(10));
+    assert_eq!(question(u64::MAX / 6), Err(10));
     assert_eq!(question(u64::MAX), Err(10));
     assert_eq!(chain_coordinates(Dimension::Xy, &input, &merged, &table, 0), Ok(&[0.0; 4][..]));
     assert_eq!(chain_coordinates(Dimension::Xy, &input, &merged, &table, 1), Ok(&[1.0; 4][..]));

@@ -77,9 +77,31 @@ fn case_d_rings() {
     let chains = built(&[alone], exact());
     assert_eq!(members(&chains), [[0]]);
     assert_eq!(chains[0].points, alone);
+    assert!(chains[0].is_loop);
     let of_two = built(&[&[(0., 0.), (1., 0.)], &[(1., 0.), (1., 1.), (0., 0.)]], exact());
     assert_eq!(members(&of_two), [[0, 1]]);
     assert_eq!(of_two[0].points, [(0., 0.), (1., 0.), (1., 1.), (0., 0.)]);
+    assert!(of_two[0].is_loop);
+}
+
+/// Whether a line of these points is a loop, by itself.
+fn looped(points: &[Point]) -> bool {
+    built(&[points], exact())[0].is_loop
+}
+
+#[test]
+fn loops_have_three_coordinates_and_close_bit_for_bit() {
+    let out = (5., 0.);
+    assert!(!looped(&[]) && !looped(&[out]) && !looped(&[out, out]));
+    assert!(looped(&[out, out, out]) && looped(&[out, (6., 0.), out]));
+    assert!(!looped(&[out, (6., 0.), (5., -0.)]) && !looped(&[(0., 1.), out, (-0., 1.)]));
+    assert!(looped(&[(-0., 1.), out, (-0., 1.)]));
+    // Two lines that meet at both ends in one cell are joined, and do not close.
+    let lines: [&[Point]; 2] = [&[(0., 0.), (5., 5.), (9., 0.)], &[(0.25, 0.), (9.5, 0.)]];
+    let chains = built(&lines, tolerance(1.));
+    assert_eq!((chains.len(), chains[0].points.len(), chains[0].is_loop), (1, 5, false));
+    // A line of one point and the two zeros of case F are none.
+    assert!(!built(&[&[(0., 0.), (-0., 0.)], &[(-0., 0.), (0., 0.)]], exact())[0].is_loop);
 }
 
 #[test]

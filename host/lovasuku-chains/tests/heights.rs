@@ -22,7 +22,7 @@ fn extras_ride_along_in_every_dimension() {
         let (lines, stride) = (lines(dimension), dimension.stride());
         assert_eq!(lines.lines().coordinates.len(), 6 * stride);
         let chains = rooms.build(lines.lines(), Settings::default()).unwrap();
-        assert_eq!(chains.table(), [0, 2, 1, 0, 3, 2, 1, 0, 4, 2]);
+        assert_eq!(chains.table(), [0, 2, 1, 0, 3, 0, 2, 1, 0, 4, 2, 0]);
         let [joined, passed] = [chains.get(0).unwrap(), chains.get(1).unwrap()];
         assert!(joined.points().eq([[0.0, 0.0], [1.0, 0.0], [2.0, 0.0]]));
         assert!(joined.points().rev().eq([[2.0, 0.0], [1.0, 0.0], [0.0, 0.0]]));
@@ -83,7 +83,7 @@ fn refusals_count_the_numbers_of_the_dimension() {
     assert_eq!(refused, Some(Refusal::TooManyCoordinates));
     let most = lovasuku_chains::Lines { coordinates: &coordinates[3..], counts: &[65_536], ..long };
     assert!(rooms.build(most, Settings::default()).is_ok());
-    let (merged, table) = ([0.0; 6], [0, 2, 1, 0, 2]);
+    let (merged, table) = ([0.0; 6], [0, 2, 1, 0, 2, 0]);
     for dimension in Dimension::ALL {
         let fits = dimension.stride() < 4;
         assert_eq!(chain_question(dimension, &[], &merged, &table, 0).is_ok(), fits);

@@ -96,7 +96,10 @@ impl Summary<'_> {
     }
 
     fn chains(&self) -> String {
-        let words = parted(self.tally.chains);
+        let mut words = parted(self.tally.chains);
+        if self.tally.loops > 0 {
+            words += &format!(", of which {}", count(self.tally.loops, "loop"));
+        }
         match self.tally.longest_chain {
             None => words,
             Some(longest) => format!(

@@ -15,6 +15,8 @@ pub struct Tally {
     /// Those of them that stand where two other lines end, or more.
     pub blocking: usize,
     pub chains: usize,
+    /// Chains that are loops.
+    pub loops: usize,
     pub nodes: usize,
     pub junctions: usize,
     pub tolerance: usize,
@@ -50,6 +52,7 @@ impl Tally {
             without_length: geometries().filter(|each| each.has_no_length()).count(),
             blocking: blocking(lines),
             chains: chains.len(),
+            loops: chains.iter().filter(|chain| chain.is_loop).count(),
             ..Tally::default()
         };
         for (position, (chain, &length)) in chains.iter().zip(lengths).enumerate() {

@@ -31,12 +31,12 @@ fn chains(network: &Network, settings: Settings, capacity: Capacity) -> Option<V
 }
 
 /// All of a chain, with its points as bits.
-type Bits<'a> = (&'a [u32], &'a [bool], Option<Vec<[u64; 2]>>, &'a [Joint]);
+type Bits<'a> = (&'a [u32], &'a [bool], Option<Vec<[u64; 2]>>, bool, &'a [Joint]);
 
 fn bits(chain: &Chain) -> Bits<'_> {
     let points = chain.points.as_ref();
     let points = points.map(|points| points.iter().map(|point| point.map(f64::to_bits)).collect());
-    (&chain.members, &chain.turned, points, &chain.joints)
+    (&chain.members, &chain.turned, points, chain.is_loop, &chain.joints)
 }
 
 /// Networks of so many seeds and of about so many lines, each with settings.

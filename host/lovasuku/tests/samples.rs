@@ -46,7 +46,7 @@ fn the_yard_at_a_coarse_tolerance() {
     let wanted = [
         "    lines  23, of which 1 MultiLineString passed through (--explode joins their parts), \
          in 2 classes by \"kind\"",
-        "   chains  10; the longest is chain 0: 6 lines, 2331.4 m long",
+        "   chains  10, of which 2 loops; the longest is chain 0: 6 lines, 2331.4 m long",
         "   joined  7 at nodes, 4 at junctions, 2 by the tolerance",
         "  bridges  2 segments made by the tolerance; the longest is 7.02922 m long, \
          from line \"S2\" to line \"S3\" at 933.2 1083.4 in chain 1",

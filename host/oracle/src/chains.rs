@@ -1,6 +1,6 @@
 //! The original's chains in the form of the port's answer.
 
-use answers::model::plane::Point;
+use answers::model::plane::{looped, Point};
 use answers::{BuildCall, Built};
 
 /// A chain as the original gives it: its lines, and its coordinates as bits.
@@ -10,8 +10,9 @@ pub struct Chain {
     pub points: Vec<Point>,
 }
 
-/// The table, members and merged coordinates of the chains. The original knows no marks and no extras,
-/// so that the merged coordinates are x and y alone, whatever the call's type is.
+/// The table, members and merged coordinates of the chains. The original knows no turned marks and no
+/// extras, so that the merged coordinates are x and y alone, whatever the call's type is. Nor does it
+/// know loops: whether a chain is one is told from its coordinates.
 ///
 /// A chain of one line names the line's own coordinates; the others stand in the merged
 /// coordinates one after another.
@@ -31,8 +32,11 @@ pub fn without_marks(call: &BuildCall, chains: &[Chain]) -> Built {
             }
             _ => (1, built.merged.len() / 2),
         };
-        let numbers = [built.members.len(), chain.members.len(), source, first, chain.points.len()];
-        built.table.push(numbers.map(|number| number as u32));
+        let (member, members, points) =
+            (built.members.len(), chain.members.len(), chain.points.len());
+        let mark = usize::from(looped(&chain.points));
+        let record = [member, members, source, first, points, mark];
+        built.table.push(record.map(|number| number as u32));
         built.members.extend(chain.members.iter().map(|&line| line as u32));
         if source == 1 {
             built.merged.extend(chain.points.iter().flatten());

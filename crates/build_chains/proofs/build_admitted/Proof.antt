@@ -1,9 +1,9 @@
 -- `build_admitted` does what the book's record says of a call without a refusal: the rounds, the layout and the two clearings write each slice once.
+use native.Mathlib.Omega.{arith}
+use Rattle.build_chains.proofs.Built.{joinable, joinable-by, spare-long, layable, accepted}
 use borrow.Author.Needs.{needs}
 use Rattle.build_chains.proofs.build_admitted.Statement.{statement}
 use Rattle.build_chains.proofs.build_admitted.Tie as tie
-use native.Mathlib.Omega.{arith}
-use Rattle.build_chains.proofs.Built.{joinable, joinable-by, left-by, spare-long, layable, accepted}
 
 width-of-requires : tie.Need-width-of-requires
 width-of-requires c κs = search needs
@@ -28,14 +28,14 @@ part-lay-out-end c = omega (arith, joinable _ _ _ _ (c .before .before .before .
 
 lay-out-requires : tie.Need-lay-out-requires
 lay-out-requires c κs =
-    let z = c .before .before .before .before .before .before .before .before .before .before .before .before .before .before .before .before .before .before .before .before .before .before .before .before .before .before .pre in
-    layable _ _ _ _ z (left-by _ _ _ _ z (c .before .before .before .before .before .before .before .before .before .before .before .before .before .before .before .width-of .ensures .0) (c .before .before .before .before .before .before .before .before .before .before .before .join-lines .ensures))
+    let joined = c .before .before .before .before .before .before .before .before .before .before .before .before in
+    layable _ _ _ _ (joined .before .before .before .before .before .before .before .before .before .before .before .before .before .before .before .pre) (joined .before .before .before .before .width-of .ensures .0) (joined .join-lines .ensures)
 
 clear-requires : tie.Need-clear-requires
-clear-requires c κs = omega (arith, spare-long _ _ _ _ (c .before .before .before .before .before .before .before .before .before .before .before .before .before .before .before .before .before .before .before .before .before .before .before .before .before .before .before .before .before .before .before .before .before .before .pre))
+clear-requires c κs = omega (arith, spare-long _ _ _ _ (c .before .before .before .before .before .before .before .before .before .before .before .before .before .before .before .before .before .before .before .before .before .before .before .before .before .before .before .before .before .before .before .before .before .before .before .pre))
 
 clear-requires-2 : tie.Need-clear-requires-2
-clear-requires-2 c κs = omega (arith, joinable _ _ _ _ (c .before .before .before .before .before .before .before .before .before .before .before .before .before .before .before .before .before .before .before .before .before .before .before .before .before .before .before .before .before .before .before .before .before .before .before .before .before .before .pre) .workspace-long)
+clear-requires-2 c κs = omega (arith, joinable _ _ _ _ (c .before .before .before .before .before .before .before .before .before .before .before .before .before .before .before .before .before .before .before .before .before .before .before .before .before .before .before .before .before .before .before .before .before .before .before .before .before .before .before .pre) .workspace-long)
 
 same-length : tie.Need-same-length
 same-length c = search needs
@@ -58,9 +58,12 @@ same-length-6 c = search needs
 returns : tie.Need-returns
 unfolding layable
 returns c =
-    let z = c .before .before .before .before .before .before .before .before .before .before .before .before .before .before .before .before .before .before .before .before .before .before .before .before .before .before .before .before .before .before .before .before .before .before .before .before .before .before .before .before .before .pre in
-    let l = left-by _ _ _ _ z (c .before .before .before .before .before .before .before .before .before .before .before .before .before .before .before .before .before .before .before .before .before .before .before .before .before .before .before .before .before .before .width-of .ensures .0) (c .before .before .before .before .before .before .before .before .before .before .before .before .before .before .before .before .before .before .before .before .before .before .before .before .before .before .join-lines .ensures) in
-    accepted _ _ _ _ z l (c .before .before .before .before .before .before .before .before .before .before .before .before .before .before .lay-out .ensures (layable _ _ _ _ z l)) (c .before .before .before .before .before .before .clear .ensures) (c .before .before .clear2 .ensures)
+    let laid = c .before .before .before .before .before .before .before .before .before .before .before .before .before .before in
+    let joined = laid .before .before .before .before .before .before .before .before .before .before .before .before .before in
+    let z = joined .before .before .before .before .before .before .before .before .before .before .before .before .before .before .before .pre in
+    let w = joined .before .before .before .before .width-of .ensures .0 in
+    let l = joined .join-lines .ensures in
+    accepted _ _ _ _ z w l (laid .lay-out .ensures (layable _ _ _ _ z w l)) (c .before .before .before .before .before .before .clear .ensures) (c .before .before .clear2 .ensures)
 
 pub build-admitted-spec : {M : Type 1} → statement M
 build-admitted-spec =

@@ -4,6 +4,8 @@ use native.Mathlib.Omega.{arith}
 use lib.ListN.{length-set}
 use Rattle.chain_pieces.proofs.Storing.{one-put, record-put}
 use borrow.Author.Needs.{needs}
+use Rattle.rules.specs.Refusals.{recordSize}
+use Rattle.point_slices.proofs.Laws.{from-set}
 use Rattle.build_layout.proofs.lay_line.Statement.{statement}
 use Rattle.build_layout.proofs.lay_line.Tie as tie
 
@@ -55,6 +57,15 @@ mul-table-5 c = search needs
 slice-write-table-5 : tie.Need-slice-write-table-5
 slice-write-table-5 c = simp length-set (omega arith)
 
+add-table-5 : tie.Need-add-table-5
+add-table-5 c = search needs
+
+mul-table-6 : tie.Need-mul-table-6
+mul-table-6 c = search needs
+
+slice-write-table-6 : tie.Need-slice-write-table-6
+slice-write-table-6 c = simp length-set (omega arith)
+
 cast-members : tie.Need-cast-members
 cast-members c = search needs
 
@@ -80,7 +91,7 @@ returns : tie.Need-returns
 returns c =
     let a = c .args in
     record {
-      row = record-put (a .table .now) (a .chain * 5) (a .m) 1 0 (a .first) (a .count) (c .pre .record-fits);
+      row = from-set (record-put (a .table .now) (a .chain * recordSize) (a .m) 1 0 (a .first) (a .count) (omega (arith, c .pre .record-fits))) (omega (arith, c .pre .record-fits)) (a .closed);
       member = one-put (a .members .now) (a .m) (a .k) (c .pre .member-fits);
       mark = one-put (a .marks .now) (a .m) 0 (c .pre .mark-fits);
     }
@@ -105,6 +116,9 @@ lay-line-spec =
     add-table-4
     mul-table-5
     slice-write-table-5
+    add-table-5
+    mul-table-6
+    slice-write-table-6
     cast-members
     mul-members
     slice-write-members

@@ -1,18 +1,18 @@
 -- After i turns the first i words of the part stand at the front.
 use Prim.Native.Nat.{_-_}
 use native.Mathlib.Omega.{arith}
-use Rattle.build_layout.proofs.Parts.{Copying, copying-start, copying-more, copying-done}
+use Rattle.build_layout.proofs.Parts.{Copying, copying-start, front-more, copying-done}
 use Rattle.build_layout.proofs.lay_marks.Statement.{statement}
 use Rattle.build_layout.proofs.lay_marks.Tie as tie
 
 abbrev Inv-loop : tie.InvT-loop
-Inv-loop w from k out₀ i₀ out i = Copying out out₀ w from k i
+Inv-loop w from k out₀ i₀ out i = Copying out out₀ w from k 0 i
 
 abbrev μ-loop : tie.MeasureT-loop
 μ-loop w from k out₀ i₀ out i = k - i
 
 loop-holds : tie.Need-loop-holds Inv-loop μ-loop
-loop-holds c = let a = c .args in copying-start (a .out .now) (a .w .now) (a .from) (a .k)
+loop-holds c = let a = c .args in copying-start (a .out .now) (a .w .now) (a .from) (a .k) 0
 
 add-out : tie.Need-add-out Inv-loop μ-loop
 add-out c = omega arith
@@ -36,7 +36,7 @@ loop-less : tie.Need-loop-less Inv-loop μ-loop
 loop-less c = omega arith
 
 loop-again : tie.Need-loop-again Inv-loop μ-loop
-loop-again c = copying-more (c .before .before .loop .inv) (c .before .before .before .pre) (c .before .loop-test .taken)
+loop-again c = front-more (c .before .before .loop .inv) (c .before .before .before .pre) (c .before .loop-test .taken)
 
 same-length : tie.Need-same-length Inv-loop μ-loop
 same-length c = omega arith

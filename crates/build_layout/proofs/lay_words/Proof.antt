@@ -6,13 +6,13 @@ use Rattle.build_layout.proofs.lay_words.Statement.{statement}
 use Rattle.build_layout.proofs.lay_words.Tie as tie
 
 abbrev Inv-loop : tie.InvT-loop
-Inv-loop w from k out₀ i₀ out i = Copying out out₀ w from k i
+Inv-loop w from k out₀ at i₀ out i = Copying out out₀ w from k at i
 
 abbrev μ-loop : tie.MeasureT-loop
-μ-loop w from k out₀ i₀ out i = k - i
+μ-loop w from k out₀ at i₀ out i = k - i
 
 loop-holds : tie.Need-loop-holds Inv-loop μ-loop
-loop-holds c = let a = c .args in copying-start (a .out .now) (a .w .now) (a .from) (a .k)
+loop-holds c = let a = c .args in copying-start (a .out .now) (a .w .now) (a .from) (a .k) (a .at)
 
 add-out : tie.Need-add-out Inv-loop μ-loop
 add-out c = omega arith
@@ -25,6 +25,9 @@ shared-slice-read-out c = omega arith
 
 cast-out : tie.Need-cast-out Inv-loop μ-loop
 cast-out c = omega (arith, c .before .before .before .pre .below (c .before .before .loop .i) (c .before .loop-test .taken))
+
+add-out-2 : tie.Need-add-out-2 Inv-loop μ-loop
+add-out-2 c = omega arith
 
 mul-out-2 : tie.Need-mul-out-2 Inv-loop μ-loop
 mul-out-2 c = omega arith
@@ -58,6 +61,7 @@ lay-words-spec =
     mul-out
     shared-slice-read-out
     cast-out
+    add-out-2
     mul-out-2
     slice-write-out
     add-i

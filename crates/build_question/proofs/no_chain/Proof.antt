@@ -5,7 +5,7 @@ use Rattle.build_question.proofs.no_chain.Tie as tie
 use mathlib.Core.Path.{sym}
 use Prim.Native.Nat.{_+_, _*_}
 use native.Mathlib.Omega.{arith}
-use Rattle.rules.specs.Refusals.{entry}
+use Rattle.rules.specs.Refusals.{entry, recordSize}
 use Rattle.build_question.proofs.Laws.{few-numbers, no-record, no-source, room-input, room-merged}
 
 returns : tie.Need-returns
@@ -39,7 +39,7 @@ shared-slice-read-last : tie.Need-shared-slice-read-last
 shared-slice-read-last c = search needs
 
 cast-last : tie.Need-cast-last
-cast-last c = omega (arith, c .shared-slice-known2 .given (c .before .before .before .before .args .k * 5 + 3))
+cast-last c = omega (arith, c .shared-slice-known2 .given (c .before .before .before .before .args .k * recordSize + 3))
 
 mul-last-3 : tie.Need-mul-last-3
 mul-last-3 c = search needs
@@ -54,16 +54,16 @@ shared-slice-read-last-2 : tie.Need-shared-slice-read-last-2
 shared-slice-read-last-2 c = search needs
 
 cast-last-2 : tie.Need-cast-last-2
-cast-last-2 c = omega (arith, c .shared-slice-known3 .given (c .before .before .before .before .before .args .k * 5 + 4))
+cast-last-2 c = omega (arith, c .shared-slice-known3 .given (c .before .before .before .before .before .args .k * recordSize + 4))
 
 add-last-3 : tie.Need-add-last-3
-add-last-3 c = omega (arith, c .shared-slice-known3 .given (c .before .before .before .before .before .args .k * 5 + 4), c .shared-slice-known3 .given (c .before .before .before .before .before .args .k * 5 + 3))
+add-last-3 c = omega (arith, c .shared-slice-known3 .given (c .before .before .before .before .before .args .k * recordSize + 4), c .shared-slice-known3 .given (c .before .before .before .before .before .args .k * recordSize + 3))
 
 mul-last-5 : tie.Need-mul-last-5
 mul-last-5 c =
     let s = c .before .before .before .before .before in
     let t = s .args .table .now in
-    omega (arith, few-numbers (entry t (s .args .k) 3 + entry t (s .args .k) 4) (s .args .width) (omega (arith, c .shared-slice-known3 .given (s .args .k * 5 + 4), c .shared-slice-known3 .given (s .args .k * 5 + 3))) (s .pre))
+    omega (arith, few-numbers (entry t (s .args .k) 3 + entry t (s .args .k) 4) (s .args .width) (omega (arith, c .shared-slice-known3 .given (s .args .k * recordSize + 4), c .shared-slice-known3 .given (s .args .k * recordSize + 3))) (s .pre))
 
 returns-3 : tie.Need-returns-3
 returns-3 c = sym (room-input _ _ _ _ _ (c .before .before .before .before .before .if1 .left) (c .if3 .taken))

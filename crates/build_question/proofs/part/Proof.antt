@@ -11,7 +11,7 @@ use mathlib.Core.Path.{_≡_, sym, _∙_}
 use native.Mathlib.Omega.{arith}
 use native.Mathlib.Nat.{add-mul}
 use denote.Ref.{now}
-use Rattle.rules.specs.Refusals.{entry}
+use Rattle.rules.specs.Refusals.{entry, recordSize}
 use Rattle.build_question.proofs.Laws.{few-numbers, Stands, stands, part-none, part-input, part-merged, inside-input, inside-merged, one}
 
 abbrev Past : Type 0
@@ -51,12 +51,12 @@ shared-slice-read-from : tie.Need-shared-slice-read-from
 shared-slice-read-from c = let s = stood (c .before) in omega arith
 
 cast-from : tie.Need-cast-from
-cast-from c = omega (arith, c .shared-slice-known4 .given (start (c .before) .args .k * 5 + 3))
+cast-from c = omega (arith, c .shared-slice-known4 .given (start (c .before) .args .k * recordSize + 3))
 
 mul-from-3 : tie.Need-mul-from-3
 mul-from-3 c =
     let s = start (c .before) in
-    omega (arith, few-numbers (entry (s .args .table .now) (s .args .k) 3) (s .args .width) (omega (arith, c .shared-slice-known4 .given (s .args .k * 5 + 3))) (s .pre))
+    omega (arith, few-numbers (entry (s .args .table .now) (s .args .k) 3) (s .args .width) (omega (arith, c .shared-slice-known4 .given (s .args .k * recordSize + 3))) (s .pre))
 
 mul-to : tie.Need-mul-to
 mul-to c = let s = stood (c .before) in omega arith
@@ -71,12 +71,12 @@ shared-slice-read-to : tie.Need-shared-slice-read-to
 shared-slice-read-to c = let s = stood (c .before .before) in omega arith
 
 cast-to : tie.Need-cast-to
-cast-to c = omega (arith, c .shared-slice-known5 .given (start (c .before .before) .args .k * 5 + 4))
+cast-to c = omega (arith, c .shared-slice-known5 .given (start (c .before .before) .args .k * recordSize + 4))
 
 mul-to-3 : tie.Need-mul-to-3
 mul-to-3 c =
     let s = start (c .before .before) in
-    omega (arith, few-numbers (entry (s .args .table .now) (s .args .k) 4) (s .args .width) (omega (arith, c .shared-slice-known5 .given (s .args .k * 5 + 4))) (s .pre))
+    omega (arith, few-numbers (entry (s .args .table .now) (s .args .k) 4) (s .args .width) (omega (arith, c .shared-slice-known5 .given (s .args .k * recordSize + 4))) (s .pre))
 
 add-to-2 : tie.Need-add-to-2
 add-to-2 c =
@@ -85,7 +85,7 @@ add-to-2 c =
     omega (
       arith,
       few-numbers (entry t (s .args .k) 3 + entry t (s .args .k) 4) (s .args .width)
-          (omega (arith, c .shared-slice-known5 .given (s .args .k * 5 + 3), c .shared-slice-known5 .given (s .args .k * 5 + 4))) (s .pre),
+          (omega (arith, c .shared-slice-known5 .given (s .args .k * recordSize + 3), c .shared-slice-known5 .given (s .args .k * recordSize + 4))) (s .pre),
       both (c .before .before),
     )
 

@@ -1,5 +1,6 @@
 //! The answer's tables.
 
+use super::plane::{looped, Point};
 use super::{Coordinate, Piece};
 use crate::call::{BuildCall, Built};
 
@@ -11,9 +12,11 @@ pub fn built(call: &BuildCall, chains: &[Piece]) -> Built {
         let first_member = built.members.len() as u32;
         let members = chain.members.len() as u32;
         let points = chain.run.len() as u32;
+        let run: Vec<Point> = chain.run.iter().map(|coordinate| coordinate.point).collect();
+        let mark = u32::from(looped(&run));
         let record = match chain.members[..] {
-            [line] => [first_member, 1, 0, firsts[line] as u32, points],
-            _ => [first_member, members, 1, (built.merged.len() / stride) as u32, points],
+            [line] => [first_member, 1, 0, firsts[line] as u32, points, mark],
+            _ => [first_member, members, 1, (built.merged.len() / stride) as u32, points, mark],
         };
         if record[2] == 1 {
             let numbers = |&Coordinate { point: [x, y], extras: [a, b] }: &Coordinate| {

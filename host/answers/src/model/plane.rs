@@ -16,6 +16,11 @@ pub fn same(a: Point, b: Point) -> bool {
     floats(a) == floats(b)
 }
 
+/// True where points are a loop: at least three, of which the first and the last agree bit for bit.
+pub fn looped(points: &[Point]) -> bool {
+    matches!(points, [first, _, .., last] if first == last)
+}
+
 /// The key of round one: the bits of x and y.
 pub fn exact_key(group: u32, point: Point) -> Key {
     (group, point[0] as i64, point[1] as i64)

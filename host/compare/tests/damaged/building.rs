@@ -92,7 +92,7 @@ fn a_room_may_be_longer_and_an_empty_call_needs_none() {
     assert_eq!(Library.build(&empty, &mut rooms), 0);
     assert_eq!(rooms.untouched(), Ok(()));
     let passing = BuildCall { counts: vec![0], groups: vec![0], kinds: vec![0], ..empty };
-    let mut rooms = BuildRooms::new(&mut Random::new(1), [5, 1, 1, 0, 0, 192]);
+    let mut rooms = BuildRooms::new(&mut Random::new(1), [6, 1, 1, 0, 0, 192]);
     assert_eq!(Library.build(&passing, &mut rooms), 1);
 }
 

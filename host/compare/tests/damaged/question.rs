@@ -2,7 +2,7 @@
 
 use crate::NO_TYPES;
 use answers::random::Random;
-use answers::{stride_of, TYPES};
+use answers::{stride_of, RECORD, TYPES};
 use lovasuku_chains::door::chain;
 
 /// What the rules say, in numbers that cannot overflow.
@@ -12,8 +12,8 @@ fn wanted(wkb_type: u32, input: usize, merged: usize, table: &[u32], k: u64) -> 
         None => return -12,
     };
     let numbers = table.len() as u128;
-    let first = 5 * u128::from(k);
-    if first + 5 > numbers {
+    let first = RECORD as u128 * u128::from(k);
+    if first + RECORD as u128 > numbers {
         return -10;
     }
     let record = &table[first as usize..];
@@ -37,25 +37,29 @@ fn asked_of(wkb_type: u32, input: usize, merged: usize, table: &[u32], k: u64) -
 
 #[test]
 fn a_record_at_each_edge() {
-    let good = [0, 1, 0, 1, 2];
+    let good = [0, 1, 0, 1, 2, 0];
     assert_eq!(asked(6, 0, &good, 0), 0);
     assert_eq!(asked(5, 9, &good, 0), -10);
-    assert_eq!(asked(0, 6, &[0, 1, 1, 1, 2], 0), 0);
-    assert_eq!(asked(9, 5, &[0, 1, 1, 1, 2], 0), -10);
+    assert_eq!(asked(0, 6, &[0, 1, 1, 1, 2, 0], 0), 0);
+    assert_eq!(asked(9, 5, &[0, 1, 1, 1, 2, 0], 0), -10);
     for source in [2, 3, 256, 1 << 31, u32::MAX] {
-        assert_eq!(asked(9, 9, &[0, 1, source, 0, 0], 0), -10);
+        assert_eq!(asked(9, 9, &[0, 1, source, 0, 0, 0], 0), -10);
     }
-    assert_eq!(asked(0, 0, &[u32::MAX, u32::MAX, 0, 0, 0], 0), 0);
-    for length in 0..5 {
+    assert_eq!(asked(0, 0, &[u32::MAX, u32::MAX, 0, 0, 0, 0], 0), 0);
+    // Whether it is a loop is not looked at.
+    for looped in [1, 2, u32::MAX] {
+        assert_eq!(asked(6, 0, &[0, 1, 0, 1, 2, looped], 0), 0);
+    }
+    for length in 0..RECORD {
         assert_eq!(asked(6, 6, &good[..length], 0), -10);
     }
-    assert_eq!(asked(6, 6, &[good, good].concat()[..9], 1), -10);
+    assert_eq!(asked(6, 6, &[good, good].concat()[..11], 1), -10);
     assert_eq!(asked(6, 6, &[good, good].concat(), 1), 0);
 }
 
 #[test]
 fn a_coordinate_has_the_numbers_of_its_type() {
-    let good = [0, 1, 0, 1, 2];
+    let good = [0, 1, 0, 1, 2, 0];
     for (wkb_type, numbers) in [(2, 6), (1002, 9), (2002, 9), (3002, 12)] {
         assert_eq!(asked_of(wkb_type, numbers, 0, &good, 0), 0);
         assert_eq!(asked_of(wkb_type, numbers - 1, 99, &good, 0), -10);
@@ -63,7 +67,7 @@ fn a_coordinate_has_the_numbers_of_its_type() {
     // A fourfold beyond 32 bits, and a threefold.
     for (first, count) in [(1 << 30, 0), (0, 1 << 30), (0x5555_5556, 0), (1, 0x5555_5555)] {
         for wkb_type in TYPES {
-            assert_eq!(asked_of(wkb_type, 8, 8, &[0, 1, 1, first, count], 0), -10);
+            assert_eq!(asked_of(wkb_type, 8, 8, &[0, 1, 1, first, count, 0], 0), -10);
         }
     }
 }
@@ -71,7 +75,7 @@ fn a_coordinate_has_the_numbers_of_its_type() {
 #[test]
 fn a_type_that_is_none_is_said_before_all_else() {
     for wkb_type in NO_TYPES {
-        assert_eq!(asked_of(wkb_type, 6, 0, &[0, 1, 0, 1, 2], 0), -12);
+        assert_eq!(asked_of(wkb_type, 6, 0, &[0, 1, 0, 1, 2, 0], 0), -12);
         assert_eq!(asked_of(wkb_type, 0, 0, &[], u64::MAX), -12);
     }
 }
@@ -88,18 +92,19 @@ fn sums_beyond_32_bits_are_beyond_every_slice() {
         (1 << 30, 1 << 30),
     ] {
         for source in [0, 1] {
-            assert_eq!(asked(4, 4, &[0, 1, source, first, count], 0), -10);
+            assert_eq!(asked(4, 4, &[0, 1, source, first, count, 0], 0), -10);
         }
     }
 }
 
 #[test]
 fn a_chain_number_may_be_any_number() {
-    let table = vec![0; 25];
+    let table = vec![0; 5 * RECORD];
     let wraps = (0..64).map(|k| 1u64 << k);
-    let fifths = (0..5).map(|k| (u64::MAX / 5).wrapping_mul(k));
-    let near = fifths.flat_map(|k| [k.wrapping_sub(1), k, k.wrapping_add(1), k.wrapping_add(4)]);
-    for k in wraps.chain(near).chain([u64::MAX, 0xcccc_cccc_cccc_cccd]) {
+    let sixths = (0..6).map(|k| (u64::MAX / 6).wrapping_mul(k));
+    let near = sixths.flat_map(|k| [k.wrapping_sub(1), k, k.wrapping_add(1), k.wrapping_add(4)]);
+    // Sixfold, the last two wrap to 2 and to 4.
+    for k in wraps.chain(near).chain([u64::MAX, 0x2aaa_aaaa_aaaa_aaab, 0x5555_5555_5555_5556]) {
         assert_eq!(asked(2, 2, &table, k), if k < 5 { 0 } else { -10 }, "{k}");
     }
 }
@@ -113,7 +118,7 @@ fn any_table_at_all() {
             0 => random.bits() as u32,
             _ => random.below(4) as u32,
         };
-        let table: Vec<u32> = (0..random.below(16)).map(|_| number(&mut random)).collect();
+        let table: Vec<u32> = (0..random.below(19)).map(|_| number(&mut random)).collect();
         let k = random.below(4) as u64;
         let wkb_type = if random.one_in(9) { random.pick(&NO_TYPES) } else { random.pick(&TYPES) };
         assert_eq!(

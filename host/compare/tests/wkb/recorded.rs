@@ -75,7 +75,7 @@ fn written(read: &Records, order: u8) -> Vec<u8> {
     let chains = Chains {
         wkb_type: read.wkb_type,
         coordinates: read.coordinates.clone(),
-        table: vec![0, 1, 0, 0, read.counts[0]],
+        table: vec![0, 1, 0, 0, read.counts[0], 0],
         k: 1,
         order,
         ..Chains::default()

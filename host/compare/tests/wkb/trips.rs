@@ -6,7 +6,7 @@ use answers::random::Random;
 use answers::replay::{load, FILES};
 use answers::styles::heights::with_extras;
 use answers::wkb::{record_of, Chains};
-use answers::{model, BuildCall, Built, TYPES};
+use answers::{model, BuildCall, Built, Record, TYPES};
 
 /// Every recorded building call that is answered, with its answer. Of four in a row three have
 /// extras, of each type by turns, and then the answer is the model's.
@@ -30,7 +30,7 @@ fn recorded() -> Vec<(BuildCall, Built)> {
 }
 
 /// The coordinates of a chain of a recorded answer.
-fn coordinates<'a>(call: &'a BuildCall, built: &'a Built, row: &[u32; 5]) -> &'a [u64] {
+fn coordinates<'a>(call: &'a BuildCall, built: &'a Built, row: &Record) -> &'a [u64] {
     let from = if row[2] == 0 { &call.coordinates } else { &built.merged };
     let stride = call.stride();
     &from[stride * row[3] as usize..][..stride * row[4] as usize]
@@ -73,8 +73,8 @@ fn lines_that_were_read_are_written_as_they_were() {
         // A table of the lines, one chain a record, all of source 0.
         let firsts =
             read.counts.iter().scan(0, |sum, &count| Some(std::mem::replace(sum, *sum + count)));
-        let row = |(k, (first, &count)): (usize, (u32, &u32))| [k as u32, 1, 0, first, count];
-        let table: Vec<[u32; 5]> = firsts.zip(&read.counts).enumerate().map(row).collect();
+        let row = |(k, (first, &count)): (usize, (u32, &u32))| [k as u32, 1, 0, first, count, 0];
+        let table: Vec<Record> = firsts.zip(&read.counts).enumerate().map(row).collect();
         let writing = Writing::of(Chains {
             wkb_type: read.wkb_type,
             coordinates: read.coordinates.clone(),

@@ -3,7 +3,7 @@
 use crate::Writing;
 use answers::random::Random;
 use answers::wkb::{record, record_of, Chains};
-use answers::{stride_of, TYPES};
+use answers::{stride_of, RECORD, TYPES};
 
 /// Chains of both sources, of x and y: of two coordinates, of none, of one, and of all that is merged.
 fn chains(k: u64, order: u8) -> Chains {
@@ -17,7 +17,14 @@ fn chains_of(wkb_type: u32, k: u64, order: u8) -> Chains {
         wkb_type,
         coordinates: (0..4 * stride).map(|k| k << 60 | 0x0123_4567_89ab_cdef).collect(),
         merged: (0..3 * stride).map(|k: u64| (0.5 - k as f64).to_bits()).collect(),
-        table: [[0, 1, 0, 1, 2], [1, 2, 1, 3, 0], [3, 1, 0, 3, 1], [4, 9, 1, 0, 3]].concat(),
+        // The last number of a record is not looked at.
+        table: [
+            [0, 1, 0, 1, 2, 0],
+            [1, 2, 1, 3, 0, 1],
+            [3, 1, 0, 3, 1, 7],
+            [4, 9, 1, 0, 3, u32::MAX],
+        ]
+        .concat(),
         k,
         order,
     }
@@ -45,12 +52,12 @@ const DAMAGES: [Damage; 17] = [
     Damage { place: 1, refusal: 16, name: "order 255", apply: |w| w.chains.order = 255 },
     Damage { place: 2, refusal: 10, name: "k beyond the table", apply: |w| w.chains.k = 5 },
     Damage { place: 2, refusal: 10, name: "k of 2^64 - 1", apply: |w| w.chains.k = u64::MAX },
-    Damage { place: 2, refusal: 10, name: "k whose fivefold wraps", apply: |w| w.chains.k = u64::MAX / 5 + 2 },
+    Damage { place: 2, refusal: 10, name: "k whose sixfold wraps", apply: |w| w.chains.k = u64::MAX / 6 + 2 },
     Damage { place: 2, refusal: 10, name: "a source of 2", apply: |w| w.chains.table[SOURCE] = 2 },
     Damage { place: 2, refusal: 10, name: "a first coordinate beyond", apply: |w| w.chains.table[FIRST] = 3 },
     Damage { place: 2, refusal: 10, name: "a count beyond", apply: |w| w.chains.table[COUNT] = 4 },
     Damage { place: 2, refusal: 10, name: "a count of 2^32 - 1", apply: |w| w.chains.table[COUNT] = u32::MAX },
-    Damage { place: 2, refusal: 10, name: "the last row cut", apply: |w| w.chains.table.truncate(19) },
+    Damage { place: 2, refusal: 10, name: "the last row cut", apply: |w| w.chains.table.truncate(23) },
     Damage { place: 3, refusal: 14, name: "the run short by one", apply: |w| w.rooms[0] = w.rooms[0].saturating_sub(1) },
     Damage { place: 3, refusal: 14, name: "no run", apply: |w| w.rooms[0] = 0 },
     Damage { place: 3, refusal: 14, name: "the lengths short by one", apply: |w| w.rooms[1] = w.rooms[1].saturating_sub(1) },
@@ -123,14 +130,14 @@ fn no_chains_need_no_room_but_an_order() {
 #[test]
 fn a_late_record_that_is_missing_comes_before_an_early_one_without_room() {
     let mut late = chains(4, 1);
-    late.table[15 + SOURCE] = 9;
+    late.table[3 * RECORD + SOURCE] = 9;
     assert_eq!(Writing { chains: late, rooms: [0; 2] }.agreed(), Err(10));
     assert_eq!(Writing { chains: chains(4, 1), rooms: [0; 2] }.agreed(), Err(14));
 }
 
 #[test]
 fn records_that_overlap_may_have_more_bytes_than_the_slices() {
-    let rows = vec![[0, 1, 0, 0, 4]; 500];
+    let rows = vec![[0, 1, 0, 0, 4, 0]; 500];
     let chains = Chains { table: rows.concat(), k: 500, ..chains(0, 0) };
     let mut writing = Writing::of(chains);
     assert_eq!(writing.agreed().map(|(run, _)| run.len()), Ok(500 * (9 + 64)));
@@ -149,7 +156,8 @@ fn made_up_tables_are_written_alike() {
         };
         let row = |random: &mut Random| {
             let source = if random.one_in(12) { 2 } else { random.below(2) as u32 };
-            [number(random), number(random), source, number(random), number(random)]
+            let [a, b, first, count, looped] = [0; 5].map(|_| number(random));
+            [a, b, source, first, count, looped]
         };
         let mut table: Vec<u32> = (0..random.below(5)).flat_map(|_| row(&mut random)).collect();
         if random.one_in(9) {
@@ -161,7 +169,7 @@ fn made_up_tables_are_written_alike() {
             wkb_type: if random.one_in(20) { random.bits() as u32 } else { random.pick(&TYPES) },
             coordinates: doubles(&mut random),
             merged: doubles(&mut random),
-            k: (table.len() / 5).saturating_sub(random.below(2)) as u64
+            k: (table.len() / RECORD).saturating_sub(random.below(2)) as u64
                 + u64::from(random.one_in(9)),
             table,
             order: random.below(9).min(2) as u8 % 3,

@@ -1,6 +1,6 @@
 //! Right answers, and wrong ones that a port could plausibly give.
 
-use answers::model::plane::{cell_key, exact_key, measure, Point};
+use answers::model::plane::{cell_key, exact_key, measure, same, Point};
 use answers::model::reasons::{told, Told};
 use answers::model::{built, built_by, Model};
 use answers::{BuildCall, Built, Pair, PairingCall, Port, Route, WhyCall};
@@ -171,6 +171,60 @@ pub fn members_reversed(call: &BuildCall) -> Built {
             built.members[first..first + run.len()].reverse();
             first += run.len() + 1;
         }
+    }
+    built
+}
+
+/// The right answer with other loop marks, each by the source and the points of its chain.
+fn loops(call: &BuildCall, looped: fn(u32, &[Point]) -> bool) -> Built {
+    let mut built = right(call);
+    for record in &mut built.table {
+        let from = if record[2] == 0 { &call.coordinates } else { &built.merged };
+        let points = from.chunks(call.stride()).map(|numbers| [numbers[0], numbers[1]]);
+        let points: Vec<Point> = points.skip(record[3] as usize).take(record[4] as usize).collect();
+        record[5] = u32::from(looped(record[2], &points));
+    }
+    built
+}
+
+/// True where the first point and the last are equal by a rule, of so many points at least.
+fn closes(points: &[Point], least: usize, equal: fn(Point, Point) -> bool) -> bool {
+    points.len() >= least && equal(points[0], points[points.len() - 1])
+}
+
+/// Compares first and last by `==`.
+pub fn loops_by_value(call: &BuildCall) -> Built {
+    loops(call, |_, points| closes(points, 3, same))
+}
+
+/// Takes two coordinates for a loop.
+pub fn loops_of_two(call: &BuildCall) -> Built {
+    loops(call, |_, points| closes(points, 2, |a, b| a == b))
+}
+
+/// Asks for four coordinates, as a ring of a polygon has.
+pub fn loops_of_four(call: &BuildCall) -> Built {
+    loops(call, |_, points| closes(points, 4, |a, b| a == b))
+}
+
+/// Looks at merged chains alone.
+pub fn loops_of_merged_alone(call: &BuildCall) -> Built {
+    loops(call, |source, points| source == 1 && closes(points, 3, |a, b| a == b))
+}
+
+/// Compares x alone.
+pub fn loops_by_x(call: &BuildCall) -> Built {
+    loops(call, |_, points| closes(points, 3, |a, b| a[0] == b[0]))
+}
+
+/// Compares the extras of first and last too.
+pub fn loops_by_extras(call: &BuildCall) -> Built {
+    let mut built = right(call);
+    for record in &mut built.table {
+        let from = if record[2] == 0 { &call.coordinates } else { &built.merged };
+        let run = from.chunks(call.stride()).skip(record[3] as usize).take(record[4] as usize);
+        let run: Vec<&[u64]> = run.collect();
+        record[5] = u32::from(run.len() > 2 && run[0] == run[run.len() - 1]);
     }
     built
 }

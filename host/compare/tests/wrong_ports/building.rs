@@ -39,6 +39,54 @@ fn one_zero_as_key() {
 }
 
 #[test]
+fn loops_by_value() {
+    assert_caught(answers_of::loops_by_value, 2, 4, "table[5] is 0x1, not 0x0");
+}
+
+#[test]
+fn loops_of_two() {
+    assert_caught(answers_of::loops_of_two, 1, 2, "table[5] is 0x1, not 0x0");
+}
+
+#[test]
+fn loops_of_four() {
+    assert_caught(answers_of::loops_of_four, 1, 3, "table[5] is 0x0, not 0x1");
+}
+
+#[test]
+fn loops_of_merged_chains_alone() {
+    assert_caught(answers_of::loops_of_merged_alone, 1, 3, "table[5] is 0x0, not 0x1");
+}
+
+#[test]
+fn loops_by_x_alone() {
+    assert_caught(answers_of::loops_by_x, 2, 4, "table[5] is 0x1, not 0x0");
+}
+
+#[test]
+fn loops_by_extras_too() {
+    assert_caught(answers_of::loops_by_extras, 1, 3, "table[5] is 0x0, not 0x1");
+}
+
+#[test]
+fn records_of_five_numbers() {
+    let wrong = Pretended {
+        after_build: |rooms, call| {
+            let five: Vec<u32> = answers_of::right(call)
+                .table
+                .iter()
+                .flat_map(|record| record[..5].to_vec())
+                .collect();
+            rooms.table.lent().iter_mut().zip(five).for_each(|(number, five)| *number = five);
+        },
+        ..Pretended::default()
+    };
+    let (call, sentence) = caught_building(wrong);
+    assert_small(&call, 2, 0);
+    assert!(sentence.starts_with("table["), "{sentence}");
+}
+
+#[test]
 fn round_two_skipped() {
     let wrong = Pretended { build: answers_of::exact_alone, ..Pretended::default() };
     let (call, _) = caught_building(wrong);

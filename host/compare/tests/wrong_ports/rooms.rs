@@ -2,6 +2,7 @@
 
 use crate::doors::Pretended;
 use crate::{answers_of, assert_small, caught_building, caught_pairing};
+use answers::RECORD;
 
 #[test]
 fn workspace_left_dirty() {
@@ -38,7 +39,7 @@ fn written_beyond_the_answer() {
     let wrong = Pretended {
         after_build: |rooms, call| {
             let chains = answers_of::right(call).table.len();
-            if let Some(number) = rooms.table.lent().get_mut(5 * chains) {
+            if let Some(number) = rooms.table.lent().get_mut(RECORD * chains) {
                 *number = 12_345;
             }
         },

@@ -124,6 +124,7 @@ fn owned(
         turned: chain.turned().collect(),
         points: chain.is_merged().then(|| chain.points().collect()),
         extras: extras(chain),
+        is_loop: chain.is_loop(),
         joints: joints(lines, &way, counts),
     }
 }

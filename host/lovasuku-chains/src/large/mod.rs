@@ -81,6 +81,9 @@ pub struct Chain {
     pub points: Option<Vec<Point>>,
     /// The extras of its points, as many for each as the dimension has; none where it is one line.
     pub extras: Vec<f64>,
+    /// Whether it is a loop, as [`Chain::is_loop`](crate::Chain::is_loop) tells. Geometry without points
+    /// is none.
+    pub is_loop: bool,
     /// Where its lines were joined, in the order of its points.
     pub joints: Vec<Joint>,
 }

@@ -13,8 +13,9 @@ Join the lines of a delivery into chains.
 IN is GeoJSON: a FeatureCollection, or features one after another. LineStrings are joined where
 their ends meet: a way that passes over a junction must be split there, since only ends are looked
 at. OUT has one feature a chain, with the properties members (ids, or positions), turned, count,
-and those that all its members share; its id is its position. Every number is written so that it is
-read back the same, bit for bit. Features, parts and chains are counted from 0.";
+loop (whether it ends where it begins), and those that all its members share; its id is its
+position. Every number is written so that it is read back the same, bit for bit. Features, parts and
+chains are counted from 0.";
 
 pub const JOIN_EXAMPLES: &str = "\
 Examples:

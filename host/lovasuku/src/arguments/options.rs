@@ -140,7 +140,7 @@ fn properties() -> [Arg; 3] {
             .long_help(help::KEEP),
         named("prefix")
             .value_name("PREFIX")
-            .help("Begin the names members, turned, count and parts with this"),
+            .help("Begin the names members, turned, count, loop and parts with this"),
         named("units")
             .value_name("UNIT")
             .help("What the coordinates are in, as m, ft or degrees")

@@ -2,6 +2,7 @@
 
 use super::cells::are_drawn;
 use super::drawing::DIAMOND;
+use super::loops::ROUND;
 use super::page::{Page, HEAD, MARGIN, PANEL, WIDTH};
 use super::svg::escape;
 use super::{bridges_of, Cells, Sheet};
@@ -45,6 +46,11 @@ pub fn legend(out: &mut String, sheet: &Sheet, page: &Page, colours: &[&str]) ->
             "<g class=\"junctions\"><path transform=\"translate(21 0)\" d=\"{DIAMOND}\"/></g>"
         );
         row(out, &mut y, &diamond, "junction where a pair was selected")?;
+    }
+    if sheet.tally.loops > 0 {
+        let sign =
+            format!("<g class=\"loops\"><path transform=\"translate(21 0)\" d=\"{ROUND}\"/></g>");
+        row(out, &mut y, &sign, "loop: it ends where it begins")?;
     }
     if sheet.tally.bridges > 0 {
         let words = format!("bridge, with its length in {}: a", sheet.measure.unit);

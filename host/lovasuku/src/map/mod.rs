@@ -1,4 +1,4 @@
-//! The map: an SVG of the input, the chains, the junctions and the bridges.
+//! The map: an SVG of the input, the chains, the junctions, the loops and the bridges.
 
 mod bridging;
 mod cells;
@@ -7,6 +7,7 @@ mod detail;
 mod drawing;
 mod labels;
 mod legend;
+mod loops;
 mod page;
 mod svg;
 
@@ -50,6 +51,8 @@ text{font:14px system-ui,'Segoe UI',Helvetica,Arial,sans-serif;fill:#2b2b2b}\
 .input,.ends{pointer-events:none}\
 .ends circle{fill:#fff;stroke:#555;stroke-width:1}\
 .junctions path{fill:#fff;stroke:#222;stroke-width:1.7;stroke-linejoin:round}\
+.loops circle{fill:#fff;fill-opacity:.85;stroke:none}\
+.loops path{fill:none;stroke:#00707a;stroke-width:2.2;stroke-linecap:round;stroke-linejoin:round}\
 .bridges path{fill:none;stroke:#e0001b;stroke-linecap:round}\
 .bridges circle{fill:#e0001b;fill-opacity:.1;stroke:#e0001b}\
 .bridges text{fill:#c80018;font-weight:600;paint-order:stroke;stroke:#fff;stroke-width:4px;stroke-linejoin:round}\
@@ -125,6 +128,7 @@ fn draw(out: &mut String, sheet: &Sheet, detail: Detail) -> Result<(), Error> {
     let colours = drawing::chains(out, sheet, &page)?;
     drawing::lines(out, sheet, &page)?;
     drawing::junctions(out, sheet, &page)?;
+    loops::loops(out, sheet, &page)?;
     bridging::gaps(out, sheet, &page)?;
     bridging::bridges(out, sheet, &page)?;
     legend::legend(out, sheet, &page, &colours)?;

@@ -31,7 +31,7 @@ const PART: usize = 256;
 /// The names of the properties that every chain has, each behind the prefix. That of the parts is
 /// for lines that are parts of features.
 pub fn own_names(prefix: &str, parts: bool) -> Vec<String> {
-    let names = ["members", "turned", "count", "parts"];
+    let names = ["members", "turned", "count", "loop", "parts"];
     let names = names.into_iter().filter(|&name| parts || name != "parts");
     names.map(|name| format!("{prefix}{name}")).collect()
 }
@@ -70,6 +70,7 @@ impl Chains<'_> {
                 }),
                 1 => list(&mut out, &chain.turned, value),
                 2 => value(&mut out, &chain.members.len()),
+                3 => value(&mut out, &chain.is_loop),
                 _ => list(&mut out, &chain.members, |out, line| value(out, &part(line))),
             }
         }
