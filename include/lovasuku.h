@@ -66,6 +66,7 @@ extern "C" {
 #define lovasuku_table_room(n) ((size_t)LOVASUKU_RECORD * (size_t)(n))
 #define lovasuku_members_room(n) ((size_t)(n))
 #define lovasuku_marks_room(n) ((size_t)(n))
+#define lovasuku_listing_room(n) ((size_t)(n))
 #define lovasuku_merged_room(wkb_type, c) (lovasuku_stride(wkb_type) * (size_t)(c))
 #define lovasuku_spare_room(wkb_type, c) (lovasuku_stride(wkb_type) * (size_t)(c))
 #define lovasuku_workspace_room(n) ((size_t)LOVASUKU_LINE_WORKSPACE * (size_t)(n))
@@ -122,13 +123,21 @@ enum lovasuku_reason {
  * Written are, with k chains: table, 6k numbers, for each chain its first member, its number of members, its source (0
  * the caller's coordinates, 1 merged), its first coordinate and its number of coordinates, each coordinate counted
  * once, and 1 where it is a loop, else 0; members, n positions of lines, chain by chain; marks, n bytes in the members'
- * order, 1 where the piece that held the line was entered at its last coordinate in the last round that ran; merged,
- * the coordinates of the chains of several lines with their extras, one chain behind another, without repeats of x and
- * y. A chain of one line names the line's own coordinates and is not copied. Chains come in the order of their starts,
- * lines that pass through last. A loop has at least three coordinates, of which the first and the last agree in x and y
- * bit for bit: a turning loop, a line there and back, a closed line that passes through.
+ * order, 1 where the line was turned in an odd number of rounds; listing, n positions of lines, chain by chain with the
+ * members' firsts and numbers, in the order in which the chain's coordinates pass them; merged, the coordinates of the
+ * chains of several lines with their extras, one chain behind another, without repeats of x and y. A chain of one line
+ * names the line's own coordinates and is not copied. Chains come in the order of their starts, lines that pass through
+ * last. A loop has at least three coordinates, of which the first and the last agree in x and y bit for bit: a turning
+ * loop, a line there and back, a closed line that passes through.
  *
- * Rooms: table 6n, members n, marks n, merged and spare 2c (3c or 4c with extras), workspace 192n.
+ * Which way was a line drawn? Along its chain where its mark is 0, against it where it is 1, with a tolerance too: the
+ * chain's lines in the order of the listing, each backwards where its mark is 1, laid end to end without repeats of x
+ * and y, are the chain's coordinates by ==. The members are in another order where round two turned a piece of several
+ * lines, which keep the order that they had in it: a mark belongs to the member at its place, not to the line at that
+ * place of the listing. Lines from 0,0 to 1.25,0, from 4.5,0 to 3.5,0 and from 3.5,0 to 1.75,0 with tolerance 1 are one
+ * chain with members 0 1 2, marks 0 1 1 and listing 0 2 1.
+ *
+ * Rooms: table 6n, members n, marks n, listing n, merged and spare 2c (3c or 4c with extras), workspace 192n.
  *
  * Refusals: 12 wkb_type is none of the four. 1 n is above 4,096. 2 groups or kinds are not n numbers. 3 a kind is
  * above 1. 4 the counts do not add up to the coordinates' length, by the numbers of a coordinate. 5 c is above 65,536.
@@ -143,6 +152,7 @@ int64_t lovasuku_build(uint32_t wkb_type, const double *coordinates, size_t coor
                        uint32_t *table, size_t table_length,
                        uint32_t *members, size_t members_length,
                        uint8_t *marks, size_t marks_length,
+                       uint32_t *listing, size_t listing_length,
                        double *merged, size_t merged_length,
                        double *spare, size_t spare_length,
                        uint64_t *workspace, size_t workspace_length);
@@ -233,6 +243,7 @@ int64_t lovasuku_build_offset(uint32_t wkb_type, const double *coordinates, size
                               uint32_t *table, size_t table_length,
                               uint32_t *members, size_t members_length,
                               uint8_t *marks, size_t marks_length,
+                              uint32_t *listing, size_t listing_length,
                               double *merged, size_t merged_length,
                               double *spare, size_t spare_length,
                               uint64_t *workspace, size_t workspace_length);

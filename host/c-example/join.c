@@ -15,16 +15,26 @@ static const uint8_t kinds[LINES] = {0, 0, 0};
 static uint32_t table[LOVASUKU_RECORD * LINES];
 static uint32_t members[LINES];
 static uint8_t marks[LINES];
+static uint32_t listing[LINES];
 static double merged[2 * POINTS];
 static double spare[2 * POINTS];
 static uint64_t workspace[LOVASUKU_LINE_WORKSPACE * LINES];
 
-/* Prints the chain of a record. */
+/* Whether a line of a chain was drawn against it: marks stand in the order of the members. */
+static int is_turned(const uint32_t *record, uint32_t line) {
+    uint32_t i = record[0];
+    while (members[i] != line) {
+        i++;
+    }
+    return marks[i];
+}
+
+/* Prints the chain of a record: its lines as its coordinates pass them, and its coordinates. */
 static void print_chain(const uint32_t *record) {
     const double *from = record[2] == 0 ? coordinates : merged;
-    printf("members");
+    printf("path");
     for (uint32_t i = record[0]; i < record[0] + record[1]; i++) {
-        printf(" %" PRIu32 "%s", members[i], marks[i] ? " (turned)" : "");
+        printf(" %" PRIu32 "%s", listing[i], is_turned(record, listing[i]) ? " (turned)" : "");
     }
     printf("\ncoordinates");
     for (uint32_t i = record[3]; i < record[3] + record[4]; i++) {
@@ -36,8 +46,8 @@ static void print_chain(const uint32_t *record) {
 int main(void) {
     int64_t chains =
         lovasuku_build(LOVASUKU_XY, coordinates, 2 * POINTS, counts, LINES, groups, LINES, kinds, LINES, 1.0, 0.0, 0.0,
-                       0, 0.0, table, LOVASUKU_RECORD * LINES, members, LINES, marks, LINES, merged, 2 * POINTS,
-                       spare, 2 * POINTS, workspace, LOVASUKU_LINE_WORKSPACE * LINES);
+                       0, 0.0, table, LOVASUKU_RECORD * LINES, members, LINES, marks, LINES, listing, LINES, merged,
+                       2 * POINTS, spare, 2 * POINTS, workspace, LOVASUKU_LINE_WORKSPACE * LINES);
     if (chains < 0) {
         fprintf(stderr, "refusal %" PRId64 "\n", -chains);
         return 1;

@@ -5,9 +5,9 @@
 #include "build.h"
 
 enum { MOST_LINES = LOVASUKU_MOST_LINES + 2, MOST_POINTS = LOVASUKU_MOST_POINTS + 2, FEW = 48, MEDIUM = 300, WIDEST = 4 };
-enum { TABLE, MEMBERS, MARKS, MERGED, SPARE, WORKSPACE, ROOMS };
+enum { TABLE, MEMBERS, MARKS, LISTING, MERGED, SPARE, WORKSPACE, ROOMS };
 
-static const size_t width[ROOMS] = {4, 4, 1, 8, 8, 8};
+static const size_t width[ROOMS] = {4, 4, 1, 4, 8, 8, 8};
 static struct slice coordinates, counts, groups, kinds, rooms[ROOMS];
 
 /* What is lent beside the call: lengths in elements. */
@@ -19,8 +19,8 @@ static void make_slices(void) {
     if (kinds.capacity != 0) {
         return;
     }
-    const size_t most[ROOMS] = {LOVASUKU_RECORD * MEDIUM, MEDIUM,          MEDIUM,
-                                WIDEST * MOST_POINTS,     WIDEST * MOST_POINTS, LOVASUKU_LINE_WORKSPACE * MEDIUM};
+    const size_t most[ROOMS] = {LOVASUKU_RECORD * MEDIUM, MEDIUM, MEDIUM, MEDIUM, WIDEST * MOST_POINTS,
+                                WIDEST * MOST_POINTS, LOVASUKU_LINE_WORKSPACE * MEDIUM};
     make_input(&coordinates, WIDEST * MOST_POINTS * sizeof(double));
     make_input(&counts, MOST_LINES * sizeof(uint32_t));
     make_input(&groups, MOST_LINES * sizeof(uint32_t));
@@ -141,7 +141,7 @@ static struct building next_building(struct bytes *bytes, struct lengths *length
 /* The rooms of a call; short ones where it has too many lines. */
 static void wanted_rooms(const struct building *call, size_t numbers, size_t *wanted) {
     size_t n = call->n > LOVASUKU_MOST_LINES ? FEW : call->n;
-    const size_t lengths[ROOMS] = {LOVASUKU_RECORD * n, n, n, numbers, numbers, LOVASUKU_LINE_WORKSPACE * n};
+    const size_t lengths[ROOMS] = {LOVASUKU_RECORD * n, n, n, n, numbers, numbers, LOVASUKU_LINE_WORKSPACE * n};
     memcpy(wanted, lengths, sizeof lengths);
 }
 
@@ -222,14 +222,15 @@ static int64_t make_call(const struct building *call, const struct lengths *leng
             call->wkb_type, coordinates.lent, lengths->numbers, counts.lent, call->n, groups.lent, lengths->groups,
             kinds.lent, lengths->kinds, call->tolerance, call->origin_x, call->origin_y, call->switch_on, call->offset,
             rooms[TABLE].lent, room[TABLE], rooms[MEMBERS].lent, room[MEMBERS], rooms[MARKS].lent, room[MARKS],
-            rooms[MERGED].lent, room[MERGED], rooms[SPARE].lent, room[SPARE], rooms[WORKSPACE].lent,
-            room[WORKSPACE]);
+            rooms[LISTING].lent, room[LISTING], rooms[MERGED].lent, room[MERGED], rooms[SPARE].lent, room[SPARE],
+            rooms[WORKSPACE].lent, room[WORKSPACE]);
     }
     return lovasuku_build(call->wkb_type, coordinates.lent, lengths->numbers, counts.lent, call->n, groups.lent,
                           lengths->groups, kinds.lent, lengths->kinds, call->tolerance, call->origin_x,
                           call->origin_y, call->switch_on, call->limit, rooms[TABLE].lent, room[TABLE],
-                          rooms[MEMBERS].lent, room[MEMBERS], rooms[MARKS].lent, room[MARKS], rooms[MERGED].lent,
-                          room[MERGED], rooms[SPARE].lent, room[SPARE], rooms[WORKSPACE].lent, room[WORKSPACE]);
+                          rooms[MEMBERS].lent, room[MEMBERS], rooms[MARKS].lent, room[MARKS], rooms[LISTING].lent,
+                          room[LISTING], rooms[MERGED].lent, room[MERGED], rooms[SPARE].lent, room[SPARE],
+                          rooms[WORKSPACE].lent, room[WORKSPACE]);
 }
 
 /* Requires the rooms of an accepted call to hold the answer and to be otherwise zero or as before. */
@@ -241,12 +242,14 @@ static void require_rooms(struct building *call, const struct lengths *lengths, 
     call->table = (const uint32_t *)rooms[TABLE].fill;
     call->members = (const uint32_t *)rooms[MEMBERS].fill;
     call->marks = rooms[MARKS].fill;
+    call->listing = (const uint32_t *)rooms[LISTING].fill;
     call->merged = (const uint64_t *)rooms[MERGED].fill;
     size_t merged = require_built(call, chains);
     require_untouched_from(&rooms[TABLE], 4 * LOVASUKU_RECORD * chains,
                            "table is as before beyond what is written");
     require_untouched_from(&rooms[MEMBERS], 4 * call->n, "members are as before beyond what is written");
     require_untouched_from(&rooms[MARKS], call->n, "marks are as before beyond what is written");
+    require_untouched_from(&rooms[LISTING], 4 * call->n, "the listing is as before beyond what is written");
     require_untouched_from(&rooms[MERGED], 8 * merged, "merged is as before beyond what is written");
     require_cleared(&rooms[SPARE], 8 * lengths->numbers, "spare is zero and as before beyond");
     require_cleared(&rooms[WORKSPACE], 8 * LOVASUKU_LINE_WORKSPACE * call->n,
@@ -259,18 +262,18 @@ static void require_rooms(struct building *call, const struct lengths *lengths, 
     }
 }
 
-/* The same lines without extras have the same table, members and marks, and x and y. */
+/* The same lines without extras have the same table, members, marks and listing, and x and y. */
 static void require_alike_without_extras(const struct building *call, struct lengths lengths, unsigned char dirt,
                                          size_t chains) {
     static uint64_t merged_before[WIDEST * MOST_POINTS];
-    static unsigned char before[3][LOVASUKU_RECORD * MEDIUM * 4];
-    size_t written[] = {4 * LOVASUKU_RECORD * chains, 4 * call->n, call->n};
+    static unsigned char before[MERGED][LOVASUKU_RECORD * MEDIUM * 4];
+    size_t written[] = {4 * LOVASUKU_RECORD * chains, 4 * call->n, call->n, 4 * call->n};
     size_t merged = 0;
     for (size_t k = 0; k < chains; k++) {
         const uint32_t *record = call->table + LOVASUKU_RECORD * k;
         merged += record[2] == 1 ? record[4] : 0;
     }
-    for (int room = TABLE; room <= MARKS; room++) {
+    for (int room = TABLE; room <= LISTING; room++) {
         memcpy(before[room], rooms[room].fill, written[room]);
     }
     memcpy(merged_before, rooms[MERGED].fill, 8 * call->width * merged);
@@ -286,9 +289,9 @@ static void require_alike_without_extras(const struct building *call, struct len
     flat.width = 2;
     lengths.numbers = 2 * call->c;
     require(make_call(&flat, &lengths, dirt) == (int64_t)chains, "without extras there are as many chains");
-    for (int room = TABLE; room <= MARKS; room++) {
+    for (int room = TABLE; room <= LISTING; room++) {
         require(memcmp(before[room], rooms[room].fill, written[room]) == 0,
-                "without extras table, members and marks are the same");
+                "without extras table, members, marks and listing are the same");
     }
     const uint64_t *points = (const uint64_t *)rooms[MERGED].fill;
     for (size_t i = 0; i < merged; i++) {
@@ -299,9 +302,9 @@ static void require_alike_without_extras(const struct building *call, struct len
 
 /* A sum over the answer, to compare two calls by. */
 static uint64_t sum_of_answer(const struct building *call, size_t chains) {
-    const size_t written[] = {4 * LOVASUKU_RECORD * chains, 4 * call->n, call->n};
+    const size_t written[] = {4 * LOVASUKU_RECORD * chains, 4 * call->n, call->n, 4 * call->n};
     uint64_t sum = chains;
-    for (int room = TABLE; room <= MARKS; room++) {
+    for (int room = TABLE; room <= LISTING; room++) {
         for (size_t i = 0; i < written[room]; i++) {
             sum = (sum ^ rooms[room].fill[i]) * 0x100000001b3;
         }

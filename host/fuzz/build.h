@@ -21,6 +21,7 @@ struct building {
     /* The rooms as an accepted call has left them. */
     const uint32_t *table, *members;
     const uint8_t *marks;
+    const uint32_t *listing;
     const uint64_t *merged;
 };
 

@@ -86,21 +86,43 @@ static void require_merged(const struct building *call, const uint32_t *record) 
     }
 }
 
-/* After round one alone the members stand in the order of travel: laid end to end they are the chain, and of coordinates
- * that repeat one another's x and y the earlier one stays, with its extras. */
-static void require_laid_end_to_end(const struct building *call, const uint32_t *record) {
-    size_t width = call->width, written = 0;
-    const uint64_t *chain = call->merged + width * record[3];
+/* The marks of the lines of a chain, by their positions; the listing of the chain has its members, each once. */
+static void find_marks(const struct building *call, const uint32_t *record, uint8_t *mark) {
+    static size_t met[MOST];
+    static size_t chain = 0;
+    chain++;
     for (uint32_t i = record[0]; i < record[0] + record[1]; i++) {
-        uint32_t line = call->members[i];
+        mark[call->members[i]] = call->marks[i];
+        met[call->members[i]] = chain;
+    }
+    for (uint32_t i = record[0]; i < record[0] + record[1]; i++) {
+        uint32_t line = call->listing[i];
+        require(line < call->n && met[line] == chain, "the listing of a chain has its members, each once");
+        met[line] = 0;
+    }
+}
+
+/* The lines in the order of the listing, each backwards where its mark is 1, laid end to end without repeats of x and y,
+ * are the chain by ==; after round one alone bit for bit with their extras, and then members and listing are one. */
+static void require_laid_end_to_end(const struct building *call, const uint32_t *record) {
+    static uint8_t mark[MOST];
+    size_t width = call->width, written = 0;
+    bool exact = !(call->tolerance > 0);
+    const uint64_t *chain = call->merged + width * record[3];
+    find_marks(call, record, mark);
+    for (uint32_t i = record[0]; i < record[0] + record[1]; i++) {
+        uint32_t line = call->listing[i];
+        require(!exact || line == call->members[i], "round one alone lists the members as they are");
         for (size_t k = 0; k < call->counts[line]; k++) {
-            size_t place = call->marks[i] ? first_of[line + 1] - 1 - k : first_of[line] + k;
+            size_t place = mark[line] ? first_of[line + 1] - 1 - k : first_of[line] + k;
             const uint64_t *point = call->coordinates + width * place;
             if (written > 0 && same(chain + width * (written - 1), point)) {
                 continue;
             }
-            require(written < record[4] && memcmp(chain + width * written, point, 8 * width) == 0,
-                    "the lines laid end to end are the chain");
+            require(written < record[4] && same(chain + width * written, point),
+                    "the lines laid end to end as listing and marks say are the chain");
+            require(!exact || memcmp(chain + width * written, point, 8 * width) == 0,
+                    "after round one alone bit for bit, with their extras");
             written++;
         }
     }
@@ -175,13 +197,12 @@ static size_t require_record(const struct building *call, const uint32_t *record
         uint32_t line = call->members[record[0]];
         require(record[3] == first_of[line] && record[4] == call->counts[line],
                 "a lone line is its own coordinates");
+        require(call->listing[record[0]] == line && call->marks[record[0]] == 0, "a lone line lists itself, unturned");
         return merged;
     }
     require(record[3] == merged && merged + record[4] <= call->c, "first coordinates add up");
     require_merged(call, record);
-    if (!(call->tolerance > 0)) {
-        require_laid_end_to_end(call, record);
-    }
+    require_laid_end_to_end(call, record);
     return merged + record[4];
 }
 

@@ -15,11 +15,9 @@ use Rattle.rules.specs.Calls.{unless, answerOf, written, cleared, builtOf, fill
 use Rattle.build_refusals.specs.Admitted.{Admitted}
 use Rattle.build_refusals.proofs.Laws.{admitted}
 use Rattle.build_lines.specs.Taken.{Adds}
-use Rattle.build_lines.specs.Taken.{plainOf}
 use Rattle.chain_laws.proofs.Counts.{each-weak}
 use Rattle.build_layout.specs.Laying.{passingOf, leftOf, Layable, Outputs}
-use Rattle.build_layout.proofs.Small.{rounds-marks}
-use Rattle.build_layout.proofs.Left.{pieces-all, members-all, left-marked, left-low, left-size, merged-left}
+use Rattle.build_layout.proofs.Left.{pieces-all, members-all, left-low, left-size, merged-left}
 use Rattle.build_chains.specs.Building.{Buildable, partFrom, AllLeft}
 use Rattle.build_chains.proofs.Parts.{cleared-same}
 
@@ -81,17 +79,14 @@ module _ (t : ℕ) (l : Lines) (s : Settings) (o : Rooms) where
         (e : w ≡ widthOf t)
         (L : AllLeft w l s at number lines merged′ (o .merged) spare₁ (o .spare) workspace₁ (o .workspace)) where
       -- has the pieces laid out that the rounds leave
-      unfoldable pub layable : Layable w (partFrom (length (l .counts)) at workspace₁) (length (l .counts)) number lines (l .coordinates) merged′ (l .counts) (l .kinds) (o .table) (o .members) (o .marks)
+      unfoldable pub layable : Layable w (partFrom (length (l .counts)) at workspace₁) (length (l .counts)) number lines (l .coordinates) merged′ (l .counts) (l .kinds) (o .table) (o .members) (o .marks) (o .listing)
       layable = record {
         groups = l .groups;
         ps = leftOf w s l;
         held = L .left .held;
-        turned = L .left .turned;
         number = L .left .number-is;
         listed = L .lines-are;
-        marked = left-marked w s (l .coordinates) (l .counts) (l .groups) (l .kinds);
         members-low = each-weak _ _ _ (λ x h. omega (arith, a .few)) (left-low w s (l .coordinates) (l .counts) (l .groups) (l .kinds));
-        marks-low = rounds-marks s (plainOf w l);
         points-few = omega (arith, left-size w s (l .coordinates) (l .counts) (l .groups) (l .kinds), a .small);
         pieces-all = pieces-all w s (l .coordinates) (l .counts) (l .groups) (l .kinds);
         members-all = omega (arith, members-all w s (l .coordinates) (l .counts) (l .groups) (l .kinds));
@@ -103,19 +98,20 @@ module _ (t : ℕ) (l : Lines) (s : Settings) (o : Rooms) where
         table-long = a .table-long;
         members-long = a .members-long;
         marks-long = a .marks-long;
+        listing-long = a .listing-long;
       }
 
       -- and clears what it used
-      pub accepted : {table′ members′ marks′ spare′ workspace′ : List ℕ} {r : ℕ}
-          → Outputs (laidOut w (l .counts) (leftOf w s l ++ passingOf w l)) table′ (o .table) members′ (o .members) marks′ (o .marks) r
+      pub accepted : {table′ members′ marks′ listing′ spare′ workspace′ : List ℕ} {r : ℕ}
+          → Outputs (laidOut w (l .counts) (leftOf w s l ++ passingOf w l)) table′ (o .table) members′ (o .members) marks′ (o .marks) listing′ (o .listing) r
           → spare′ ≡ cleared (length (l .coordinates)) spare₁
           → workspace′ ≡ cleared (length (l .counts) * lineRoom) workspace₁
-          → Built t l s o (Accepted r) (rooms table′ members′ marks′ merged′ spare′ workspace′)
+          → Built t l s o (Accepted r) (rooms table′ members′ marks′ listing′ merged′ spare′ workspace′)
       unfolding filled build chains
-      accepted {table′} {members′} {marks′} {spare′} {workspace′} {r} q p c =
+      accepted {table′} {members′} {marks′} {listing′} {spare′} {workspace′} {r} q p c =
           let same : build w s l ≡ builtOf t l s = ap (λ (v : ℕ). build v s l) e in
-          let u : Outputs (builtOf t l s) table′ (o .table) members′ (o .members) marks′ (o .marks) r =
-          subst (λ (b : Laid). Outputs b table′ (o .table) members′ (o .members) marks′ (o .marks) r) same q in
+          let u : Outputs (builtOf t l s) table′ (o .table) members′ (o .members) marks′ (o .marks) listing′ (o .listing) r =
+          subst (λ (b : Laid). Outputs b table′ (o .table) members′ (o .members) marks′ (o .marks) listing′ (o .listing) r) same q in
           record {
             answer = accepted-is (refusalOf t l s o) _ (builtOf t l s .number) (u .number) z;
             rooms =
@@ -123,6 +119,7 @@ module _ (t : ℕ) (l : Lines) (s : Settings) (o : Rooms) where
                 (u .records i)
                 (u .listed i)
                 (u .turned i)
+                (u .passed i)
                 ((L .left .copied-is ∙ ap (λ (m : List ℕ). written m (o .merged)) (sym (merged-left w s (l .coordinates) (l .counts) (l .groups) (l .kinds)) ∙ ap (λ (b : Laid). b .merged) same)) i)
                 ((p ∙ cleared-same (length (l .coordinates)) spare₁ (o .spare) (L .spare-rest)) i)
                 ((c ∙ cleared-same (length (l .counts) * lineRoom) workspace₁ (o .workspace) (L .left .rest)) i))

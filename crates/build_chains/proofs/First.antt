@@ -8,7 +8,6 @@ use native.Mathlib.Nat.{mul-le-mul-right}
 use lib.Dec.{ltb, eqb}
 use lib.Ieee.{Float}
 use lib.ListN.{length, drop}
-use lib.Seq.{slice}
 use borrow.Rule.Slice.PartMut.{midOf, putMid}
 use Rattle.rules.specs.declared.Settings.{Settings}
 use Rattle.rules.specs.declared.Grid.the-variants.{Exact}
@@ -19,8 +18,8 @@ use Rattle.rules.specs.Layout.{Lines, linesIn}
 use Rattle.rules.specs.Refusals.{lineRoom, limitBad}
 use Rattle.build_refusals.specs.Tests.{switchBad}
 use Rattle.chain_laws.proofs.Room.{size, join-size, pieces-size, lines-size}
-use Rattle.chain_pieces.specs.Held.{marksOf, Held}
-use Rattle.chain_pieces.specs.Map.{markBlock, roundRoom, takenBlock}
+use Rattle.chain_pieces.specs.Held.{Held}
+use Rattle.chain_pieces.specs.Map.{roundRoom, takenBlock}
 use Rattle.build_lines.specs.Taken.{Takable, plainOf, Taken}
 use Rattle.chain_round.specs.Round as round
 use Rattle.chain_round.specs.Round.{Rounded}
@@ -123,9 +122,6 @@ module _ {width : ℕ} {l : Lines} {s : Settings} {out w₀ : List ℕ} (J : Bui
           record {
             within = omega arith;
             held = subst (λ (v : List ℕ). Held width v 0 n (l .coordinates) out′ (l .counts) (roundOne s plainPieces)) (sym part₂) (R .held);
-            turned =
-                subst (λ (v : List ℕ). slice (n * markBlock) (n * markBlock + length (marksOf (roundOne s plainPieces))) v ≡ marksOf (roundOne s plainPieces)) (sym part₂)
-                (R .marks);
             number-is = R .number;
             copied-is = R .merged-is;
             rest =

@@ -4,14 +4,14 @@ use mathlib.Core.Path.{_≡_, refl, sym, ap, _∙_}
 use mathlib.Core.List.{List, _++_}
 use native.Mathlib.Omega.{arith}
 use lib.ListN.{length, take, drop, replicate, length-append, length-drop}
-use lib.Seq.{length-take-le, take-at, drop-at, drop-drop}
+use lib.Seq.{slice, length-take-le, take-at, drop-at, drop-drop}
 use borrow.Rule.Slice.PartMut.{midOf, putMid}
 use Rattle.rules.specs.Chaining.{Piece}
 use Rattle.rules.specs.Refusals.{pieceSize}
 use Rattle.rules.specs.Calls.{written, cleared}
 use Rattle.point_slices.proofs.Laws.{slice-part}
-use Rattle.chain_pieces.specs.Held.{linesOf, Held}
-use Rattle.chain_pieces.specs.Map.{memberBlock}
+use Rattle.chain_pieces.specs.Held.{linesOf, marksOf, listingOf, Held}
+use Rattle.chain_pieces.specs.Map.{listingBlock, markBlock, memberBlock}
 
 module _ (w sub : List ℕ) (a k : ℕ) (fits : a + k ≤ length w) where
   pub mid-length : length (midOf a k w) ≡ k
@@ -53,18 +53,22 @@ held-shift width w a n input copies counts ps l h =
       room = omega (arith, h .room);
       records =
           slice-part a (length ps * pieceSize) w ∙ sym (slice-part 0 (length ps * pieceSize) (drop a w)) ∙ h .records;
-      members =
-          slice-part (a + n * memberBlock) (length (linesOf ps)) w
-          ∙ ap (take (length (linesOf ps))) (sym (drop-drop (n * memberBlock) a w) ∙ ap (λ (k : ℕ). drop k (drop a w)) (sym nought))
-          ∙ sym (slice-part (0 + n * memberBlock) (length (linesOf ps)) (drop a w)) ∙ h .members;
+      members = shifted memberBlock (length (linesOf ps)) ∙ h .members;
+      marks = shifted markBlock (length (marksOf ps)) ∙ h .marks;
+      listing = shifted listingBlock (length (listingOf ps)) ∙ h .listing;
+      drawn = h .drawn;
       full = h .full;
       own = h .own;
       wide = h .wide;
       copied = h .copied;
     }
   where
-    nought : 0 + n * memberBlock ≡ n * memberBlock
-    nought = omega arith
+    shifted : (block k : ℕ) → slice (a + n * block) (a + n * block + k) w ≡ slice (0 + n * block) (0 + n * block + k) (drop a w)
+    shifted block k =
+        let nought : 0 + n * block ≡ n * block = omega arith in
+        slice-part (a + n * block) k w
+        ∙ ap (take k) (sym (drop-drop (n * block) a w) ∙ ap (λ (i : ℕ). drop i (drop a w)) (sym nought))
+        ∙ sym (slice-part (0 + n * block) k (drop a w))
 
 -- ---- what is written at the front
 

@@ -104,7 +104,6 @@ module _ {width : ℕ} {l : Lines} {s : Settings} {merged w₀ : List ℕ} (J : 
               (record {
                 within = M .within;
                 held = M .held;
-                turned = M .turned;
                 number-is = M .number-is;
                 copied-is = M .copied-is;
                 rest = M .rest ∙ L .rest;

@@ -4,14 +4,13 @@ use mathlib.Core.Path.{_≡_, sym, ap, _∙_, subst}
 use mathlib.Core.List.{List, []}
 use native.Mathlib.Omega.{arith}
 use lib.ListN.{length, take, drop}
-use lib.Seq.{slice}
 use borrow.Rule.Slice.PartMut.{midOf, putMid}
 use Rattle.rules.specs.declared.Settings.{Settings}
 use Rattle.rules.specs.Chaining.{cellsOf, Piece, join, ruleOf}
 use Rattle.rules.specs.Refusals.{lineRoom}
 use Rattle.point_slices.proofs.Laws.{slice-part}
-use Rattle.chain_pieces.specs.Held.{marksOf, Held}
-use Rattle.chain_pieces.specs.Map.{markBlock, roundRoom, takenBlock}
+use Rattle.chain_pieces.specs.Held.{Held}
+use Rattle.chain_pieces.specs.Map.{roundRoom, takenBlock}
 use Rattle.chain_round.specs.Round as round
 use Rattle.chain_round.specs.Round.{Rounded}
 use Rattle.build_chains.specs.Building.{partFrom, Left, Second}
@@ -66,7 +65,6 @@ module _ {width n m : ℕ} {s : Settings} {coordinates groups copies merged w₀
         record {
           within = omega arith;
           held = subst (λ (v : List ℕ). Held width v 0 n coordinates merged′ (y .counts) qs) (sym part) (R .held);
-          turned = subst (λ (v : List ℕ). slice (n * markBlock) (n * markBlock + length (marksOf qs)) v ≡ marksOf qs) (sym part) (R .marks);
           number-is = R .number;
           copied-is = R .merged-is;
           rest = ap (λ (i : ℕ). drop i w₁) (sym p) ∙ put-rest w₀ sub 0 k₂ room₂ size ∙ ap (λ (i : ℕ). drop i w₀) p;

@@ -1,11 +1,10 @@
 -- The rounds of an accepted call: what they ask, and what they leave. Points have a width, to which the counts add up.
-use Prim.Native.Nat.{ℕ, _+_, _-_, _*_, _≤_}
+use Prim.Native.Nat.{ℕ, _-_, _*_, _≤_}
 use mathlib.Core.Path.{_≡_}
 use mathlib.Core.Bool.{true, false}
 use mathlib.Core.List.{List, map, flatMap}
 use lib.Dec.{eqb}
 use lib.ListN.{length, take, drop}
-use lib.Seq.{slice}
 use Rattle.rules.specs.declared.Settings.{Settings}
 use Rattle.rules.specs.Lists.{total}
 use Rattle.rules.specs.Plane.{flat}
@@ -14,8 +13,8 @@ use Rattle.rules.specs.Layout.{Lines, copy}
 use Rattle.rules.specs.Refusals.{mostLines, lineRoom, limitBad}
 use Rattle.build_refusals.specs.Tests.{switchBad}
 use Rattle.rules.specs.Calls.{written}
-use Rattle.chain_pieces.specs.Held.{linesOf, marksOf, Held}
-use Rattle.chain_pieces.specs.Map.{markBlock, takenBlock}
+use Rattle.chain_pieces.specs.Held.{linesOf, Held}
+use Rattle.chain_pieces.specs.Map.{takenBlock}
 use Rattle.chain_keys.specs.Tells.{OneGroup}
 use Rattle.build_lines.specs.Taken.{Adds}
 use Rattle.build_layout.specs.Laying.{leftOf}
@@ -26,11 +25,10 @@ use Rattle.build_layout.specs.Laying.{leftOf}
 abbrev pub partFrom : ℕ → ℕ → List ℕ → List ℕ
 partFrom n at workspace = take (n * lineRoom - at) (drop at workspace)
 
--- the pieces ps of n lines stand in the workspace from `at` on with their marks, and what they copy in `out`; beyond its named length the workspace is as before
+-- the pieces ps of n lines stand in the workspace from `at` on, and what they copy in `out`; beyond its named length the workspace is as before
 pub record Left (width n : ℕ) (coordinates counts : List ℕ) (ps : List Piece) (at number : ℕ) (out′ out workspace′ workspace : List ℕ) : Type 0 where
   pub within : at ≤ n * lineRoom
   pub held : Held width (partFrom n at workspace′) 0 n coordinates out′ counts ps
-  pub turned : slice (n * markBlock) (n * markBlock + length (marksOf ps)) (partFrom n at workspace′) ≡ marksOf ps
   pub number-is : number ≡ length ps
   pub copied-is : out′ ≡ written (flat width (flatMap copy ps)) out
   pub rest : drop (n * lineRoom) workspace′ ≡ drop (n * lineRoom) workspace

@@ -163,15 +163,18 @@ fn build_admitted(
     table: &mut [u32],
     members: &mut [u32],
     marks: &mut [u8],
+    listing: &mut [u32],
     merged: &mut [u64],
     spare: &mut [u64],
     workspace: &mut [u64],
 ) -> Answer
     requires { ⌜ refusalOf «wkb_type» (lent (now coordinates) (now counts) (now groups) (now kinds)) settings
-        (rooms (now table) (now members) (now marks) (now merged) (now spare) (now workspace)) ≡ 0 ⌝ }
+        (rooms (now table) (now members) (now marks) (now listing) (now merged) (now spare) (now workspace)) ≡ 0 ⌝ }
     ensures { λ r. ⌜ Built «wkb_type» (lent (now (coordinates .entry)) (now (counts .entry)) (now (groups .entry)) (now (kinds .entry))) settings
-        (rooms (now (table .entry)) (now (members .entry)) (now (marks .entry)) (now (merged .entry)) (now (spare .entry)) (now (workspace .entry)))
-        r (rooms (now (table .exit)) (now (members .exit)) (now (marks .exit)) (now (merged .exit)) (now (spare .exit)) (now (workspace .exit))) ⌝ }
+        (rooms (now (table .entry)) (now (members .entry)) (now (marks .entry)) (now (listing .entry))
+        (now (merged .entry)) (now (spare .entry)) (now (workspace .entry)))
+        r (rooms (now (table .exit)) (now (members .exit)) (now (marks .exit)) (now (listing .exit))
+        (now (merged .exit)) (now (spare .exit)) (now (workspace .exit))) ⌝ }
 {
     let n = counts.len();
     let width = point_numbers::width_of(wkb_type);
@@ -201,14 +204,15 @@ fn build_admitted(
         table,
         members,
         marks,
+        listing,
     );
     point_slices::clear(spare, coordinates.len());
     point_slices::clear(workspace, end);
     Answer::Accepted(number as u64)
 }
 
-// Builds the chains of a call, of lines of a type: table, members, marks and merged coordinates. A refused call changes no slice; an accepted one leaves spare and
-// workspace zero over their named length, whatever they held.
+// Builds the chains of a call, of lines of a type: table, members, marks, listing and merged coordinates. A refused call changes no slice; an accepted
+// one leaves spare and workspace zero over their named length, whatever they held.
 pub fn build(
     wkb_type: u32,
     coordinates: &[u64],
@@ -219,13 +223,16 @@ pub fn build(
     table: &mut [u32],
     members: &mut [u32],
     marks: &mut [u8],
+    listing: &mut [u32],
     merged: &mut [u64],
     spare: &mut [u64],
     workspace: &mut [u64],
 ) -> Answer
     ensures { λ r. ⌜ Built «wkb_type» (lent (now (coordinates .entry)) (now (counts .entry)) (now (groups .entry)) (now (kinds .entry))) settings
-        (rooms (now (table .entry)) (now (members .entry)) (now (marks .entry)) (now (merged .entry)) (now (spare .entry)) (now (workspace .entry)))
-        r (rooms (now (table .exit)) (now (members .exit)) (now (marks .exit)) (now (merged .exit)) (now (spare .exit)) (now (workspace .exit))) ⌝ }
+        (rooms (now (table .entry)) (now (members .entry)) (now (marks .entry)) (now (listing .entry))
+        (now (merged .entry)) (now (spare .entry)) (now (workspace .entry)))
+        r (rooms (now (table .exit)) (now (members .exit)) (now (marks .exit)) (now (listing .exit))
+        (now (merged .exit)) (now (spare .exit)) (now (workspace .exit))) ⌝ }
 {
     let refused = build_refusals::refusal(
         wkb_type,
@@ -237,6 +244,7 @@ pub fn build(
         table,
         members,
         marks,
+        listing,
         merged,
         spare,
         workspace,
@@ -254,6 +262,7 @@ pub fn build(
         table,
         members,
         marks,
+        listing,
         merged,
         spare,
         workspace,

@@ -12,6 +12,7 @@ use Rattle.rules.specs.Chaining.{nothing}
 use Rattle.rules.proofs.Computing.{book}
 use Rattle.point_numbers.specs.Width.{AllWide, none-wide, more-wide}
 use Rattle.chain_laws.proofs.Counts.{nil, cons}
+use Rattle.chain_laws.proofs.Drawn.{Drawn}
 use Rattle.chain_pieces.specs.Held.{Own}
 use Rattle.build_layout.specs.Laying.{leftOf, Layable}
 
@@ -30,9 +31,9 @@ groups = 0 ∷ 0 ∷ []
 abbrev kinds : List ℕ
 kinds = 0 ∷ 1 ∷ []
 
--- room for two pieces' records, two members and two marks, of which one each is used
+-- room for two pieces' records, two members, two marks and two lines of the listing, of which one each is used
 abbrev work : List ℕ
-work = 0 ∷ 1 ∷ 0 ∷ 0 ∷ 2 ∷ replicate 9 0
+work = 0 ∷ 1 ∷ 0 ∷ 0 ∷ 2 ∷ replicate 11 0
 
 own : (q : ℕ) → q < 1 → Own 2 coordinates counts (getD (leftOf 2 settings (lent coordinates counts groups kinds)) q nothing)
 unfolding book lt
@@ -49,7 +50,12 @@ unfolding book lt
 wide zero h = more-wide refl (more-wide refl none-wide)
 wide (suc q) h = absurd (omega arith)
 
-pub example : Layable 2 work 2 1 1 coordinates [] counts kinds (replicate 12 0) (replicate 2 0) (replicate 2 0)
+drawn : (q : ℕ) → q < 1 → Drawn (getD (leftOf 2 settings (lent coordinates counts groups kinds)) q nothing)
+unfolding book lt
+drawn zero h = record { marked = refl; low = cons {a = 0} (omega arith) nil; passes = λ y. refl }
+drawn (suc q) h = absurd (omega arith)
+
+pub example : Layable 2 work 2 1 1 coordinates [] counts kinds (replicate 12 0) (replicate 2 0) (replicate 2 0) (replicate 2 0)
 unfolding book lt
 example =
     record {
@@ -61,17 +67,17 @@ example =
         room = omega arith;
         records = refl;
         members = refl;
+        marks = refl;
+        listing = refl;
+        drawn = drawn;
         full = full;
         own = λ q b d. own q b;
         wide = wide;
         copied = refl;
       };
-      turned = refl;
       number = refl;
       listed = refl;
-      marked = refl;
       members-low = cons zero-le nil;
-      marks-low = cons zero-le nil;
       points-few = omega arith;
       pieces-all = omega arith;
       members-all = omega arith;
@@ -83,4 +89,5 @@ example =
       table-long = omega arith;
       members-long = omega arith;
       marks-long = omega arith;
+      listing-long = omega arith;
     }

@@ -5,23 +5,24 @@ use mathlib.Core.Path.{_≡_, sym, ap, ap₂, _∙_}
 use mathlib.Core.List.{List, _++_, flatMap}
 use native.Mathlib.Omega.{arith}
 use native.Mathlib.Nat.{zero-add}
-use lib.ListN.{length, getD, take, length-append, length-take, length-drop}
+use lib.ListN.{length, getD, length-append}
 use lib.Seq.{slice}
 use Rattle.rules.specs.Chaining.{Piece}
 use Rattle.rules.specs.Layout.{copy, six, pieceTable, table as table-of, laidOut, lent}
 use Rattle.rules.specs.Refusals.{mostLines, mostPoints, recordSize, pieceSize}
 use Rattle.rules.specs.Calls.{written}
-use Rattle.chain_laws.proofs.Counts.{each-getD}
+use Rattle.chain_laws.proofs.Counts.{Each, each-getD}
+use Rattle.chain_laws.proofs.Drawn.{Low, Drawn, marks-all, low-all, listing-all, listings-long}
 use Rattle.chain_laws.proofs.Records.{rows-behind}
 use Rattle.chain_laws.proofs.Lines.{flatMap-append}
 use Rattle.point_slices.specs.Holds.{HoldsFrom}
 use Rattle.point_slices.proofs.Laws.{from-length, part-length}
-use Rattle.chain_pieces.specs.Held.{linesOf, marksOf}
-use Rattle.chain_pieces.proofs.Reading.{getD-part}
-use Rattle.build_layout.specs.Laying.{passingOf, Narrow, PiecesLayable, Rest, Rested, Low, Layable, Outputs}
+use Rattle.chain_pieces.specs.Held.{linesOf, marksOf, listingOf}
+use Rattle.chain_pieces.proofs.Reading.{getD-part, each-drawn}
+use Rattle.build_layout.specs.Laying.{passingOf, Narrow, PiecesLayable, Rest, Rested, Layable, Outputs}
 use Rattle.build_layout.proofs.Parts.{written-on}
-use Rattle.build_layout.proofs.Small.{table-low}
-use Rattle.chain_pieces.specs.Map.{markBlock, memberBlock}
+use Rattle.build_layout.proofs.Small.{table-low, low-same}
+use Rattle.chain_pieces.specs.Map.{listingBlock, markBlock, memberBlock}
 
 -- a part of small numbers
 part-small : (w : List ℕ) (from k most b : ℕ) (out : List ℕ) → slice from (from + k) w ≡ out → Low b out → b < most → from + k ≤ length w
@@ -34,8 +35,8 @@ part-small w from k most b out e a h i j g =
       each-getD (λ (x : ℕ). x ≤ b) out j 0 a (omega (arith, ap length e, part-length from k w i)),
     )
 
-module _ {width : ℕ} {w : List ℕ} {n p l : ℕ} {coordinates copies counts kinds table members marks : List ℕ}
-    (y : Layable width w n p l coordinates copies counts kinds table members marks) where
+module _ {width : ℕ} {w : List ℕ} {n p l : ℕ} {coordinates copies counts kinds table members marks listing : List ℕ}
+    (y : Layable width w n p l coordinates copies counts kinds table members marks listing) where
   abbrev qs : List Piece
   qs = y .ps
 
@@ -56,22 +57,14 @@ module _ {width : ℕ} {w : List ℕ} {n p l : ℕ} {coordinates copies counts k
   members-are : slice (n * memberBlock) (n * memberBlock + l) w ≡ linesOf qs
   members-are = ap₂ (λ (i j : ℕ). slice i (i + j) w) (sym (zero-add (n * memberBlock))) (y .listed) ∙ y .held .members
 
-  marked : l ≡ length (marksOf qs)
-  marked = y .listed ∙ sym (y .marked)
+  drawn : Each Drawn qs
+  drawn = each-drawn (y .held)
 
   marks-are : slice (n * markBlock) (n * markBlock + l) w ≡ marksOf qs
-  marks-are = ap (λ (i : ℕ). slice (n * markBlock) (n * markBlock + i) w) marked ∙ y .turned
+  marks-are = ap₂ (λ (i j : ℕ). slice i (i + j) w) (sym (zero-add (n * markBlock))) (y .listed ∙ sym (marks-all qs drawn)) ∙ y .held .marks
 
-  marks-inside : n * markBlock + l ≤ length w
-  marks-inside =
-      omega (
-        arith,
-        y .held .room,
-        ap length marks-are,
-        length-drop (n * markBlock) (take (n * markBlock + l) w),
-        length-take (n * markBlock + l) w,
-        marked,
-      )
+  listing-is : slice (n * listingBlock) (n * listingBlock + l) w ≡ listingOf qs
+  listing-is = ap₂ (λ (i j : ℕ). slice i (i + j) w) (sym (zero-add (n * listingBlock))) (y .listed ∙ sym (listings-long qs drawn)) ∙ y .held .listing
 
   -- ---- it is small
 
@@ -109,17 +102,34 @@ module _ {width : ℕ} {w : List ℕ} {n p l : ℕ} {coordinates copies counts k
   pub marks-narrow : Narrow w (n * markBlock) l (2 ^ 8) marks 0
   marks-narrow =
       record {
-        inside = marks-inside;
+        inside = inside;
         room = omega (arith, y .marks-long, members-fit);
-        below = part-small w (n * markBlock) l (2 ^ 8) 1 (marksOf qs) marks-are (y .marks-low) (omega arith) marks-inside;
+        below = part-small w (n * markBlock) l (2 ^ 8) 1 (marksOf qs) marks-are (low-all qs drawn) (omega arith) inside;
       }
+    where
+      inside : n * markBlock + l ≤ length w
+      inside = omega (arith, y .held .room, members-fit)
+
+  pub listing-narrow : Narrow w (n * listingBlock) l (2 ^ 32) listing 0
+  listing-narrow =
+      record {
+        inside = inside;
+        room = omega (arith, y .listing-long, members-fit);
+        below =
+            part-small w (n * listingBlock) l (2 ^ 32) mostLines (listingOf qs) listing-is
+            (low-same mostLines (linesOf qs) (listingOf qs) (listing-all qs drawn) (y .members-low)) (omega arith) inside;
+      }
+    where
+      inside : n * listingBlock + l ≤ length w
+      inside = omega (arith, y .held .room, members-fit)
 
   -- ---- and the lines that pass through fit behind it
 
-  module _ {table₁ members₁ marks₁ : List ℕ}
+  module _ {table₁ members₁ marks₁ listing₁ : List ℕ}
       (f : (z : PiecesLayable width w p coordinates copies table) → HoldsFrom table₁ table 0 (p * recordSize) (table-of (z .counts) 0 0 (z .ps)))
       (b : HoldsFrom members₁ members 0 l (slice (n * memberBlock) (n * memberBlock + l) w))
       (d : HoldsFrom marks₁ marks 0 l (slice (n * markBlock) (n * markBlock + l) w))
+      (e : HoldsFrom listing₁ listing 0 l (slice (n * listingBlock) (n * listingBlock + l) w))
     where
       a : HoldsFrom table₁ table 0 (p * recordSize) (table-of counts 0 0 qs)
       unfolding pieces-layable
@@ -134,7 +144,10 @@ module _ {width : ℕ} {w : List ℕ} {n p l : ℕ} {coordinates copies counts k
       marks-fits : l ≤ length marks
       marks-fits = omega (arith, y .marks-long, members-fit)
 
-      pub rest-fits : Rest width coordinates counts kinds p l table₁ members₁ marks₁
+      listing-fits : l ≤ length listing
+      listing-fits = omega (arith, y .listing-long, members-fit)
+
+      pub rest-fits : Rest width coordinates counts kinds p l table₁ members₁ marks₁ listing₁
       rest-fits =
           record {
             groups = y .groups;
@@ -146,15 +159,17 @@ module _ {width : ℕ} {w : List ℕ} {n p l : ℕ} {coordinates copies counts k
             table-fits = omega (arith, from-length a (rw zero-add table-fits), y .table-long, pieces-fit);
             members-fit = omega (arith, from-length b (rw zero-add members-fits), y .members-long, members-fit);
             marks-fit = omega (arith, from-length d (rw zero-add marks-fits), y .marks-long, members-fit);
+            listing-fit = omega (arith, from-length e (rw zero-add listing-fits), y .listing-long, members-fit);
           }
 
-      pub outputs : {table₂ members₂ marks₂ : List ℕ} {r : ℕ}
-          → ((z : Rest width coordinates counts kinds p l table₁ members₁ marks₁)
-          → Rested counts p l (passingOf width (lent coordinates counts (z .groups) kinds)) table₂ table₁ members₂ members₁ marks₂ marks₁ r)
-          → Outputs (laidOut width counts (y .ps ++ passingOf width (lent coordinates counts (y .groups) kinds))) table₂ table members₂ members marks₂ marks r
+      pub outputs : {table₂ members₂ marks₂ listing₂ : List ℕ} {r : ℕ}
+          → ((z : Rest width coordinates counts kinds p l table₁ members₁ marks₁ listing₁)
+          → Rested counts p l (passingOf width (lent coordinates counts (z .groups) kinds)) table₂ table₁ members₂ members₁ marks₂ marks₁ listing₂ listing₁ r)
+          → Outputs (laidOut width counts (y .ps ++ passingOf width (lent coordinates counts (y .groups) kinds)))
+          table₂ table members₂ members marks₂ marks listing₂ listing r
       unfolding laidOut rest-fits
-      outputs {table₂} {members₂} {marks₂} {r} g =
-          let s : Rested counts p l rest table₂ table₁ members₂ members₁ marks₂ marks₁ r = g rest-fits in
+      outputs {table₂} {members₂} {marks₂} {listing₂} {r} g =
+          let s : Rested counts p l rest table₂ table₁ members₂ members₁ marks₂ marks₁ listing₂ listing₁ r = g rest-fits in
           record {
             number = omega (arith, s .number, y .number, length-append qs rest);
             records =
@@ -169,4 +184,8 @@ module _ {width : ℕ} {w : List ℕ} {n p l : ℕ} {coordinates copies counts k
                 written-on d (s .turned) marks-fits
                 ∙ ap (λ (t : List ℕ). written t marks)
                 (ap (λ (t : List ℕ). t ++ marksOf rest) marks-are ∙ sym (flatMap-append (λ (p : Piece). p .marks) qs rest));
+            passed =
+                written-on e (s .passed) listing-fits
+                ∙ ap (λ (t : List ℕ). written t listing)
+                (ap (λ (t : List ℕ). t ++ listingOf rest) listing-is ∙ sym (flatMap-append (λ (p : Piece). p .listing) qs rest));
           }

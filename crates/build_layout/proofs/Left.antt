@@ -8,16 +8,17 @@ use lib.ListN.{length, length-append}
 use Rattle.rules.specs.declared.Settings.{Settings}
 use Rattle.rules.specs.Lists.{count, total}
 use Rattle.rules.specs.Plane.{Point, points, flat}
-use Rattle.rules.specs.Chaining.{Piece, Line, plain, alone, pieces, chains}
+use Rattle.rules.specs.Chaining.{Piece, Line, plain, pieces, chains}
 use Rattle.rules.specs.Layout.{lines, copy, laidOut, build, lent}
 use Rattle.chain_laws.proofs.Counts.{count-append}
 use Rattle.chain_laws.proofs.Totals.{total-append}
+use Rattle.chain_laws.proofs.Drawn.{Low}
 use Rattle.chain_laws.proofs.Lines.{flatMap-append, pieces-take, pieces-leave, no-other-line}
-use Rattle.chain_laws.proofs.Room.{lines-length, lines-size, size, chains-size, members-fit, chains-fit, marks-fit}
-use Rattle.chain_pieces.specs.Held.{linesOf, marksOf}
+use Rattle.chain_laws.proofs.Room.{lines-length, lines-size, size, chains-size, members-fit, chains-fit}
+use Rattle.chain_pieces.specs.Held.{linesOf}
 use Rattle.build_lines.specs.Taken.{plainOf}
-use Rattle.build_lines.proofs.Passing.{every, ones-long, Lone, pieces-lone, lone-lines, lone-copies}
-use Rattle.build_layout.specs.Laying.{passingOf, leftOf, Low}
+use Rattle.build_lines.proofs.Passing.{Lone, pieces-lone, lone-lines, lone-copies}
+use Rattle.build_layout.specs.Laying.{passingOf, leftOf}
 use Rattle.build_layout.proofs.Small.{members-low}
 
 -- a line is plain, or it passes through
@@ -68,21 +69,6 @@ module _ (width : ℕ) (s : Settings) (coordinates counts groups kinds : List �
   -- there are as many members as lines went in
   pub left-listed : length (linesOf (leftOf width s (lent coordinates counts groups kinds))) ≡ length (plainOf width (lent coordinates counts groups kinds))
   left-listed = omega (arith, members-all, pieces-both 0 ls, many)
-
-  pub left-marked : length (marksOf (leftOf width s (lent coordinates counts groups kinds))) ≡ length (linesOf (leftOf width s (lent coordinates counts groups kinds)))
-  unfolding alone
-  left-marked =
-      omega (
-        arith,
-        ap (λ (l : List Piece). length (marksOf l)) both,
-        ap length (flatMap-append (λ (p : Piece). p .marks) qs rest),
-        length-append (marksOf qs) (marksOf rest),
-        ones-long (λ (p : Piece). p .marks) rest (every false (λ (p : Piece). length (p .marks) ≡ 1) 0 ls (λ i b. refl)),
-        marks-fit s ls,
-        members-fit s ls,
-        members-all,
-        many,
-      )
 
   pub left-low : Low (length counts) (linesOf (leftOf width s (lent coordinates counts groups kinds)))
   left-low =

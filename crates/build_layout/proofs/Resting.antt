@@ -1,5 +1,5 @@
--- The loop of `lay_rest`: after k lines those of them that pass through are chains. A line more that does is a record, a member and a mark behind the
--- others, and its places are there because the lines that pass through are counted in the rooms.
+-- The loop of `lay_rest`: after k lines those of them that pass through are chains. A line more that does is a record, a member, a mark and a place in the
+-- listing behind the others, and its places are there because the lines that pass through are counted in the rooms.
 use Prim.Native.Nat.{ℕ, _+_, _-_, _*_, _≤_, _<_}
 use mathlib.Core.Path.{_≡_, refl, sym, ap, ap₂, _∙_}
 use mathlib.Core.Bool.{true, false, Bool·beq}
@@ -26,7 +26,7 @@ use Rattle.build_layout.proofs.Chaining.{row-last}
 use Rattle.build_layout.specs.Laying.{passingOf, ChainLayable, Chained, Rest, Rested}
 
 -- r lines of the first k pass through, and `first` is the first coordinate of line k
-pub record Resting (width : ℕ) (counts kinds coordinates groups : List ℕ) (j m : ℕ) (table table₀ members members₀ marks marks₀ : List ℕ) (k r first : ℕ) : Type 0 where
+pub record Resting (width : ℕ) (counts kinds coordinates groups : List ℕ) (j m : ℕ) (table table₀ members members₀ marks marks₀ listing listing₀ : List ℕ) (k r first : ℕ) : Type 0 where
   pub within : k ≤ length counts
   pub fewer : r ≤ length (passingOf width (lent coordinates counts groups kinds))
   pub first-is : first ≡ total (take k counts)
@@ -34,12 +34,13 @@ pub record Resting (width : ℕ) (counts kinds coordinates groups : List ℕ) (j
   pub table-size : length table ≡ length table₀
   pub members-size : length members ≡ length members₀
   pub marks-size : length marks ≡ length marks₀
-  pub rested : Rested counts j m (passed false (lines (points width coordinates) counts groups kinds) k) table table₀ members members₀ marks marks₀ (j + r)
+  pub listing-size : length listing ≡ length listing₀
+  pub rested : Rested counts j m (passed false (lines (points width coordinates) counts groups kinds) k) table table₀ members members₀ marks marks₀ listing listing₀ (j + r)
 
-pub resting-start : (width : ℕ) (counts kinds coordinates groups : List ℕ) (j m : ℕ) (table members marks : List ℕ)
-    → Resting width counts kinds coordinates groups j m table table members members marks marks 0 0 0
+pub resting-start : (width : ℕ) (counts kinds coordinates groups : List ℕ) (j m : ℕ) (table members marks listing : List ℕ)
+    → Resting width counts kinds coordinates groups j m table table members members marks marks listing listing 0 0 0
 unfolding pieces rows flatMap total
-resting-start width counts kinds coordinates groups j m table members marks =
+resting-start width counts kinds coordinates groups j m table members marks listing =
     record {
       within = omega arith;
       fewer = omega arith;
@@ -48,17 +49,19 @@ resting-start width counts kinds coordinates groups j m table members marks =
       table-size = refl;
       members-size = refl;
       marks-size = refl;
+      listing-size = refl;
       rested = record {
         number = refl;
         records = λ c. from-start table (j * recordSize);
         listed = from-start members m;
         turned = from-start marks m;
+        passed = from-start listing m;
       };
     }
 
-module _ {counts kinds : List ℕ} {j m : ℕ} {table table₀ members members₀ marks marks₀ : List ℕ} {k r first : ℕ}
-    {width : ℕ} {coordinates : List ℕ} (y : Rest width coordinates counts kinds j m table₀ members₀ marks₀)
-    (s : Resting width counts kinds coordinates (y .groups) j m table table₀ members members₀ marks marks₀ k r first) where
+module _ {counts kinds : List ℕ} {j m : ℕ} {table table₀ members members₀ marks marks₀ listing listing₀ : List ℕ} {k r first : ℕ}
+    {width : ℕ} {coordinates : List ℕ} (y : Rest width coordinates counts kinds j m table₀ members₀ marks₀ listing₀)
+    (s : Resting width counts kinds coordinates (y .groups) j m table table₀ members members₀ marks marks₀ listing listing₀ k r first) where
   abbrev ls : List Line
   ls = lines (points width coordinates) counts (y .groups) kinds
 
@@ -111,13 +114,14 @@ module _ {counts kinds : List ℕ} {j m : ℕ} {table table₀ members members�
       less : r < length (passingOf width (lent coordinates counts (y .groups) kinds))
       less = omega (arith, number, more .number, passed-few false ls (k + 1))
 
-      pub resting-room : ChainLayable k (j + r) (m + r) table members marks
+      pub resting-room : ChainLayable k (j + r) (m + r) table members marks listing
       resting-room =
           record {
             narrow = (omega (arith, y .few), omega (arith, less, y .members-few));
             record-fits = omega (arith, less, y .table-fits, s .table-size);
             member-fits = omega (arith, less, y .members-fit, s .members-size);
             mark-fits = omega (arith, less, y .marks-fit, s .marks-size);
+            line-fits = omega (arith, less, y .listing-fit, s .listing-size);
           }
 
       -- its record behind the others
@@ -132,13 +136,13 @@ module _ {counts kinds : List ℕ} {j m : ℕ} {table table₀ members members�
           (lone-lines qs (pieces-lone false 0 (take k ls)) ∙ sym number) (sym (s .first-is))
           ∙ ap (λ (i : ℕ). table-of counts m c qs ++ ((m + r) ∷ 1 ∷ 0 ∷ first ∷ i ∷ one (loop (line .points)) ∷ [])) (points-at width coordinates counts (y .groups) kinds (y .adds) k b)
 
-      pub resting-passes : {mark : ℕ} {table′ members′ marks′ table″ members″ marks″ : List ℕ} {r′ : ℕ}
+      pub resting-passes : {mark : ℕ} {table′ members′ marks′ listing′ table″ members″ marks″ listing″ : List ℕ} {r′ : ℕ}
           → mark ≡ one (loop (points width (take (first * width + getD counts k 0 * width - first * width) (drop (first * width) coordinates))))
-          → Chained k first (getD counts k 0) mark (j + r) (m + r) table′ table members′ members marks′ marks
-          → table″ ≡ table′ → members″ ≡ members′ → marks″ ≡ marks′ → r′ ≡ r + 1
-          → Resting width counts kinds coordinates (y .groups) j m table″ table₀ members″ members₀ marks″ marks₀ (k + 1) r′ (first + getD counts k 0)
-      resting-passes {mark} {table′} {members′} {marks′} f g e₁ e₂ e₃ e₄ =
-          rw (e₁, e₂, e₃, e₄)
+          → Chained k first (getD counts k 0) mark (j + r) (m + r) table′ table members′ members marks′ marks listing′ listing
+          → table″ ≡ table′ → members″ ≡ members′ → marks″ ≡ marks′ → listing″ ≡ listing′ → r′ ≡ r + 1
+          → Resting width counts kinds coordinates (y .groups) j m table″ table₀ members″ members₀ marks″ marks₀ listing″ listing₀ (k + 1) r′ (first + getD counts k 0)
+      resting-passes {mark} {table′} {members′} {marks′} {listing′} f g e₁ e₂ e₃ e₄ e₅ =
+          rw (e₁, e₂, e₃, e₄, e₅)
           (record {
             within = omega arith;
             fewer = omega (arith, less);
@@ -147,6 +151,7 @@ module _ {counts kinds : List ℕ} {j m : ℕ} {table table₀ members members�
             table-size = from-length (g .row) (resting-room .record-fits) ∙ s .table-size;
             members-size = from-length (g .member) (omega (arith, resting-room .member-fits)) ∙ s .members-size;
             marks-size = from-length (g .mark) (omega (arith, resting-room .mark-fits)) ∙ s .marks-size;
+            listing-size = from-length (g .line) (omega (arith, resting-room .line-fits)) ∙ s .listing-size;
             rested = record {
               number = omega (arith, number, more .number);
               records = λ c.
@@ -154,14 +159,15 @@ module _ {counts kinds : List ℕ} {j m : ℕ} {table table₀ members members�
                   (chain-more c ∙ ap (λ (i : ℕ). table-of counts m c qs ++ ((m + r) ∷ 1 ∷ 0 ∷ first ∷ getD counts k 0 ∷ i ∷ [])) (sym (closed f)));
               listed = behind (s .rested .listed) (omega (arith, number, less, y .members-fit)) (g .member) (omega (arith, number)) (more .number) (more .members);
               turned = behind (s .rested .turned) (omega (arith, number, less, y .marks-fit)) (g .mark) (omega (arith, number)) (more .number) (more .marks);
+              passed = behind (s .rested .passed) (omega (arith, number, less, y .listing-fit)) (g .line) (omega (arith, number)) (more .number) (more .listing);
             };
           })
 
-    pub resting-plain : {table″ members″ marks″ : List ℕ} {r′ : ℕ} → plainAt counts kinds k ≡ true
-        → table″ ≡ table → members″ ≡ members → marks″ ≡ marks → r′ ≡ r
-        → Resting width counts kinds coordinates (y .groups) j m table″ table₀ members″ members₀ marks″ marks₀ (k + 1) r′ (first + getD counts k 0)
-    resting-plain t e₁ e₂ e₃ e₄ =
-        rw (e₁, e₂, e₃, e₄)
+    pub resting-plain : {table″ members″ marks″ listing″ : List ℕ} {r′ : ℕ} → plainAt counts kinds k ≡ true
+        → table″ ≡ table → members″ ≡ members → marks″ ≡ marks → listing″ ≡ listing → r′ ≡ r
+        → Resting width counts kinds coordinates (y .groups) j m table″ table₀ members″ members₀ marks″ marks₀ listing″ listing₀ (k + 1) r′ (first + getD counts k 0)
+    resting-plain t e₁ e₂ e₃ e₄ e₅ =
+        rw (e₁, e₂, e₃, e₄, e₅)
         (record {
           within = omega arith;
           fewer = s .fewer;
@@ -170,12 +176,13 @@ module _ {counts kinds : List ℕ} {j m : ℕ} {table table₀ members members�
           table-size = s .table-size;
           members-size = s .members-size;
           marks-size = s .marks-size;
+          listing-size = s .listing-size;
           rested = rw (none-wanted false width coordinates counts (y .groups) kinds (y .adds) k b (ap (Bool·beq false) t)) (s .rested);
         })
 
   -- ---- all lines
 
   pub resting-done : length counts ≤ k
-      → Rested counts j m (passingOf width (lent coordinates counts (y .groups) kinds)) table table₀ members members₀ marks marks₀ (j + r)
+      → Rested counts j m (passingOf width (lent coordinates counts (y .groups) kinds)) table table₀ members members₀ marks marks₀ listing listing₀ (j + r)
   resting-done h =
       rw (passed-all false ls k (omega (arith, lines-length (points width coordinates) counts (y .groups) kinds))) at (s .rested)

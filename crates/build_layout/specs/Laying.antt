@@ -13,10 +13,9 @@ use Rattle.rules.specs.Layout.{Lines, lent, linesIn, table as table-of, Laid}
 use Rattle.rules.specs.Refusals.{mostLines, mostPoints, recordSize, pieceSize}
 use Rattle.rules.specs.Calls.{written}
 use Rattle.point_slices.specs.Holds.{HoldsFrom}
-use Rattle.chain_laws.proofs.Counts.{Each}
-use Rattle.chain_pieces.specs.Held.{linesOf, marksOf, Held}
+use Rattle.chain_laws.proofs.Drawn.{Low}
+use Rattle.chain_pieces.specs.Held.{linesOf, marksOf, listingOf, Held}
 use Rattle.build_lines.specs.Taken.{Adds, plainOf}
-use Rattle.chain_pieces.specs.Map.{markBlock}
 
 -- ---- the pieces of a call
 
@@ -51,22 +50,24 @@ pub record PiecesLayable (width : ℕ) (w : List ℕ) (p : ℕ) (coordinates cop
 
 -- ---- one line that passes through
 
-pub record ChainLayable (k chain m : ℕ) (table members marks : List ℕ) : Type 0 where
+pub record ChainLayable (k chain m : ℕ) (table members marks listing : List ℕ) : Type 0 where
   pub narrow : (k ≤ mostLines) × (m ≤ mostLines)
   pub record-fits : chain * recordSize + recordSize ≤ length table
   pub member-fits : m < length members
   pub mark-fits : m < length marks
+  pub line-fits : m < length listing
 
 -- `closed` tells whether it is a loop
-pub record Chained (k first count closed chain m : ℕ) (table′ table members′ members marks′ marks : List ℕ) : Type 0 where
+pub record Chained (k first count closed chain m : ℕ) (table′ table members′ members marks′ marks listing′ listing : List ℕ) : Type 0 where
   pub row : HoldsFrom table′ table (chain * recordSize) recordSize (m ∷ 1 ∷ 0 ∷ first ∷ count ∷ closed ∷ [])
   pub member : HoldsFrom members′ members m 1 (k ∷ [])
   pub mark : HoldsFrom marks′ marks m 1 (0 ∷ [])
+  pub line : HoldsFrom listing′ listing m 1 (k ∷ [])
 
 -- ---- all lines that pass through
 
 -- the groups are any, and the counts add up to the coordinates; j chains and m members stand before
-pub record Rest (width : ℕ) (coordinates counts kinds : List ℕ) (j m : ℕ) (table members marks : List ℕ) : Type 0 where
+pub record Rest (width : ℕ) (coordinates counts kinds : List ℕ) (j m : ℕ) (table members marks listing : List ℕ) : Type 0 where
   pub groups : List ℕ
   pub few : length counts ≤ mostLines
   pub kinds-long : length kinds ≡ length counts
@@ -76,32 +77,27 @@ pub record Rest (width : ℕ) (coordinates counts kinds : List ℕ) (j m : ℕ) 
   pub table-fits : (j + length (passingOf width (lent coordinates counts groups kinds))) * recordSize ≤ length table
   pub members-fit : m + length (passingOf width (lent coordinates counts groups kinds)) ≤ length members
   pub marks-fit : m + length (passingOf width (lent coordinates counts groups kinds)) ≤ length marks
+  pub listing-fit : m + length (passingOf width (lent coordinates counts groups kinds)) ≤ length listing
 
 -- the lines ps that pass through are chains; r chains stand then. What they copy is nothing, so that any number of points may stand before
-pub record Rested (counts : List ℕ) (j m : ℕ) (ps : List Piece) (table′ table members′ members marks′ marks : List ℕ) (r : ℕ) : Type 0 where
+pub record Rested (counts : List ℕ) (j m : ℕ) (ps : List Piece) (table′ table members′ members marks′ marks listing′ listing : List ℕ) (r : ℕ) : Type 0 where
   pub number : r ≡ j + length ps
   pub records : (c : ℕ) → HoldsFrom table′ table (j * recordSize) (length ps * recordSize) (table-of counts m c ps)
   pub listed : HoldsFrom members′ members m (length ps) (linesOf ps)
   pub turned : HoldsFrom marks′ marks m (length ps) (marksOf ps)
+  pub passed : HoldsFrom listing′ listing m (length ps) (listingOf ps)
 
 -- ---- a call
 
--- no number is above b
-abbrev pub Low : ℕ → List ℕ → Type 0
-Low b l = Each (λ x. x ≤ b) l
-
 -- Any pieces ps stand at the front of w with what they copy, p pieces with l members in all, beside the lines that pass through: their numbers are small, and
 -- together there are no more of them than lines. n, the coordinates and the rooms are those of an accepted call.
-pub record Layable (width : ℕ) (w : List ℕ) (n p l : ℕ) (coordinates copies counts kinds table members marks : List ℕ) : Type 0 where
+pub record Layable (width : ℕ) (w : List ℕ) (n p l : ℕ) (coordinates copies counts kinds table members marks listing : List ℕ) : Type 0 where
   pub groups : List ℕ
   pub ps : List Piece
   pub held : Held width w 0 n coordinates copies counts ps
-  pub turned : slice (n * markBlock) (n * markBlock + length (marksOf ps)) w ≡ marksOf ps
   pub number : p ≡ length ps
   pub listed : l ≡ length (linesOf ps)
-  pub marked : length (marksOf ps) ≡ length (linesOf ps)
   pub members-low : Low mostLines (linesOf ps)
-  pub marks-low : Low 1 (marksOf ps)
   pub points-few : total (map (λ (q : Piece). length (q .points)) ps) ≤ mostPoints
   pub pieces-all : length ps + length (passingOf width (lent coordinates counts groups kinds)) ≤ n
   pub members-all : length (linesOf ps) + length (passingOf width (lent coordinates counts groups kinds)) ≤ n
@@ -113,10 +109,12 @@ pub record Layable (width : ℕ) (w : List ℕ) (n p l : ℕ) (coordinates copie
   pub table-long : n * recordSize ≤ length table
   pub members-long : n ≤ length members
   pub marks-long : n ≤ length marks
+  pub listing-long : n ≤ length listing
 
 -- what is laid out stands at the front of each slice, and beyond it the slice is as before
-pub record Outputs (a : Laid) (table′ table members′ members marks′ marks : List ℕ) (r : ℕ) : Type 0 where
+pub record Outputs (a : Laid) (table′ table members′ members marks′ marks listing′ listing : List ℕ) (r : ℕ) : Type 0 where
   pub number : r ≡ a .number
   pub records : table′ ≡ written (a .records) table
   pub listed : members′ ≡ written (a .members) members
   pub turned : marks′ ≡ written (a .marks) marks
+  pub passed : listing′ ≡ written (a .listing) listing

@@ -1,4 +1,5 @@
-// The answer of an accepted call: the pieces that its rounds leave, and behind them the lines that pass through, as table, members and marks.
+// The answer of an accepted call: the pieces that its rounds leave, and behind them the lines that pass through, as table, members, marks and listing.
+use chain_pieces::LISTING;
 use chain_pieces::MARKS;
 use chain_pieces::MEMBERS;
 use rules::PIECE;
@@ -57,7 +58,7 @@ fn lay_pieces<'a>(
     }
 }
 
-// Line k as chain number `chain`, behind m members: its record, its member and its mark.
+// Line k as chain number `chain`, behind m members: its record, its member, its mark and its place in the listing.
 fn lay_line(
     k: usize,
     first: u32,
@@ -68,12 +69,14 @@ fn lay_line(
     table: &mut [u32],
     members: &mut [u32],
     marks: &mut [u8],
+    listing: &mut [u32],
 )
-    requires { ⌜ ChainLayable k chain m (now table) (now members) (now marks) ⌝ }
+    requires { ⌜ ChainLayable k chain m (now table) (now members) (now marks) (now listing) ⌝ }
     ensures { λ _. ⌜ Chained k first count closed chain m
         (now (table .exit)) (now (table .entry))
         (now (members .exit)) (now (members .entry))
-        (now (marks .exit)) (now (marks .entry)) ⌝ }
+        (now (marks .exit)) (now (marks .entry))
+        (now (listing .exit)) (now (listing .entry)) ⌝ }
 {
     let at = chain * RECORD;
     table[at] = m as u32;
@@ -84,6 +87,7 @@ fn lay_line(
     table[at + 5] = closed;
     members[m] = k as u32;
     marks[m] = 0;
+    listing[m] = k as u32;
 }
 
 // The lines that pass through, behind j chains and m members. Returns how many chains there are then.
@@ -97,14 +101,16 @@ fn lay_rest(
     table: &mut [u32],
     members: &mut [u32],
     marks: &mut [u8],
+    listing: &mut [u32],
 ) -> usize
-    requires { ⌜ Rest width (now coordinates) (now counts) (now kinds) j m (now table) (now members) (now marks) ⌝ }
+    requires { ⌜ Rest width (now coordinates) (now counts) (now kinds) j m (now table) (now members) (now marks) (now listing) ⌝ }
     ensures { λ r. ⌜ ((y : Rest width (now (coordinates .entry)) (now (counts .entry)) (now (kinds .entry)) j m
-        (now (table .entry)) (now (members .entry)) (now (marks .entry)))
+        (now (table .entry)) (now (members .entry)) (now (marks .entry)) (now (listing .entry)))
         → Rested (now (counts .entry)) j m (passingOf width (lent (now (coordinates .entry)) (now (counts .entry)) (y .groups) (now (kinds .entry))))
         (now (table .exit)) (now (table .entry))
         (now (members .exit)) (now (members .entry))
-        (now (marks .exit)) (now (marks .entry)) r) ⌝ }
+        (now (marks .exit)) (now (marks .entry))
+        (now (listing .exit)) (now (listing .entry)) r) ⌝ }
 {
     let mut k = 0;
     let mut r = 0;
@@ -115,7 +121,18 @@ fn lay_rest(
             let from = first as usize * width;
             let to = from + count as usize * width;
             let closed = point_numbers::loop_mark(&coordinates[from..to], width);
-            lay_line(k, first, count, closed, j + r, m + r, table, members, marks);
+            lay_line(
+                k,
+                first,
+                count,
+                closed,
+                j + r,
+                m + r,
+                table,
+                members,
+                marks,
+                listing,
+            );
             r += 1;
         }
         first += count;
@@ -139,19 +156,22 @@ pub fn lay_out<'a>(
     table: &mut [u32],
     members: &mut [u32],
     marks: &mut [u8],
+    listing: &mut [u32],
 ) -> usize
-    requires { ⌜ Layable width (now w) n p l (now coordinates) (now copies) (now counts) (now kinds) (now table) (now members) (now marks) ⌝ }
+    requires { ⌜ Layable width (now w) n p l (now coordinates) (now copies) (now counts) (now kinds) (now table) (now members) (now marks) (now listing) ⌝ }
     ensures { λ r. ⌜ ((y : Layable width (now (w .entry)) n p l (now (coordinates .entry)) (now (copies .entry)) (now (counts .entry)) (now (kinds .entry))
-        (now (table .entry)) (now (members .entry)) (now (marks .entry)))
+        (now (table .entry)) (now (members .entry)) (now (marks .entry)) (now (listing .entry)))
         → Outputs (laidOut width (now (counts .entry))
         (y .ps ++ passingOf width (lent (now (coordinates .entry)) (now (counts .entry)) (y .groups) (now (kinds .entry)))))
         (now (table .exit)) (now (table .entry))
         (now (members .exit)) (now (members .entry))
-        (now (marks .exit)) (now (marks .entry)) r) ⌝ }
+        (now (marks .exit)) (now (marks .entry))
+        (now (listing .exit)) (now (listing .entry)) r) ⌝ }
 {
     lay_pieces(w, p, width, coordinates, copies, table);
     lay_words(w, n * MEMBERS, l, members, 0);
     lay_marks(w, n * MARKS, l, marks);
+    lay_words(w, n * LISTING, l, listing, 0);
     lay_rest(
         coordinates,
         width,
@@ -162,5 +182,6 @@ pub fn lay_out<'a>(
         table,
         members,
         marks,
+        listing,
     )
 }

@@ -14,7 +14,7 @@ use Rattle.chain_laws.proofs.Lines.{flatMap-append}
 use Rattle.chain_laws.proofs.Records.{rows-append}
 use Rattle.chain_laws.proofs.Room.{lines-length}
 use Rattle.chain_laws.proofs.Sound.{noLine}
-use Rattle.chain_pieces.specs.Held.{linesOf, marksOf}
+use Rattle.chain_pieces.specs.Held.{linesOf, marksOf, listingOf}
 use Rattle.chain_pieces.proofs.Reading.{five-own}
 use Rattle.build_lines.proofs.Passing.{plainAt, passed, passed-one, passed-none, pieces-lone, lone-lines, points-at, plain-at}
 
@@ -32,6 +32,7 @@ pub record More (counts : List ℕ) (k : ℕ) (qs qs′ : List Piece) : Type 0 w
   pub records : (m c : ℕ) → pieceTable counts m c qs′ ≡ pieceTable counts m c qs ++ ((m + length qs) ∷ 1 ∷ 0 ∷ total (take k counts) ∷ getD counts k 0 ∷ [])
   pub members : linesOf qs′ ≡ linesOf qs ++ (k ∷ [])
   pub marks : marksOf qs′ ≡ marksOf qs ++ (0 ∷ [])
+  pub listing : listingOf qs′ ≡ listingOf qs ++ (k ∷ [])
 
 module _ (want : Bool) (width : ℕ) (input counts groups kinds : List ℕ) (adds : Adds width counts input) (k : ℕ) (b : k < length counts) where
   abbrev ls : List Line
@@ -63,6 +64,7 @@ module _ (want : Bool) (width : ℕ) (input counts groups kinds : List ℕ) (add
             (lone-lines qs (pieces-lone want 0 (take k ls))) (points-at width input counts groups kinds adds k b));
         members = flatMap-append (λ (p : Piece). p .lines) qs (alone k line ∷ []);
         marks = flatMap-append (λ (p : Piece). p .marks) qs (alone k line ∷ []);
+        listing = flatMap-append (λ (p : Piece). p .listing) qs (alone k line ∷ []);
       })
 
   pub none-wanted : Bool·beq want (plainAt counts kinds k) ≡ false → passed want ls (k + 1) ≡ passed want ls k

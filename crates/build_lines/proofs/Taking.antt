@@ -1,5 +1,5 @@
--- The loop of `take_lines`: after k lines, of which m are plain, m records and m members stand in the block. A plain line adds a record behind the
--- records and a member behind the members, and neither touches the other's part.
+-- The loop of `take_lines`: after k lines, of which m are plain, m records, members, marks and places in the listing stand in the block. A plain line adds
+-- one to each behind those that stand there, and none touches another's part.
 use Prim.Native.Nat.{ℕ, _+_, _*_, _≤_, _<_}
 use mathlib.Core.Path.{_≡_, refl, sym, ap, ap₂, _∙_}
 use mathlib.Core.Bool.{true, false, Bool·beq}
@@ -14,16 +14,18 @@ use Rattle.rules.specs.Chaining.{Piece, nothing, pieces}
 use Rattle.rules.specs.Layout.{lines, rows, pieceTable, lent}
 use Rattle.point_numbers.specs.Width.{AllWide}
 use Rattle.chain_laws.proofs.Counts.{Each, each-getD}
+use Rattle.chain_laws.proofs.Drawn.{Drawn, alone-drawn, marks-all, listings-long}
+use Rattle.chain_laws.proofs.Sound.{noLine}
 use Rattle.chain_laws.proofs.Room.{lines-length}
 use Rattle.point_slices.specs.Holds.{HoldsFrom}
 use Rattle.point_slices.proofs.Laws.{from-length, take-before, drop-past, slice-below, slice-beyond, slice-more}
-use Rattle.chain_pieces.specs.Held.{linesOf, Own, Held}
+use Rattle.chain_pieces.specs.Held.{linesOf, marksOf, listingOf, Own, Held}
 use Rattle.build_lines.specs.Taken.{Adds, Takable, plainOf, Taken}
 use Rattle.build_lines.proofs.Passing.{plainAt, every, passed, passed-all, pieces-few, pieces-lone, lone-lines, lone-copies, total-next}
 use Rattle.build_lines.proofs.Rows.{More, one-wanted, none-wanted}
 use Rattle.chain_pieces.proofs.Storing.{one-put}
 use Rattle.build_lines.proofs.Own.{alone-own, alone-wide}
-use Rattle.chain_pieces.specs.Map.{memberBlock, takenBlock, takenMarks, takenMembers}
+use Rattle.chain_pieces.specs.Map.{listingBlock, markBlock, memberBlock, nodeBlock, takenBlock, takenListing, takenMarks, takenMembers}
 use Rattle.rules.specs.Refusals.{pieceSize}
 
 -- the pieces qs, m of them, stand in the block as far as they go
@@ -31,6 +33,8 @@ pub record Standing (w : List ℕ) (n m : ℕ) (counts : List ℕ) (qs : List Pi
   pub number : m ≡ length qs
   pub records : slice (n * takenBlock) (n * takenBlock + m * pieceSize) w ≡ pieceTable counts 0 0 qs
   pub members : slice (n * takenMembers) (n * takenMembers + m) w ≡ linesOf qs
+  pub marks : slice (n * takenMarks) (n * takenMarks + m) w ≡ marksOf qs
+  pub listing : slice (n * takenListing) (n * takenListing + m) w ≡ listingOf qs
 
 -- `first` is the first coordinate of line k; a count is a u32
 pub record Taking (w w₀ : List ℕ) (n k m first : ℕ) (counts kinds : List ℕ) : Type 0 where
@@ -40,7 +44,7 @@ pub record Taking (w w₀ : List ℕ) (n k m first : ℕ) (counts kinds : List �
   pub first-small : first ≤ k * 4294967295
   pub size : length w ≡ length w₀
   pub front : take (n * takenBlock) w ≡ take (n * takenBlock) w₀
-  pub rest : drop (n * takenMarks) w ≡ drop (n * takenMarks) w₀
+  pub rest : drop (n * nodeBlock) w ≡ drop (n * nodeBlock) w₀
   pub standing : (width : ℕ) (input groups : List ℕ) → Adds width counts input → Standing w n m counts (passed true (lines (points width input) counts groups kinds) k)
 
 pub taking-start : (w : List ℕ) (n : ℕ) (counts kinds : List ℕ) → Taking w w n 0 0 0 counts kinds
@@ -59,49 +63,106 @@ taking-start w n counts kinds =
             number = refl;
             records = rw add-zero (slice-empty (n * takenBlock) w);
             members = rw add-zero (slice-empty (n * takenMembers) w);
+            marks = rw add-zero (slice-empty (n * takenMarks) w);
+            listing = rw add-zero (slice-empty (n * takenListing) w);
           };
     }
 
--- ---- a plain line: its record, and then its member
+-- ---- a plain line: its record, and then its member, its mark and its place in the listing
 
-module _ (v w : List ℕ) (n k m : ℕ) (counts : List ℕ) (room : n * takenMarks ≤ length w) (b : m < n)
+module _ (v w : List ℕ) (n k m : ℕ) (counts : List ℕ) (room : n * nodeBlock ≤ length w) (b : m < n)
     (put : HoldsFrom v w (n * takenBlock + m * pieceSize) 5 (m ∷ 1 ∷ 0 ∷ total (take k counts) ∷ getD counts k 0 ∷ [])) where
-  abbrev w′ : List ℕ
-  w′ = set v (n * takenMembers + m) k
+  abbrev v₁ : List ℕ
+  v₁ = set v (n * takenMembers + m) k
+
+  abbrev v₂ : List ℕ
+  v₂ = set v₁ (n * takenMarks + m) 0
+
+  abbrev v₃ : List ℕ
+  v₃ = set v₂ (n * takenListing + m) k
+
+  in-record : n * takenBlock + m * pieceSize + 5 ≤ length w
+  in-record = omega arith
 
   same : length v ≡ length w
-  same = from-length put (omega arith)
+  same = from-length put in-record
 
-  listed : HoldsFrom (set v (n * takenMembers + m) k) v (n * takenMembers + m) 1 (k ∷ [])
-  listed = one-put v (n * takenMembers + m) k (omega (arith, same))
+  member : HoldsFrom v₁ v (n * takenMembers + m) 1 (k ∷ [])
+  member = one-put v (n * takenMembers + m) k (omega (arith, same))
 
-  kept-size : length (set v (n * takenMembers + m) k) ≡ length w
-  kept-size = length-set v (n * takenMembers + m) k ∙ same
+  in-members : n * takenMembers + m + 1 ≤ length v
+  in-members = omega (arith, same)
 
-  kept-front : take (n * takenBlock) (set v (n * takenMembers + m) k) ≡ take (n * takenBlock) w
-  kept-front = take-before listed (omega (arith, same)) (n * takenBlock) (omega arith) ∙ take-before put (omega arith) (n * takenBlock) (omega arith)
+  same₁ : length v₁ ≡ length w
+  same₁ = length-set v (n * takenMembers + m) k ∙ same
 
-  kept-rest : drop (n * takenMarks) (set v (n * takenMembers + m) k) ≡ drop (n * takenMarks) w
-  kept-rest = drop-past listed (omega (arith, same)) (n * takenMarks) (omega arith) ∙ drop-past put (omega arith) (n * takenMarks) (omega arith)
+  mark : HoldsFrom v₂ v₁ (n * takenMarks + m) 1 (0 ∷ [])
+  mark = one-put v₁ (n * takenMarks + m) 0 (omega (arith, same₁))
 
-  standing-more : (qs qs′ : List Piece) → More counts k qs qs′ → Standing w n m counts qs → Standing (set v (n * takenMembers + m) k) n (m + 1) counts qs′
+  in-marks : n * takenMarks + m + 1 ≤ length v₁
+  in-marks = omega (arith, same₁)
+
+  same₂ : length v₂ ≡ length w
+  same₂ = length-set v₁ (n * takenMarks + m) 0 ∙ same₁
+
+  listed : HoldsFrom v₃ v₂ (n * takenListing + m) 1 (k ∷ [])
+  listed = one-put v₂ (n * takenListing + m) k (omega (arith, same₂))
+
+  in-listing : n * takenListing + m + 1 ≤ length v₂
+  in-listing = omega (arith, same₂)
+
+  kept-size : length (set (set (set v (n * takenMembers + m) k) (n * takenMarks + m) 0) (n * takenListing + m) k) ≡ length w
+  kept-size = length-set v₂ (n * takenListing + m) k ∙ same₂
+
+  kept-front : take (n * takenBlock) (set (set (set v (n * takenMembers + m) k) (n * takenMarks + m) 0) (n * takenListing + m) k) ≡ take (n * takenBlock) w
+  kept-front =
+      take-before listed in-listing (n * takenBlock) (omega arith) ∙ take-before mark in-marks (n * takenBlock) (omega arith)
+      ∙ take-before member in-members (n * takenBlock) (omega arith) ∙ take-before put in-record (n * takenBlock) (omega arith)
+
+  kept-rest : drop (n * nodeBlock) (set (set (set v (n * takenMembers + m) k) (n * takenMarks + m) 0) (n * takenListing + m) k) ≡ drop (n * nodeBlock) w
+  kept-rest =
+      drop-past listed in-listing (n * nodeBlock) (omega arith) ∙ drop-past mark in-marks (n * nodeBlock) (omega arith)
+      ∙ drop-past member in-members (n * nodeBlock) (omega arith) ∙ drop-past put in-record (n * nodeBlock) (omega arith)
+
+  standing-more : (qs qs′ : List Piece) → More counts k qs qs′ → Standing w n m counts qs
+      → Standing (set (set (set v (n * takenMembers + m) k) (n * takenMarks + m) 0) (n * takenListing + m) k) n (m + 1) counts qs′
   standing-more qs qs′ more s =
       record {
         number = omega (arith, s .number, more .number);
         records =
             let e : n * takenBlock + (m + 1) * 5 ≡ n * takenBlock + m * pieceSize + 5 = omega arith in
             let f : m ≡ 0 + length qs = omega (arith, s .number) in
-            ap (λ (i : ℕ). slice (n * takenBlock) i w′) e
-            ∙ slice-below listed (omega (arith, same)) (n * takenBlock) (n * takenBlock + m * pieceSize + 5) (omega arith)
-            ∙ slice-more put (omega arith) (n * takenBlock) (omega arith)
+            ap (λ (i : ℕ). slice (n * takenBlock) i v₃) e
+            ∙ slice-below listed in-listing (n * takenBlock) (n * takenBlock + m * pieceSize + 5) (omega arith)
+            ∙ slice-below mark in-marks (n * takenBlock) (n * takenBlock + m * pieceSize + 5) (omega arith)
+            ∙ slice-below member in-members (n * takenBlock) (n * takenBlock + m * pieceSize + 5) (omega arith)
+            ∙ slice-more put in-record (n * takenBlock) (omega arith)
             ∙ ap₂ (λ (t : List ℕ) (i : ℕ). t ++ (i ∷ 1 ∷ 0 ∷ total (take k counts) ∷ getD counts k 0 ∷ [])) (s .records) f
             ∙ sym (more .records 0 0);
         members =
             let e : n * takenMembers + (m + 1) ≡ n * takenMembers + m + 1 = omega arith in
-            ap (λ (i : ℕ). slice (n * takenMembers) i w′) e
-            ∙ slice-more listed (omega (arith, same)) (n * takenMembers) (omega arith)
-            ∙ ap (λ (t : List ℕ). t ++ (k ∷ [])) (slice-beyond put (omega arith) (n * takenMembers) m (omega arith) ∙ s .members)
+            ap (λ (i : ℕ). slice (n * takenMembers) i v₃) e
+            ∙ slice-below listed in-listing (n * takenMembers) (n * takenMembers + m + 1) (omega arith)
+            ∙ slice-below mark in-marks (n * takenMembers) (n * takenMembers + m + 1) (omega arith)
+            ∙ slice-more member in-members (n * takenMembers) (omega arith)
+            ∙ ap (λ (t : List ℕ). t ++ (k ∷ [])) (slice-beyond put in-record (n * takenMembers) m (omega arith) ∙ s .members)
             ∙ sym (more .members);
+        marks =
+            let e : n * takenMarks + (m + 1) ≡ n * takenMarks + m + 1 = omega arith in
+            ap (λ (i : ℕ). slice (n * takenMarks) i v₃) e
+            ∙ slice-below listed in-listing (n * takenMarks) (n * takenMarks + m + 1) (omega arith)
+            ∙ slice-more mark in-marks (n * takenMarks) (omega arith)
+            ∙ ap (λ (t : List ℕ). t ++ (0 ∷ []))
+            (slice-beyond member in-members (n * takenMarks) m (omega arith) ∙ slice-beyond put in-record (n * takenMarks) m (omega arith) ∙ s .marks)
+            ∙ sym (more .marks);
+        listing =
+            let e : n * takenListing + (m + 1) ≡ n * takenListing + m + 1 = omega arith in
+            ap (λ (i : ℕ). slice (n * takenListing) i v₃) e
+            ∙ slice-more listed in-listing (n * takenListing) (omega arith)
+            ∙ ap (λ (t : List ℕ). t ++ (k ∷ []))
+            (slice-beyond mark in-marks (n * takenListing) m (omega arith) ∙ slice-beyond member in-members (n * takenListing) m (omega arith)
+            ∙ slice-beyond put in-record (n * takenListing) m (omega arith) ∙ s .listing)
+            ∙ sym (more .listing);
       }
 
 module _ {w w₀ : List ℕ} {n k m first : ℕ} {counts kinds : List ℕ} (s : Taking w w₀ n k m first counts kinds) (y : Takable w₀ n counts kinds) (b : k < n)
@@ -113,10 +174,11 @@ module _ {w w₀ : List ℕ} {n k m first : ℕ} {counts kinds : List ℕ} (s : 
   next = omega (arith, total-next counts k below, s .first-is)
 
   pub taking-plain : {w′ v : List ℕ} {m′ : ℕ} → plainAt counts kinds k ≡ true
-      → HoldsFrom v w (n * takenBlock + m * pieceSize) 5 (m ∷ 1 ∷ 0 ∷ first ∷ getD counts k 0 ∷ []) → w′ ≡ set v (n * takenMembers + m) k → m′ ≡ m + 1
+      → HoldsFrom v w (n * takenBlock + m * pieceSize) 5 (m ∷ 1 ∷ 0 ∷ first ∷ getD counts k 0 ∷ [])
+      → w′ ≡ set (set (set v (n * takenMembers + m) k) (n * takenMarks + m) 0) (n * takenListing + m) k → m′ ≡ m + 1
       → Taking w′ w₀ n (k + 1) m′ (first + getD counts k 0) counts kinds
   taking-plain {w′} {v} {m′} t put e g =
-      let room : n * takenMarks ≤ length w = omega (arith, y .room, s .size) in
+      let room : n * nodeBlock ≤ length w = omega (arith, y .room, s .size) in
       let less : m < n = omega (arith, s .fewer) in
       let put′ : HoldsFrom v w (n * takenBlock + m * pieceSize) 5 (m ∷ 1 ∷ 0 ∷ total (take k counts) ∷ getD counts k 0 ∷ []) = rw (s .first-is) at put in
       rw (e, g)
@@ -174,12 +236,24 @@ module _ (width : ℕ) (w : List ℕ) (n : ℕ) (input copies counts groups kind
             let e : n * takenBlock + n * memberBlock ≡ n * takenMembers = omega arith in
             let f : length (linesOf qs) ≡ m = omega (arith, one-line, s .number) in
             ap₂ (λ (i j : ℕ). slice i (i + j) w) e f ∙ s .members;
+        marks =
+            let e : n * takenBlock + n * markBlock ≡ n * takenMarks = omega arith in
+            let f : length (marksOf qs) ≡ m = omega (arith, marks-all qs drawns, one-line, s .number) in
+            ap₂ (λ (i j : ℕ). slice i (i + j) w) e f ∙ s .marks;
+        listing =
+            let e : n * takenBlock + n * listingBlock ≡ n * takenListing = omega arith in
+            let f : length (listingOf qs) ≡ m = omega (arith, listings-long qs drawns, one-line, s .number) in
+            ap₂ (λ (i j : ℕ). slice i (i + j) w) e f ∙ s .listing;
+        drawn = λ q b. each-getD Drawn qs q nothing drawns b;
         full = λ q b. omega (arith, each-getD (λ (p : Piece). length (p .lines) ≡ 1) qs q nothing (pieces-lone true 0 (lines (points width input) counts groups kinds)) b);
         own = λ q b d. each-getD (Own width input counts) qs q nothing owns b;
         wide = λ q b. each-getD (λ (p : Piece). AllWide width (p .points)) qs q nothing wides b;
         copied = rw (lone-copies qs (pieces-lone true 0 (lines (points width input) counts groups kinds))) (ap (λ (i : ℕ). take i copies) (zero-mul width));
       }
     where
+      drawns : Each Drawn qs
+      drawns = every true Drawn 0 (lines (points width input) counts groups kinds) (λ i b. alone-drawn (0 + i) (getD (lines (points width input) counts groups kinds) i noLine))
+
       wides : Each (λ (p : Piece). AllWide width (p .points)) qs
       wides =
           every true (λ (p : Piece). AllWide width (p .points)) 0 (lines (points width input) counts groups kinds)

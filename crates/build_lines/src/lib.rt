@@ -1,5 +1,7 @@
 // The plain lines of a call as the pieces that go into its first round.
 use chain_pieces::TAKEN;
+use chain_pieces::TAKEN_LISTING;
+use chain_pieces::TAKEN_MARKS;
 use chain_pieces::TAKEN_MEMBERS;
 use rules::PIECE;
 ghost use mathlib.Core.Path.{_≡_};
@@ -21,7 +23,7 @@ pub fn is_plain(count: u32, kind: u8) -> bool
     2 <= count
 }
 
-// The plain lines as pieces, into the block at 12 n. Returns how many there are.
+// The plain lines as pieces, into the block at 13 n. Returns how many there are.
 pub fn take_lines(w: &mut [u64], n: usize, counts: &[u32], kinds: &[u8]) -> usize
     requires { ⌜ Takable (now w) n (now counts) (now kinds) ⌝ }
     ensures { λ r. ⌜ Taken (now (w .exit)) (now (w .entry)) n (now (counts .entry)) (now (kinds .entry)) r ⌝ }
@@ -42,6 +44,8 @@ pub fn take_lines(w: &mut [u64], n: usize, counts: &[u32], kinds: &[u8]) -> usiz
                 count as u64,
             );
             w[n * TAKEN_MEMBERS + m] = k as u64;
+            w[n * TAKEN_MARKS + m] = 0;
+            w[n * TAKEN_LISTING + m] = k as u64;
             m += 1;
         }
         first += count as u64;

@@ -17,13 +17,16 @@ use Rattle.rules.specs.Chaining.{Piece, nothing, Line}
 use Rattle.rules.specs.Layout.{lines, copied, copy, loop as loopOf, five, six, table as table-of}
 use Rattle.rules.specs.Types.{widthOf}
 use Rattle.rules.specs.Refusals.{rooms, recordSize, pieceSize, entry, sourceOf, noChain}
+use Rattle.rules.specs.Calls.{viewed}
 use Rattle.build_question.specs.Parts.{partOf}
 use Rattle.build_question.proofs.Laws.{part-there, viewed-part}
 use Rattle.chain_laws.proofs.Counts.{Each, nil, cons, each-getD}
 use Rattle.chain_laws.proofs.Lines.{flatMap-append, map-from}
+use Rattle.chain_laws.proofs.Drawn.{Drawn, listing-long, marks-all, listings-long}
 use Rattle.chain_laws.proofs.Sound.{noLine, Sound}
 use Rattle.chain_laws.proofs.Records.{five-length, six-length, rows-length, row-at, line-at}
 use Rattle.point_numbers.proofs.Points.{flat-append, flat-length, points-back}
+use Rattle.point_numbers.proofs.Loops.{loop-flat}
 use Rattle.build_lines.specs.Taken.{Adds}
 use Rattle.build_lines.proofs.Passing.{total-part}
 use Rattle.build_reading.specs.Reading.{readAt, readAll, readOf}
@@ -134,7 +137,7 @@ module _
     (ps : List Piece)
     (sound : Each (Sound ls) ps)
     (own : (k : ℕ) → Stands w input (total (take k counts)) (getD ls k noLine .points))
-    (t m a c s z : List ℕ) where
+    (t m a d c s z : List ℕ) where
   abbrev table′ : List ℕ
   table′ = table-of counts 0 0 ps ++ t
 
@@ -144,18 +147,17 @@ module _
   abbrev marks′ : List ℕ
   marks′ = flatMap (λ p. p .marks) ps ++ a
 
+  abbrev listing′ : List ℕ
+  listing′ = flatMap (λ p. p .listing) ps ++ d
+
   abbrev merged′ : List ℕ
   merged′ = flat w (flatMap copy ps) ++ c
 
-  -- as many marks as members, up to any chain
-  marks-before : (q : ℕ) (rs : List Piece) → Each (Sound ls) rs → length (flatMap (λ p. p .marks) (take q rs)) ≡ length (flatMap (λ p. p .lines) (take q rs))
-  unfolding flatMap
-  marks-before zero rs e = refl
-  marks-before (suc q) rs nil = refl
-  marks-before (suc q) rs (cons {a = p} {l = rs′} s e) =
-      length-append (p .marks) (flatMap (λ p. p .marks) (take q rs′))
-      ∙ ap₂ _+_ (s .marked) (marks-before q rs′ e)
-      ∙ sym (length-append (p .lines) (flatMap (λ p. p .lines) (take q rs′)))
+  -- marked and listed, up to any chain
+  drawn-before : (q : ℕ) (rs : List Piece) → Each (Sound ls) rs → Each Drawn (take q rs)
+  drawn-before zero rs e = nil
+  drawn-before (suc q) rs nil = nil
+  drawn-before (suc q) rs (cons {l = rs′} s e) = cons (s .drawn) (drawn-before q rs′ e)
 
   module _ (q : ℕ) (b : q < length ps) where
     abbrev p : Piece
@@ -234,7 +236,13 @@ module _
     marks-are =
         ap₂ (λ (n o : ℕ). take n (drop o marks′)) count-is first-is
         ∙ ap (λ (l : List Piece). take (length (p .lines)) (drop before (flatMap (λ p. p .marks) l ++ a))) whole
-        ∙ part-of (λ (p : Piece). p .marks) pre p post a before (length (p .lines)) (marks-before q ps sound) (here .marked)
+        ∙ part-of (λ (p : Piece). p .marks) pre p post a before (length (p .lines)) (marks-all pre (drawn-before q ps sound)) (here .drawn .marked)
+
+    listing-is : take (entry table′ q 1) (drop (entry table′ q 0) listing′) ≡ p .listing
+    listing-is =
+        ap₂ (λ (n o : ℕ). take n (drop o listing′)) count-is first-is
+        ∙ ap (λ (l : List Piece). take (length (p .lines)) (drop before (flatMap (λ p. p .listing) l ++ d))) whole
+        ∙ part-of (λ (p : Piece). p .listing) pre p post d before (length (p .lines)) (listings-long pre (drawn-before q ps sound)) (listing-long p (here .drawn))
 
     source-is : entry table′ q 2 ≡ one (copied p)
     unfolding five
@@ -305,19 +313,29 @@ module _
         go true e = view-copied e
         go false e = view-own e
 
-    chain-read : readAt type input (rooms table′ members′ marks′ merged′ s z) q ≡ readOf w p
+    view-read : viewed type input merged′ table′ q ≡ flat w (p .points)
+    view-read = viewed-part type input merged′ table′ q ∙ ap (λ (v : ℕ). partOf v input merged′ table′ q) (sym wide) ∙ coordinates-are
+
+    -- THE LOOP MARK OF A RECORD IS THAT OF THE COORDINATES THAT IT NAMES
+    pub mark-read : 2 ≤ w → entry (table-of counts 0 0 ps ++ t) q 5
+        ≡ one (loopOf (points w (viewed type input (flat w (flatMap copy ps) ++ c) (table-of counts 0 0 ps ++ t) q)))
+    mark-read two = loop-is ∙ ap one (sym (loop-flat w two (p .points)) ∙ ap (λ (l : List ℕ). loopOf (points w l)) (sym view-read))
+
+    chain-read : readAt type input (rooms table′ members′ marks′ listing′ merged′ s z) q ≡ readOf w p
     unfolding readAt readOf
     chain-read = λ j. record {
       members = members-are j;
       marks = marks-are j;
+      listing = listing-is j;
       source = source-is j;
       loop = loop-is j;
-      coordinates = (viewed-part type input merged′ table′ q ∙ ap (λ (v : ℕ). partOf v input merged′ table′ q) (sym wide) ∙ coordinates-are) j;
+      coordinates = view-read j;
     }
 
   -- WHAT IS READ IS THE CHAINS
   pub chains-read : readAll type input
-      (rooms (table-of counts 0 0 ps ++ t) (flatMap (λ p. p .lines) ps ++ m) (flatMap (λ p. p .marks) ps ++ a) (flat w (flatMap copy ps) ++ c) s z) (length ps)
+      (rooms (table-of counts 0 0 ps ++ t) (flatMap (λ p. p .lines) ps ++ m) (flatMap (λ p. p .marks) ps ++ a) (flatMap (λ p. p .listing) ps ++ d)
+      (flat w (flatMap copy ps) ++ c) s z) (length ps)
       ≡ map (readOf w) ps
   unfolding readAll
-  chains-read = by-index (readAt type input (rooms table′ members′ marks′ merged′ s z)) (readOf w) nothing ps chain-read
+  chains-read = by-index (readAt type input (rooms table′ members′ marks′ listing′ merged′ s z)) (readOf w) nothing ps chain-read

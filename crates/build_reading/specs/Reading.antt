@@ -1,4 +1,5 @@
--- What a host reads in the rooms that a building call leaves: chain by chain its members, their marks, its source, whether it is a loop, and its coordinates by the view.
+-- What a host reads in the rooms that a building call leaves: chain by chain its members, their marks, its lines in the order in
+-- which they are passed, its source, whether it is a loop, and its coordinates by the view.
 use Prim.Native.Nat.{ℕ}
 use mathlib.Core.List.{List, map}
 use lib.ListN.{take, drop}
@@ -12,6 +13,7 @@ use Rattle.rules.specs.Calls.{viewed}
 pub record ChainRead : Type 0 where
   pub members : List ℕ
   pub marks : List ℕ
+  pub listing : List ℕ
   pub source : ℕ
   pub loop : ℕ
   pub coordinates : List ℕ
@@ -22,6 +24,7 @@ readAt t input o k =
     record {
       members = take (entry (o .table) k 1) (drop (entry (o .table) k 0) (o .members));
       marks = take (entry (o .table) k 1) (drop (entry (o .table) k 0) (o .marks));
+      listing = take (entry (o .table) k 1) (drop (entry (o .table) k 0) (o .listing));
       source = entry (o .table) k 2;
       loop = entry (o .table) k 5;
       coordinates = viewed t input (o .merged) (o .table) k;
@@ -37,6 +40,7 @@ readOf w p =
     record {
       members = p .lines;
       marks = p .marks;
+      listing = p .listing;
       source = one (copied p);
       loop = one (loopOf (p .points));
       coordinates = flat w (p .points);

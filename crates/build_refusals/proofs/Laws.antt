@@ -2,14 +2,15 @@
 use mathlib.Core.Path.{_≡_, refl, sym, ap, subst, _∙_}
 use mathlib.Core.Bool.{Bool, true, false, not, _&&_, _||_, true≢false}
 use mathlib.Core.List.{List, [], _∷_}
-use Prim.Native.Nat.{ℕ, zero, suc, _+_, _*_, _≤_, _<_}
+use Prim.Native.Nat.{ℕ, zero, suc, _+_, _*_, _/_, _^_, _≤_, _<_}
 use native.Mathlib.Nat.{add-assoc, mul-le-mul-right}
 use native.Mathlib.Numerals.{add-one}
 use native.Mathlib.Omega.{arith}
 use lib.ListN.{length, drop, getD, drop-of-length-le}
 use lib.Seq.{drop-cons}
-use lib.Dec.{ltb, eqb}
-use borrow.Author.Tests.{lt-ltb, le-ltb, ltb-false, eqb-true, eqb-false, not-false}
+use lib.Bits.{bitOr, or-zero-l, or-add-and, and-le-l, and-le-r, or-shr}
+use lib.Dec.{leb, ltb, eqb}
+use borrow.Author.Tests.{lt-ltb, le-ltb, ltb-false, leb-true, leb-false, eqb-true, eqb-false, not-false}
 use Rattle.rules.specs.declared.Settings.{Settings}
 use lib.Ieee.Scale.{finite}
 use Rattle.rules.specs.Lists.{one, total}
@@ -56,13 +57,40 @@ above-none m l i h = rw (drop-of-length-le l {i = i} h)
 -- ---- places
 
 -- one number more is looked at
-pub wild-step : (l : List ℕ) (i s : ℕ) → i < length l → s + wildOf (drop i l) ≡ s + one (not (finite (float (getD l i 0)))) + wildOf (drop (i + 1) l)
+wild-step : (l : List ℕ) (i s : ℕ) → i < length l → s + wildOf (drop i l) ≡ s + one (not (finite (float (getD l i 0)))) + wildOf (drop (i + 1) l)
 unfolding wildOf
 wild-step l i s h = rw (drop-cons l i 0 h, add-one, add-assoc)
 
-pub wild-none : (l : List ℕ) (i s : ℕ) → length l ≤ i → s + wildOf (drop i l) ≡ s
+wild-none : (l : List ℕ) (i s : ℕ) → length l ≤ i → s + wildOf (drop i l) ≡ s
 unfolding wildOf
 wild-none l i s h = rw (drop-of-length-le l {i = i} h) (omega arith)
+
+-- what two numbers, each 0 or 1, make together, beside others
+or-some : (a b r : ℕ) → a ≤ 1 → b ≤ 1 → ltb 0 (bitOr a b + r) ≡ ltb 0 (a + (b + r))
+or-some zero b r h k = let e : b + r ≡ 0 + (b + r) = omega arith in ap (λ (n : ℕ). ltb 0 (n + r)) (or-zero-l b) ∙ ap (ltb 0) e
+or-some (suc a) b r h k =
+    let more : 0 < bitOr (suc a) b + r = omega (arith, or-add-and (suc a) b, and-le-l (suc a) b, and-le-r (suc a) b) in
+    lt-ltb 0 (bitOr (suc a) b + r) more ∙ sym (lt-ltb 0 (suc a + (b + r)) (omega arith))
+
+-- one number more is looked at: m is what was made so far, n the number raised
+pub wild-more : (l : List ℕ) (i m n : ℕ) → i < length l → m < 2 ^ 64 → n / 2 ^ 63 ≡ one (not (finite (float (getD l i 0))))
+    → ltb 0 (bitOr m n / 2 ^ 63 + wildOf (drop (i + 1) l)) ≡ ltb 0 (m / 2 ^ 63 + wildOf (drop i l))
+wild-more l i m n h k e =
+    ap (λ (q : ℕ). ltb 0 (q + wildOf (drop (i + 1) l))) (or-shr m n 63 ∙ ap (bitOr (m / 2 ^ 63)) e)
+    ∙ or-some (m / 2 ^ 63) (one (not (finite (float (getD l i 0))))) (wildOf (drop (i + 1) l)) (omega arith) (one-most (not (finite (float (getD l i 0)))))
+    ∙ ap (ltb 0) (sym (add-assoc (m / 2 ^ 63) _ _) ∙ sym (wild-step l i (m / 2 ^ 63) h))
+  where
+    one-most : (b : Bool) → one b ≤ 1
+    one-most true = omega arith
+    one-most false = omega arith
+
+-- all are looked at
+pub wild-told : (l : List ℕ) (i m : ℕ) → length l ≤ i → m < 2 ^ 64 → ltb 0 (m / 2 ^ 63 + wildOf (drop i l)) ≡ ltb 0 (wildOf l) → leb (2 ^ 63) m ≡ ltb 0 (wildOf l)
+wild-told l i m h k e = go (leb (2 ^ 63) m) refl ∙ ap (ltb 0) (sym (wild-none l i (m / 2 ^ 63) h)) ∙ e
+  where
+    go : (b : Bool) → leb (2 ^ 63) m ≡ b → leb (2 ^ 63) m ≡ ltb 0 (m / 2 ^ 63)
+    go true q = q ∙ sym (lt-ltb 0 (m / 2 ^ 63) (omega (arith, leb-true (2 ^ 63) m q)))
+    go false q = q ∙ sym (le-ltb 0 (m / 2 ^ 63) (omega (arith, leb-false (2 ^ 63) m q)))
 
 here-nowhere : (p : Point) (l : List Point) → nowhere p ≡ true → anyNowhere (p ∷ l) ≡ true
 unfolding anyNowhere
@@ -135,7 +163,7 @@ tests t l s o =
     ∷ (15, anyNowhere (points (widthOf t) (l .coordinates)))
     ∷ (6, switchBad (s .switch) (s .limit))
     ∷ (17, originBad (s .«origin_x») (s .«origin_y»))
-    ∷ (7, roomShort n numbers (length (o .table)) (length (o .members)) (length (o .marks)) (length (o .merged)) (length (o .spare)) (length (o .workspace)))
+    ∷ (7, roomShort n numbers (length (o .table)) (length (o .members)) (length (o .marks)) (length (o .listing)) (length (o .merged)) (length (o .spare)) (length (o .workspace)))
     ∷ []
 
 -- a test that doesn't hold is passed, and the first that holds gives its number
@@ -224,8 +252,9 @@ admitted t l s o z =
     let r₁ = or-off (ltb (length (o .table)) (n * recordSize)) _ (t₉ .0) in
     let r₂ = or-off (ltb (length (o .members)) n) _ (r₁ .1) in
     let r₃ = or-off (ltb (length (o .marks)) n) _ (r₂ .1) in
-    let r₄ = or-off (ltb (length (o .merged)) numbers) _ (r₃ .1) in
-    let r₅ = or-off (ltb (length (o .spare)) numbers) (ltb (length (o .workspace)) (n * lineRoom)) (r₄ .1) in
+    let r₄ = or-off (ltb (length (o .listing)) n) _ (r₃ .1) in
+    let r₅ = or-off (ltb (length (o .merged)) numbers) _ (r₄ .1) in
+    let r₆ = or-off (ltb (length (o .spare)) numbers) (ltb (length (o .workspace)) (n * lineRoom)) (r₅ .1) in
     record {
       two = width-two t (eqb-false (widthOf t) 0 (t₀ .0));
       few = ltb-false 4096 n (t₁ .0);
@@ -239,7 +268,8 @@ admitted t l s o z =
       table-long = ltb-false (length (o .table)) (n * recordSize) (r₁ .0);
       members-long = ltb-false (length (o .members)) n (r₂ .0);
       marks-long = ltb-false (length (o .marks)) n (r₃ .0);
-      merged-long = ltb-false (length (o .merged)) numbers (r₄ .0);
-      spare-long = ltb-false (length (o .spare)) numbers (r₅ .0);
-      workspace-long = ltb-false (length (o .workspace)) (n * lineRoom) (r₅ .1);
+      listing-long = ltb-false (length (o .listing)) n (r₄ .0);
+      merged-long = ltb-false (length (o .merged)) numbers (r₅ .0);
+      spare-long = ltb-false (length (o .spare)) numbers (r₆ .0);
+      workspace-long = ltb-false (length (o .workspace)) (n * lineRoom) (r₆ .1);
     }

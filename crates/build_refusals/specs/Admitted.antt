@@ -24,6 +24,7 @@ pub record Admitted (t : ℕ) (l : Lines) (s : Settings) (o : Rooms) : Type 0 wh
   pub table-long : length (l .counts) * recordSize ≤ length (o .table)
   pub members-long : length (l .counts) ≤ length (o .members)
   pub marks-long : length (l .counts) ≤ length (o .marks)
+  pub listing-long : length (l .counts) ≤ length (o .listing)
   pub merged-long : length (l .coordinates) ≤ length (o .merged)
   pub spare-long : length (l .coordinates) ≤ length (o .spare)
   pub workspace-long : length (l .counts) * lineRoom ≤ length (o .workspace)

@@ -18,7 +18,7 @@ unfoldable pub switchBad : ℕ → Float → Bool
 switchBad switch limit = ltb 1 switch || (eqb switch 1 && limitBad limit)
 
 -- a room is shorter than n lines and numbers of coordinates ask for
-unfoldable pub roomShort : ℕ → ℕ → ℕ → ℕ → ℕ → ℕ → ℕ → ℕ → Bool
-roomShort n numbers table members marks merged spare workspace =
+unfoldable pub roomShort : ℕ → ℕ → ℕ → ℕ → ℕ → ℕ → ℕ → ℕ → ℕ → Bool
+roomShort n numbers table members marks listing merged spare workspace =
     ltb table (n * recordSize)
-    || (ltb members n || (ltb marks n || (ltb merged numbers || (ltb spare numbers || ltb workspace (n * lineRoom)))))
+    || (ltb members n || (ltb marks n || (ltb listing n || (ltb merged numbers || (ltb spare numbers || ltb workspace (n * lineRoom))))))

@@ -1,4 +1,5 @@
 // The refusals of building, in the order of checking.
+use float_bits::SIGN;
 use rules::LINE_ROOM;
 use rules::MOST_LINES;
 use rules::MOST_POINTS;
@@ -44,17 +45,17 @@ pub fn any_above_one(kinds: &[u8]) -> bool
     false
 }
 
-// Whether one of the numbers is a NaN or infinite. All are looked at, so that several go at once.
+// Whether one of the numbers is a NaN or infinite: then the sign's place of what they make together is taken. All are looked at, so that several go at once.
 fn any_wild(numbers: &[u64]) -> bool
     ensures { λ r. ⌜ r ≡ ltb 0 (wildOf (now (numbers .entry))) ⌝ }
 {
-    let mut wild: u64 = 0;
+    let mut any: u64 = 0;
     let mut i = 0;
     while i < numbers.len() {
-        wild += float_bits::wild(numbers[i]);
+        any = any | float_bits::raised(numbers[i]);
         i += 1;
     }
-    0 < wild
+    SIGN <= any
 }
 
 // Whether the x or the y of a point is a NaN or infinite, with extras between the points.
@@ -138,12 +139,13 @@ fn room_short(
     table: usize,
     members: usize,
     marks: usize,
+    listing: usize,
     merged: usize,
     spare: usize,
     workspace: usize,
 ) -> bool
     requires { ⌜ n ≤ mostLines ⌝ }
-    ensures { λ r. ⌜ r ≡ roomShort n numbers table members marks merged spare workspace ⌝ }
+    ensures { λ r. ⌜ r ≡ roomShort n numbers table members marks listing merged spare workspace ⌝ }
 {
     if table < n * RECORD {
         return true;
@@ -152,6 +154,9 @@ fn room_short(
         return true;
     }
     if marks < n {
+        return true;
+    }
+    if listing < n {
         return true;
     }
     if merged < numbers {
@@ -174,13 +179,15 @@ pub fn refusal(
     table: &[u32],
     members: &[u32],
     marks: &[u8],
+    listing: &[u32],
     merged: &[u64],
     spare: &[u64],
     workspace: &[u64],
 ) -> u64
     ensures { λ r. ⌜ r ≡ refusalOf «wkb_type»
         (lent (now (coordinates .entry)) (now (counts .entry)) (now (groups .entry)) (now (kinds .entry))) settings
-        (rooms (now (table .entry)) (now (members .entry)) (now (marks .entry)) (now (merged .entry)) (now (spare .entry)) (now (workspace .entry))) ⌝ }
+        (rooms (now (table .entry)) (now (members .entry)) (now (marks .entry)) (now (listing .entry))
+        (now (merged .entry)) (now (spare .entry)) (now (workspace .entry))) ⌝ }
 {
     let width = point_numbers::width_of(wkb_type);
     if width == 0 {
@@ -219,6 +226,7 @@ pub fn refusal(
         table.len(),
         members.len(),
         marks.len(),
+        listing.len(),
         merged.len(),
         spare.len(),
         workspace.len(),

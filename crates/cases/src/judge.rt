@@ -161,7 +161,7 @@ pub fn coarse() -> Settings {
     }
 }
 
-// Whether building gives these records, members and marks, of three plain lines at most. The chains' coordinates, one after another, are `laid`; the
+// Whether building gives these records, members, marks and listing, of three plain lines at most. The chains' coordinates, one after another, are `laid`; the
 // first of them are the merged ones, as many as `copied` says.
 fn leaves(
     coordinates: &[u64],
@@ -171,6 +171,7 @@ fn leaves(
     records: &[u32],
     members: &[u32],
     marks: &[u8],
+    listing: &[u32],
     laid: &[u64],
     copied: usize,
 ) -> bool {
@@ -186,6 +187,7 @@ fn leaves(
     let mut table_room = [7u32; 20];
     let mut members_room = [7u32; 4];
     let mut marks_room = [7u8; 4];
+    let mut listing_room = [7u32; 4];
     let mut merged_room = [7u64; 16];
     let mut spare = [7u64; 16];
     let mut workspace = [7u64; 580];
@@ -199,6 +201,7 @@ fn leaves(
         &mut table_room,
         &mut members_room,
         &mut marks_room,
+        &mut listing_room,
         &mut merged_room,
         &mut spare,
         &mut workspace,
@@ -207,6 +210,7 @@ fn leaves(
         && begins_u32(&table_room, records)
         && begins_u32(&members_room, members)
         && begins_u8(&marks_room, marks)
+        && begins_u32(&listing_room, listing)
         && begins_u64(&merged_room, &laid[..copied])
         && cleared(&spare, coordinates.len())
         && cleared(&workspace, n * LINE_ROOM)
@@ -222,6 +226,7 @@ pub fn builds(
     records: &[u32],
     members: &[u32],
     marks: &[u8],
+    listing: &[u32],
     laid: &[f64],
     copied: usize,
 ) -> bool {
@@ -243,6 +248,7 @@ pub fn builds(
         records,
         members,
         marks,
+        listing,
         &words[..l],
         copied,
     )
@@ -255,6 +261,7 @@ pub fn joins(
     settings: Settings,
     members: &[u32],
     marks: &[u8],
+    listing: &[u32],
     laid: &[f64],
     closed: u32,
 ) -> bool {
@@ -278,6 +285,7 @@ pub fn joins(
         &records,
         members,
         marks,
+        listing,
         laid,
         l,
     )
@@ -292,6 +300,7 @@ pub fn apart(
     records: &[u32],
 ) -> bool {
     let members = [0u32, 1, 2];
+    let listing = [0u32, 1, 2];
     let marks = [0u8; 3];
     let n = counts.len();
     if 3 < n {
@@ -305,6 +314,7 @@ pub fn apart(
         records,
         &members[..n],
         &marks[..n],
+        &listing[..n],
         coordinates,
         0,
     )

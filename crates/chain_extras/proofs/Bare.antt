@@ -1,14 +1,14 @@
 -- Extras left out: the chains of lines without their extras are the chains without theirs.
 -- Keys, directions and equality look at x and y alone, so that every end has the partner that it had, and the walks are the same ones; merging takes
 -- and drops the same points.
-use Prim.Native.Nat.{ℕ, suc, _*_}
+use Prim.Native.Nat.{ℕ, suc, _+_, _*_, _%_}
 use mathlib.Core.Path.{_≡_, refl, sym, ap, ap₂, _∙_, fun-ext}
 use mathlib.Core.Bool.{Bool, true, false, not, _&&_, cond, Bool·beq}
 use mathlib.Core.List.{List, [], _∷_, _++_, map, flatMap, reverse, reverseAux, map-append}
 use mathlib.Core.Option.{Option, none, some}
 use lib.Dec.{eqb, leb}
 use lib.Ieee.{Float, lt}
-use lib.ListN.{length, getD, length-map, replicate, List·getD-map}
+use lib.ListN.{length, getD, length-map, List·getD-map}
 use Rattle.rules.specs.declared.Direction.{Direction}
 use Rattle.rules.specs.declared.Direction.the-variants.{Absent}
 use Rattle.rules.specs.declared.Settings.{Settings}
@@ -18,7 +18,7 @@ use Rattle.rules.specs.Lists.{keep, first, upto}
 use Rattle.rules.specs.Plane.{Point, point, equal, sameKey, exactKey, cellKey, keyOf, straight, directionOf, nought}
 use Rattle.rules.specs.Selecting.{End, Pair, select}
 use Rattle.rules.specs.Walking.{pieceOf, sideOf, walks}
-use Rattle.rules.specs.Chaining.{cellsOf, Piece, nothing, Rule, mate, lay, pieceAt, run, keyAt, node, endAt, chosen, joined, partner, merged, merge, join, Line, plain, alone, pieces, ruleOf, roundOne, roundTwo, chains}
+use Rattle.rules.specs.Chaining.{cellsOf, Piece, nothing, Rule, mate, lay, pieceAt, run, keyAt, node, endAt, chosen, joined, partner, merged, merge, join, Line, plain, alone, pieces, ruleOf, roundOne, roundTwo, chains, passed, turned}
 use Rattle.chain_laws.proofs.Lines.{map-map}
 use Rattle.chain_extras.specs.Bare.{bare, bareLine, barePiece}
 
@@ -28,7 +28,7 @@ abbrev bareOf : Option Point → Option Point
 bareOf none = none
 bareOf (some p) = some (bare p)
 
-map-turned : {A B : Type 0} (f : A → B) (l r : List A) → map f (reverseAux l r) ≡ reverseAux (map f l) (map f r)
+pub map-turned : {A B : Type 0} (f : A → B) (l r : List A) → map f (reverseAux l r) ≡ reverseAux (map f l) (map f r)
 map-turned f [] r = refl
 map-turned f (a ∷ l) r = map-turned f l (a ∷ r)
 
@@ -143,11 +143,12 @@ module _ (rule : Rule) (ps : List Piece) where
   merged-bare (e ∷ f ∷ w) = ap (lay none) (runs-bare (e ∷ f ∷ w)) ∙ lay-bare none (flatMap (run rule ps) (e ∷ f ∷ w))
 
   merge-bare : (w : List ℕ) → merge rule bs w ≡ barePiece (merge rule ps w)
-  unfolding merge
+  unfolding merge turned passed
   merge-bare w =
       λ i. record {
         lines = flatMap (λ e. piece-bare e i .lines) w;
-        marks = flatMap (λ e. replicate (length (piece-bare e i .lines)) (sideOf e)) w;
+        marks = flatMap (λ e. map (λ mark. (mark + sideOf e) % 2) (piece-bare e i .marks)) w;
+        listing = flatMap (λ e. cond (eqb (sideOf e) 0) (piece-bare e i .listing) (reverse (piece-bare e i .listing))) w;
         points = merged-bare w i;
         group = piece-bare (getD w 0 0) i .group;
       }

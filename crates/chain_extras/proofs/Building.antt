@@ -144,6 +144,11 @@ unfolding flatMap
 marks-bare [] = refl
 marks-bare (p ∷ ps) = ap (λ (r : List ℕ). p .marks ++ r) (marks-bare ps)
 
+listing-bare : (ps : List Piece) → flatMap (λ p. p .listing) (map barePiece ps) ≡ flatMap (λ p. p .listing) ps
+unfolding flatMap
+listing-bare [] = refl
+listing-bare (p ∷ ps) = ap (λ (r : List ℕ). p .listing ++ r) (listing-bare ps)
+
 -- ---- the points of what is built have the width of the lines
 
 wide-at : (w : ℕ) (ps : List Point) (j : ℕ) (d : Point) → AllWide w ps → j < length ps → Wide w (getD ps j d)
@@ -151,14 +156,14 @@ wide-at w ps j d none-wide h = absurd (omega arith)
 wide-at w ps zero d (more-wide p a) h = p
 wide-at w ps (suc j) d (more-wide {l = qs} p a) h = wide-at w qs j d a (omega arith)
 
-lines-wide : (w : ℕ) (ps : List Point) (cs gs ks : List ℕ) (k : ℕ) → AllWide w ps → AllWide w (ownPoints (lines ps cs gs ks) k)
+pub lines-wide : (w : ℕ) (ps : List Point) (cs gs ks : List ℕ) (k : ℕ) → AllWide w ps → AllWide w (ownPoints (lines ps cs gs ks) k)
 unfolding lines
 lines-wide w ps [] gs ks k h = none-wide
 lines-wide w ps (c ∷ cs) gs ks zero h = wide-take c h
 lines-wide w ps (c ∷ cs) gs ks (suc k) h = lines-wide w (drop c ps) cs (drop 1 gs) (drop 1 ks) k (wide-drop c h)
 
 module _ (w : ℕ) (ls : List Line) (wide : (k : ℕ) → AllWide w (ownPoints ls k)) where
-  from-wide : (m : List ℕ) (ps : List Point) → Each (From ls m) ps → AllWide w ps
+  pub from-wide : (m : List ℕ) (ps : List Point) → Each (From ls m) ps → AllWide w ps
   from-wide m ps nil = none-wide
   from-wide m ps (cons {l = qs} f a) =
       more-wide (subst (Wide w) (sym (f .same)) (wide-at w (ownPoints ls (f .line)) (f .place) (point 0 0) (wide (f .line)) (f .within))) (from-wide m qs a)
@@ -200,6 +205,7 @@ module _ (w : ℕ) (s : Settings) (l : Lines) (two : 2 ≤ w) where
         records = ap (table (l .counts) 0 0) same-chains ∙ table-bare (l .counts) 0 0 built;
         members = ap (flatMap (λ (p : Piece). p .lines)) same-chains ∙ members-bare built;
         marks = ap (flatMap (λ (p : Piece). p .marks)) same-chains ∙ marks-bare built;
+        listing = ap (flatMap (λ (p : Piece). p .listing)) same-chains ∙ listing-bare built;
         merged =
             ap (λ (ps : List Piece). flat 2 (flatMap copy ps)) same-chains
             ∙ ap (flat 2) (copies-bare built ∙ ap (map bare) (sym (points-flat w (flatMap copy built) (omega arith) built-wide)));

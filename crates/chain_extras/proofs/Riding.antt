@@ -23,11 +23,11 @@ use Rattle.chain_extras.specs.Bare.{From}
 -- ---- what each point has
 
 module _ (P : Point → Type 0) where
-  each-reverse : (l : List Point) → Each P l → Each P (reverse l)
+  pub each-reverse : (l : List Point) → Each P l → Each P (reverse l)
   each-reverse l nil = nil
   each-reverse l (cons {a = p} {l = m} h a) = rw (reverse-append (p ∷ []) m) (each-append (each-reverse m a) (cons h nil))
 
-  each-lay : (o : Option Point) (l : List Point) → Each P l → Each P (lay o l)
+  pub each-lay : (o : Option Point) (l : List Point) → Each P l → Each P (lay o l)
   unfolding lay
   each-lay none l nil = nil
   each-lay (some q) l nil = nil

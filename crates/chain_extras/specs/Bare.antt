@@ -16,7 +16,7 @@ abbrev pub bareLine : Line → Line
 bareLine l = record { points = map bare (l .points); group = l .group; kind = l .kind }
 
 abbrev pub barePiece : Piece → Piece
-barePiece p = record { lines = p .lines; marks = p .marks; points = map bare (p .points); group = p .group }
+barePiece p = record { lines = p .lines; marks = p .marks; listing = p .listing; points = map bare (p .points); group = p .group }
 
 -- numbers of points of width w, as numbers of points of none
 abbrev pub bareNumbers : ℕ → List ℕ → List ℕ
@@ -32,6 +32,7 @@ pub record Alike (w : ℕ) (without with : Laid) : Type 0 where
   pub records : without .records ≡ with .records
   pub members : without .members ≡ with .members
   pub marks : without .marks ≡ with .marks
+  pub listing : without .listing ≡ with .listing
   pub merged : without .merged ≡ bareNumbers w (with .merged)
 
 -- ---- the extras ride along

@@ -9,6 +9,7 @@ pub mod Mates
 pub mod Selected
 pub mod Partners
 pub mod Lines
+pub mod Drawn
 pub mod Sound
 pub mod Records
 pub mod Room

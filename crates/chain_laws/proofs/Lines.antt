@@ -100,7 +100,7 @@ unfolding pieces
 pieces-leave want k l ls h = rw (h, pieces)
 
 -- a line is plain, or it passes through
-pieces-count : (y k : ℕ) (ls : List Line)
+pub pieces-count : (y k : ℕ) (ls : List Line)
     → count y (linesOf (pieces true k ls)) + count y (linesOf (pieces false k ls)) ≡ count y (from k (length ls))
 unfolding pieces from flatMap count alone
 pieces-count y k [] = refl

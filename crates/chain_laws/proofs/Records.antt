@@ -83,12 +83,11 @@ module _ (row : ℕ → ℕ → Piece → List ℕ) where
 -- ---- what a record names
 
 module _ (counts : List ℕ) (pre : List Piece) (p : Piece) (post : List Piece) where
-  -- its members
-  pub members-at : take (length (p .lines)) (drop (length (flatMap (λ p. p .lines) pre)) (flatMap (λ p. p .lines) (pre ++ (p ∷ post)))) ≡ p .lines
+  -- its members, its marks, its listing: what it has of a kind, n numbers, of which m stand before
+  pub field-at : (f : Piece → List ℕ) (m n : ℕ) → length (flatMap f pre) ≡ m → length (f p) ≡ n → take n (drop m (flatMap f (pre ++ (p ∷ post)))) ≡ f p
   unfolding flatMap
-  members-at =
-      ap (λ (l : List ℕ). take (length (p .lines)) (drop (length (flatMap (λ p. p .lines) pre)) l)) (flatMap-append (λ (p : Piece). p .lines) pre (p ∷ post))
-      ∙ part (flatMap (λ p. p .lines) pre) (p .lines) (flatMap (λ p. p .lines) post) _ _ refl refl
+  field-at f m n h k =
+      ap (λ (l : List ℕ). take n (drop m l)) (flatMap-append f pre (p ∷ post)) ∙ part (flatMap f pre) (f p) (flatMap f post) m n h k
 
   -- its points, where they are copied
   pub copy-at : (w : ℕ) → copied p ≡ true

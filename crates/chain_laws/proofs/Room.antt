@@ -1,7 +1,7 @@
--- Rooms: what a call writes fits the rooms that 01 names: at most n chains, n members and marks, and at most c merged points.
+-- Rooms: what a call writes fits the rooms that 01 names: at most n chains, n members, marks and numbers of the listing, and at most c merged points.
 -- Each chain has a line, each line stands in one chain, and merging drops points and adds none.
 use Prim.Native.Nat.{_*_, ℕ, suc, _+_, _≤_, zero-le}
-use mathlib.Core.Path.{_≡_, refl, sym, ap, ap₂, _∙_}
+use mathlib.Core.Path.{_≡_, refl, sym, ap, _∙_}
 use mathlib.Core.Bool.{Bool, true, false, cond, Bool·beq}
 use mathlib.Core.List.{List, [], _∷_, map, flatMap, reverse, map-append}
 use mathlib.Core.Option.{Option, none, some}
@@ -23,7 +23,8 @@ use Rattle.chain_laws.proofs.Totals.{total-append, same-length}
 use Rattle.chain_laws.proofs.Lines.{chains-count, linesOf, along, spread, pieces-take, pieces-leave}
 use Rattle.point_numbers.proofs.Points.{flat-length}
 use Rattle.chain_laws.proofs.Records.{six-length, rows-length}
-use Rattle.chain_laws.proofs.Sound.{Sound, chains-sound}
+use Rattle.chain_laws.proofs.Drawn.{marks-all, listings-long}
+use Rattle.chain_laws.proofs.Sound.{Sound, chains-sound, chains-drawn}
 
 pub lay-short : (o : Option Point) (l : List Point) → length (lay o l) ≤ length l
 unfolding lay
@@ -130,15 +131,12 @@ full-long ls ps (cons {a = p} {l = qs} s a) = omega (arith, length-append (p .li
 pub chains-fit : (s : Settings) (ls : List Line) → length (chains s ls) ≤ length ls
 chains-fit s ls = omega (arith, full-long ls (chains s ls) (chains-sound s ls), members-fit s ls)
 
--- a mark for each member
-marks-long : (ls : List Line) (ps : List Piece) → Each (Sound ls) ps → length (flatMap (λ p. p .marks) ps) ≡ length (linesOf ps)
-unfolding flatMap
-marks-long ls ps nil = refl
-marks-long ls ps (cons {a = p} {l = qs} s a) =
-    length-append (p .marks) (flatMap (λ p. p .marks) qs) ∙ ap₂ _+_ (s .marked) (marks-long ls qs a) ∙ sym (length-append (p .lines) (linesOf qs))
-
+-- a mark for each member, and a place in the listing
 pub marks-fit : (s : Settings) (ls : List Line) → length (flatMap (λ p. p .marks) (chains s ls)) ≡ length (linesOf (chains s ls))
-marks-fit s ls = marks-long ls (chains s ls) (chains-sound s ls)
+marks-fit s ls = marks-all (chains s ls) (chains-drawn s ls)
+
+pub listing-fit : (s : Settings) (ls : List Line) → length (flatMap (λ p. p .listing) (chains s ls)) ≡ length (linesOf (chains s ls))
+listing-fit s ls = listings-long (chains s ls) (chains-drawn s ls)
 
 -- ---- a call
 
@@ -157,6 +155,7 @@ pub record Fits (n numbers : ℕ) (a : Laid) : Type 0 where
   pub records : length (a .records) ≡ a .number * recordSize
   pub members : length (a .members) ≡ n
   pub marks : length (a .marks) ≡ n
+  pub listing : length (a .listing) ≡ n
   pub merged : length (a .merged) ≤ numbers
 
 -- WHAT A CALL WRITES FITS, where its counts add up
@@ -169,6 +168,7 @@ build-fits w coordinates counts groups kinds s h =
       records = rows-length (six counts) recordSize (six-length counts) 0 0 (chains s ls);
       members = members-fit s ls ∙ size;
       marks = marks-fit s ls ∙ members-fit s ls ∙ size;
+      listing = listing-fit s ls ∙ members-fit s ls ∙ size;
       merged =
           let few : length (flatMap copy (chains s ls)) ≤ total counts = omega (arith, copies-fit s ls, lines-size (points w coordinates) counts groups kinds) in
           omega (arith, flat-length w (flatMap copy (chains s ls)), mul-le-mul-right w few);

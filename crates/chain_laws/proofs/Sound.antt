@@ -1,20 +1,20 @@
--- Sound chains: each has a line, a mark for each line, and lines of one group; and a chain of one line has that line's own points.
+-- Sound chains: each has a line, a mark for each line and all of them in its listing, and lines of one group; and a chain of one line has that line's own points.
 -- A piece is sound where it is a line alone, and a walk over sound pieces makes a sound one: joined ends have one key, and a key tells its group.
 use Prim.Native.Nat.{ℕ, zero, suc, _+_, _≤_, _<_, zero-le}
-use mathlib.Core.Path.{_≡_, refl, sym, ap, ap₂, _∙_, subst}
+use mathlib.Core.Path.{_≡_, refl, sym, ap, _∙_, subst}
 use mathlib.Core.Bool.{Bool, true, false, Bool·beq}
 use mathlib.Core.List.{List, [], _∷_, map, flatMap, append-nil, head-eq-of-cons-eq}
 use mathlib.Core.Option.{some}
 use native.Mathlib.Omega.{arith}
 use native.Mathlib.Decide.{ℕ-discrete}
 use lib.Ieee.{lt}
-use lib.ListN.{length, getD, replicate, length-append, length-replicate}
+use lib.ListN.{length, getD, length-append}
 use Rattle.rules.specs.declared.Settings.{Settings}
 use Rattle.rules.specs.declared.Grid.{Grid}
 use Rattle.rules.specs.declared.Grid.the-variants.{Exact, Cells}
 use Rattle.rules.specs.Lists.{count}
 use Rattle.rules.specs.Plane.{Point, nought, exactKey, cellKey, keyOf}
-use Rattle.rules.specs.Walking.{pieceOf, sideOf, other, walks}
+use Rattle.rules.specs.Walking.{pieceOf, other, walks}
 use Rattle.rules.specs.Chaining.{cellsOf, Piece, Rule, nothing, pieceAt, keyAt, merged, merge, join, partner, Line, plain, alone, pieces, roundOne, roundTwo, chains, ruleOf}
 use Rattle.chain_laws.proofs.Counts.{Each, nil, cons, each-append, each-map, each-weak, each-getD, one-same, one-other, count-append}
 use Rattle.chain_laws.proofs.Ends.{other-piece}
@@ -22,18 +22,19 @@ use Rattle.chain_laws.proofs.Forward.{Goes, free, ring, next}
 use Rattle.chain_laws.proofs.Walks.{Proper, walks-proper}
 use Rattle.chain_laws.proofs.Lines.{pieces-take, pieces-leave}
 use Rattle.chain_laws.proofs.Partners.{partner-joins, partner-key}
+use Rattle.chain_laws.proofs.Drawn.{Drawn, alone-drawn, merge-drawn}
 
 abbrev pub noLine : Line
 noLine = record { points = []; group = 0; kind = 0 }
 
 pub record Sound (ls : List Line) (p : Piece) : Type 0 where
   pub full : 0 < length (p .lines)
-  pub marked : length (p .marks) ≡ length (p .lines)
+  pub drawn : Drawn p
   pub own : (k : ℕ) → p .lines ≡ k ∷ [] → p .points ≡ getD ls k noLine .points
   pub grouped : (k : ℕ) → 0 < count k (p .lines) → getD ls k noLine .group ≡ p .group
 
 -- a key tells its group
-key-tells : (grid : Grid) (g h : ℕ) (a b : Point) → keyOf grid g a ≡ keyOf grid h b → g ≡ h
+pub key-tells : (grid : Grid) (g h : ℕ) (a b : Point) → keyOf grid g a ≡ keyOf grid h b → g ≡ h
 unfolding keyOf exactKey cellKey
 key-tells Exact g h a b q = cc
 key-tells (Cells t ox oy) g h a b q = cc
@@ -85,15 +86,6 @@ module _ (rule : Rule) (ps : List Piece) where
         go zero z ih = ih (omega (arith, count-append k (pieceAt rule ps e .lines) (flatMap (λ e. pieceAt rule ps e .lines) v)))
         go (suc m) z ih = s .grouped k (omega arith) ∙ q
 
-    marks-long : (w : List ℕ)
-        → length (flatMap (λ e. replicate (length (pieceAt rule ps e .lines)) (sideOf e)) w) ≡ length (flatMap (λ e. pieceAt rule ps e .lines) w)
-    unfolding flatMap
-    marks-long [] = refl
-    marks-long (e ∷ w) =
-        length-append (replicate (length (pieceAt rule ps e .lines)) (sideOf e)) (flatMap (λ e. replicate (length (pieceAt rule ps e .lines)) (sideOf e)) w)
-        ∙ ap₂ _+_ (length-replicate (length (pieceAt rule ps e .lines)) (sideOf e)) (marks-long w)
-        ∙ sym (length-append (pieceAt rule ps e .lines) (flatMap (λ e. pieceAt rule ps e .lines) w))
-
     merge-own : (w : List ℕ) → 0 < length w → Each (λ e. Sound ls (pieceAt rule ps e)) w
         → (k : ℕ) → merge rule ps w .lines ≡ k ∷ [] → merge rule ps w .points ≡ getD ls k noLine .points
     unfolding merge merged flatMap
@@ -108,7 +100,7 @@ module _ (rule : Rule) (ps : List Piece) where
         let l : 0 < length w = subst (λ (v : List ℕ). 0 < length v) (sym (r .starts)) (omega arith) in
         record {
           full = omega (arith, lines-long w a);
-          marked = marks-long w;
+          drawn = merge-drawn rule ps w (each-weak (λ e. Sound ls (pieceAt rule ps e)) (λ e. Drawn (pieceAt rule ps e)) w (λ e s. s .drawn) a);
           own = merge-own w l a;
           grouped = lines-group (pieceAt rule ps (getD w 0 0) .group) w a
               (walk-group (r .head) (pieceAt rule ps (getD w 0 0) .group) w (r .goes) refl);
@@ -128,7 +120,7 @@ unfolding alone count
 alone-sound all k l q =
     record {
       full = omega arith;
-      marked = refl;
+      drawn = alone-drawn k l;
       own = λ j h. sym (ap (λ (i : ℕ). getD all i noLine .points) (head-eq-of-cons-eq (sym h)) ∙ ap (λ (l : Line). l .points) q);
       grouped = λ j h. elim (ℕ-discrete j k) [
         | yes e ↦ ap (λ (i : ℕ). getD all i noLine .group) e ∙ ap (λ (l : Line). l .group) q
@@ -167,3 +159,7 @@ chains-sound s ls =
     (join-sound (ruleOf Exact s) (pieces true 0 ls) ls
     (alones ls true 0 ls (λ i. ap (λ (m : ℕ). getD ls m noLine) (omega arith)))))
     (alones ls false 0 ls (λ i. ap (λ (m : ℕ). getD ls m noLine) (omega arith)))
+
+-- and so the listing of each has its members, each as often as it is one
+pub chains-drawn : (s : Settings) (ls : List Line) → Each Drawn (chains s ls)
+chains-drawn s ls = each-weak (Sound ls) Drawn (chains s ls) (λ p a. a .drawn) (chains-sound s ls)

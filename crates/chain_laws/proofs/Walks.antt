@@ -12,7 +12,7 @@ use lib.Dec.{ltb}
 use lib.ListN.{length, length-append, length-map}
 use borrow.Author.Tests.{ltb-true, ltb-false}
 use Rattle.rules.specs.Lists.{count, stands, upto}
-use Rattle.rules.specs.Walking.{pieceOf, back, walk, walksFrom, walks}
+use Rattle.rules.specs.Walking.{pieceOf, sideOf, back, walk, walksFrom, walks}
 use Rattle.chain_laws.specs.Joins.{Joins}
 use Rattle.chain_laws.proofs.Counts.{each-weak, Each, nil, cons, one-same, one-other, zero-of, count-append, stands-true, stands-false, once-cons, below-cons, upto-in, upto-out, upto-once, upto-length}
 use Rattle.chain_laws.proofs.Totals.{same-length}
@@ -236,3 +236,14 @@ module _ (n : ℕ) (p : ℕ → Option ℕ) (J : Joins n p) where
   head-lone : (s h : ℕ) → Head n p s h → s ≡ pieceOf h → h ≡ 2 * s
   head-lone s h (open-head {u = u} r once b j) q = trail-lone (2 * s) h u r once (end-zero s ∙ q)
   head-lone s h (ring-head r once j) q = refl
+
+  pub lone-entry : (e : ℕ) → Proper n p (e ∷ []) → sideOf e ≡ 0
+  unfolding count
+  lone-entry e r =
+      let at : r .head ≡ e = head-eq-of-cons-eq (sym (r .starts)) in
+      let of : r .start ≡ pieceOf (r .head) = go (ℕ-discrete (r .start) (pieceOf e)) ∙ ap pieceOf (sym at) in
+      omega (arith, head-lone (r .start) (r .head) (r .found) of)
+    where
+      go : Dec (r .start ≡ pieceOf e) → r .start ≡ pieceOf e
+      go (yes q) = q
+      go (no q) = absurd (omega (arith, r .passes, one-other (r .start) (pieceOf e) q))

@@ -12,11 +12,13 @@ use Rattle.rules.specs.Walking.{pieceOf}
 use Rattle.rules.specs.Chaining.{Piece, nothing, pieceAt, merge}
 use Rattle.rules.specs.Layout.{copied, copy, five, rows}
 use Rattle.point_numbers.specs.Width.{AllWide, none-wide, more-wide}
+use Rattle.chain_laws.proofs.Counts.{nil, cons}
+use Rattle.chain_laws.proofs.Drawn.{Drawn}
 use Rattle.chain_pieces.specs.Held.{Own, Held}
 use Rattle.chain_merging.specs.Emit.{Walks}
 
 abbrev line : ℕ → ℕ → ℕ → Piece
-line k a b = record { lines = k ∷ []; marks = 0 ∷ []; points = point a 0 ∷ point b 0 ∷ []; group = 0 }
+line k a b = record { lines = k ∷ []; marks = 0 ∷ []; listing = k ∷ []; points = point a 0 ∷ point b 0 ∷ []; group = 0 }
 
 abbrev pieces : List Piece
 pieces = line 0 0 1 ∷ line 1 1 2 ∷ []
@@ -27,11 +29,11 @@ input = 0 ∷ 0 ∷ 1 ∷ 0 ∷ 1 ∷ 0 ∷ 2 ∷ 0 ∷ []
 abbrev counts : List ℕ
 counts = 2 ∷ 2 ∷ []
 
--- the front; two records and two members, from 14 on; two entries, from 28 on; one length, at 30
+-- the front; two records, two members, two marks and two lines in the listing, from 16 on; two entries, from 32 on; one length, at 34
 abbrev work : List ℕ
 work =
-    replicate 14 0
-    ++ (0 ∷ 1 ∷ 0 ∷ 0 ∷ 2 ∷ 1 ∷ 1 ∷ 0 ∷ 2 ∷ 2 ∷ 0 ∷ 1 ∷ 0 ∷ 0 ∷ 0 ∷ 2 ∷ 2 ∷ [])
+    replicate 16 0
+    ++ (0 ∷ 1 ∷ 0 ∷ 0 ∷ 2 ∷ 1 ∷ 1 ∷ 0 ∷ 2 ∷ 2 ∷ 0 ∷ 1 ∷ 0 ∷ 0 ∷ 0 ∷ 1 ∷ 0 ∷ 2 ∷ 2 ∷ [])
 
 full : (q : ℕ) → q < length pieces → 0 < length (getD pieces q nothing .lines)
 full zero h = omega arith
@@ -49,7 +51,12 @@ wide zero h = more-wide refl (more-wide refl none-wide)
 wide (suc zero) h = more-wide refl (more-wide refl none-wide)
 wide (suc (suc q)) h = absurd (omega arith)
 
-held : Held 2 work 14 2 input [] counts pieces
+drawn : (q : ℕ) → q < length pieces → Drawn (getD pieces q nothing)
+drawn zero h = record { marked = refl; low = cons {a = 0} (omega arith) nil; passes = λ y. refl }
+drawn (suc zero) h = record { marked = refl; low = cons {a = 0} (omega arith) nil; passes = λ y. refl }
+drawn (suc (suc q)) h = absurd (omega arith)
+
+held : Held 2 work 16 2 input [] counts pieces
 unfolding flatMap rows copied copy five flat numbersOf total
 held =
     record {
@@ -58,6 +65,9 @@ held =
       room = omega arith;
       records = refl;
       members = refl;
+      marks = refl;
+      listing = refl;
+      drawn = drawn;
       full = full;
       own = own;
       wide = wide;
@@ -73,7 +83,7 @@ filled : (j : ℕ) → j < 1 → 0 < length {A = ℕ} (getD ((0 ∷ 2 ∷ []) �
 filled zero h = omega arith
 filled (suc j) h = absurd (omega arith)
 
-pub example : Walks 2 work 2 14 2 28 30 1 input [] (replicate 8 0)
+pub example : Walks 2 work 2 16 2 32 34 1 input [] (replicate 8 0)
 unfolding flatten flatMap total pieceAt merge
 example =
     record {

@@ -1,27 +1,28 @@
 -- The pieces that come out: what `emit_walks` and `list_pieces` leave together is the block of the pieces that the walks make. A piece of one line is a
 -- piece that went in, and has its line's own points.
 use Prim.Native.Nat.{ℕ, _+_, _-_, _*_, _≤_, _<_}
-use mathlib.Core.Path.{_≡_, refl, sym, ap, _∙_, subst}
+use mathlib.Core.Path.{_≡_, refl, sym, ap, ap₂, _∙_, subst}
 use mathlib.Core.List.{List, [], _∷_, _++_, map, flatMap, flatten, append-nil}
 use native.Mathlib.Omega.{arith}
-use lib.ListN.{length, getD, take, drop, replicate, length-append, length-map}
+use lib.ListN.{length, getD, take, drop, length-append, length-map}
 use lib.Seq.{slice, take-take, take-at}
 use Rattle.rules.specs.Plane.{flat}
-use Rattle.rules.specs.Walking.{pieceOf, sideOf}
-use Rattle.rules.specs.Chaining.{Piece, Rule, nothing, pieceAt, merged, merge}
+use Rattle.rules.specs.Walking.{pieceOf}
+use Rattle.rules.specs.Chaining.{Piece, Rule, nothing, pieceAt, merged, passed, turned, merge}
 use Rattle.rules.specs.Layout.{copy, pieceTable}
 use Rattle.rules.specs.Refusals.{pieceSize}
 use Rattle.rules.specs.Calls.{written}
 use Rattle.chain_laws.proofs.Counts.{Each, nil, cons, each-map, each-weak, each-getD, each-of}
+use Rattle.chain_laws.proofs.Drawn.{Drawn, merge-drawn}
 use Rattle.chain_laws.proofs.Lines.{flatMap-append}
 use Rattle.chain_laws.proofs.Wide.{wide-merge}
 use Rattle.point_numbers.specs.Width.{AllWide}
 use Rattle.point_numbers.proofs.Points.{flat-length}
 use Rattle.point_slices.proofs.Laws.{rest-drop, rest-slice}
-use Rattle.chain_pieces.specs.Held.{linesOf, marksOf, Own, Held}
+use Rattle.chain_pieces.specs.Held.{linesOf, marksOf, listingOf, Own, Held}
 use Rattle.chain_pieces.proofs.Reading.{getD-part, held-beyond}
 use Rattle.chain_merging.specs.Emit.{PiecesListable, Listed, Walks, Tabled, Done}
-use Rattle.chain_pieces.specs.Map.{joinBlock, markBlock, memberBlock}
+use Rattle.chain_pieces.specs.Map.{joinBlock, listingBlock, markBlock, memberBlock}
 
 -- ---- a walk over pieces that are held
 
@@ -40,25 +41,30 @@ module _ {A : Type 0} (P : A → Type 0) where
   each-both l (cons h a) (cons k b) = cons (h, k) (each-both _ a b)
 
 module _ (rule : Rule) (ps : List Piece) where
-  -- the lines and marks of all walks, entry by entry
-  pub lines-flat : (ws : List (List ℕ)) → flatMap (λ e. pieceAt rule ps e .lines) (flatten ws) ≡ linesOf (map (merge rule ps) ws)
-  unfolding flatten flatMap merge
-  lines-flat [] = refl
-  lines-flat (es ∷ ws) =
-      flatMap-append (λ e. pieceAt rule ps e .lines) es (flatten ws)
-      ∙ ap (λ (l : List ℕ). flatMap (λ e. pieceAt rule ps e .lines) es ++ l) (lines-flat ws)
+  -- what the pieces of all walks have of a kind, entry by entry
+  field-flat : (f : ℕ → List ℕ) (g : Piece → List ℕ) → ((es : List ℕ) → g (merge rule ps es) ≡ flatMap f es)
+      → (ws : List (List ℕ)) → flatMap f (flatten ws) ≡ flatMap g (map (merge rule ps) ws)
+  unfolding flatten flatMap
+  field-flat f g h [] = refl
+  field-flat f g h (es ∷ ws) = flatMap-append f es (flatten ws) ∙ ap₂ (λ (a b : List ℕ). a ++ b) (sym (h es)) (field-flat f g h ws)
 
-  pub marks-flat : (ws : List (List ℕ)) → flatMap (λ e. replicate (length (pieceAt rule ps e .lines)) (sideOf e)) (flatten ws) ≡ marksOf (map (merge rule ps) ws)
-  unfolding flatten flatMap merge
-  marks-flat [] = refl
-  marks-flat (es ∷ ws) =
-      flatMap-append (λ e. replicate (length (pieceAt rule ps e .lines)) (sideOf e)) es (flatten ws)
-      ∙ ap (λ (l : List ℕ). flatMap (λ e. replicate (length (pieceAt rule ps e .lines)) (sideOf e)) es ++ l) (marks-flat ws)
+  pub lines-flat : (ws : List (List ℕ)) → merge rule ps (flatten ws) .lines ≡ linesOf (map (merge rule ps) ws)
+  unfolding merge
+  lines-flat ws = field-flat (λ e. pieceAt rule ps e .lines) (λ p. p .lines) (λ es. refl) ws
+
+  pub marks-flat : (ws : List (List ℕ)) → merge rule ps (flatten ws) .marks ≡ marksOf (map (merge rule ps) ws)
+  unfolding merge
+  marks-flat ws = field-flat (turned rule ps) (λ p. p .marks) (λ es. refl) ws
+
+  pub listing-flat : (ws : List (List ℕ)) → merge rule ps (flatten ws) .listing ≡ listingOf (map (merge rule ps) ws)
+  unfolding merge
+  listing-flat ws = field-flat (passed rule ps) (λ p. p .listing) (λ es. refl) ws
 
   module _ (width : ℕ) (input counts : List ℕ)
       (full : (q : ℕ) → q < length ps → 0 < length (getD ps q nothing .lines))
       (own : (q : ℕ) → q < length ps → length (getD ps q nothing .lines) ≡ 1 → Own width input counts (getD ps q nothing))
       (wide : (q : ℕ) → q < length ps → AllWide width (getD ps q nothing .points))
+      (drawn : (q : ℕ) → q < length ps → Drawn (getD ps q nothing))
     where
       full-at : (e : ℕ) → pieceOf e < length ps → 0 < length (pieceAt rule ps e .lines)
       unfolding pieceAt
@@ -78,6 +84,14 @@ module _ (rule : Rule) (ps : List Piece) where
       merge-full [] h a = absurd (omega arith)
       merge-full (e ∷ es) h (cons b a) =
           omega (arith, length-append (pieceAt rule ps e .lines) (flatMap (λ e. pieceAt rule ps e .lines) es), full-at e b)
+
+      drawn-at : (e : ℕ) → pieceOf e < length ps → Drawn (pieceAt rule ps e)
+      unfolding pieceAt
+      drawn-at e b = drawn (pieceOf e) b
+
+      -- its lines are marked and listed
+      merged-drawn : (es : List ℕ) → Each (λ e. pieceOf e < length ps) es → Drawn (merge rule ps es)
+      merged-drawn es a = merge-drawn rule ps es (each-weak (λ e. pieceOf e < length ps) (λ e. Drawn (pieceAt rule ps e)) es drawn-at a)
 
       -- its points have the width
       merge-wide : (es : List ℕ) → Each (λ e. pieceOf e < length ps) es → AllWide width (merge rule ps es .points)
@@ -120,7 +134,7 @@ module _ (width : ℕ) (w₀ : List ℕ) (n old m entries lengths r : ℕ) (inpu
     below-same k h =
         rw (sym (getD-part entries m w₁ k h) ∙ ap (λ (l : List ℕ). getD l k 0) entries-same) (y .below k h)
 
-    pub lines-fit : length (flatMap (λ e. pieceAt (y .rule) (y .ps) e .lines) (slice entries (entries + m) w₁)) ≤ n
+    pub lines-fit : length (merge (y .rule) (y .ps) (slice entries (entries + m) w₁) .lines) ≤ n
     lines-fit = rw (entries-same, lines-flat (y .rule) (y .ps) (y .ws)) (y .listed)
 
     abbrev pub listable : PiecesListable w₁ n old entries m
@@ -152,33 +166,41 @@ module _ (width : ℕ) (w₀ : List ℕ) (n old m entries lengths r : ℕ) (inpu
     pieces-full : Each (λ p. 0 < length (p .lines)) qs
     pieces-full =
         each-map (merge (y .rule) (y .ps)) (λ p. 0 < length (p .lines)) (y .ws)
-        (each-weak _ _ (y .ws) (λ es g. merge-full (y .rule) (y .ps) width input (y .counts) (y .held .full) (y .held .own) (y .held .wide) es (g .0) (g .1)) walks-good)
+        (each-weak _ _ (y .ws) (λ es g. merge-full (y .rule) (y .ps) width input (y .counts) (y .held .full) (y .held .own) (y .held .wide) (y .held .drawn) es (g .0) (g .1)) walks-good)
+
+    pieces-drawn : Each Drawn qs
+    pieces-drawn =
+        each-map (merge (y .rule) (y .ps)) Drawn (y .ws)
+        (each-weak _ _ (y .ws)
+        (λ es g. merged-drawn (y .rule) (y .ps) width input (y .counts) (y .held .full) (y .held .own) (y .held .wide) (y .held .drawn) es (g .1)) walks-good)
 
     pieces-own : Each (λ p. length (p .lines) ≡ 1 → Own width input (y .counts) p) qs
     pieces-own =
         each-map (merge (y .rule) (y .ps)) (λ p. length (p .lines) ≡ 1 → Own width input (y .counts) p) (y .ws)
-        (each-weak _ _ (y .ws) (λ es g. merge-own (y .rule) (y .ps) width input (y .counts) (y .held .full) (y .held .own) (y .held .wide) es (g .0) (g .1)) walks-good)
+        (each-weak _ _ (y .ws) (λ es g. merge-own (y .rule) (y .ps) width input (y .counts) (y .held .full) (y .held .own) (y .held .wide) (y .held .drawn) es (g .0) (g .1)) walks-good)
 
     pieces-wide : Each (λ p. AllWide width (p .points)) qs
     pieces-wide =
         each-map (merge (y .rule) (y .ps)) (λ p. AllWide width (p .points)) (y .ws)
-        (each-weak _ _ (y .ws) (λ es g. merge-wide (y .rule) (y .ps) width input (y .counts) (y .held .full) (y .held .own) (y .held .wide) es (g .1)) walks-good)
+        (each-weak _ _ (y .ws) (λ es g. merge-wide (y .rule) (y .ps) width input (y .counts) (y .held .full) (y .held .own) (y .held .wide) (y .held .drawn) es (g .1)) walks-good)
 
     qs-size : length qs ≡ r
     qs-size = length-map (y .ws) (merge (y .rule) (y .ps)) ∙ y .number
 
     module _ (w₂ : List ℕ)
-        (s : Listed w₂ w₁ n
-        (flatMap (λ e. pieceAt (y .rule) (y .ps) e .lines) (slice entries (entries + m) w₁))
-        (flatMap (λ e. replicate (length (pieceAt (y .rule) (y .ps) e .lines)) (sideOf e)) (slice entries (entries + m) w₁)))
+        (s : Listed w₂ w₁ n (merge (y .rule) (y .ps) (slice entries (entries + m) w₁)))
       where
-        lines-are : flatMap (λ e. pieceAt (y .rule) (y .ps) e .lines) (slice entries (entries + m) w₁) ≡ linesOf qs
-        lines-are = ap (λ (l : List ℕ). flatMap (λ e. pieceAt (y .rule) (y .ps) e .lines) l) entries-same ∙ lines-flat (y .rule) (y .ps) (y .ws)
+        abbrev p : Piece
+        p = merge (y .rule) (y .ps) (slice entries (entries + m) w₁)
 
-        marks-are : flatMap (λ e. replicate (length (pieceAt (y .rule) (y .ps) e .lines)) (sideOf e)) (slice entries (entries + m) w₁) ≡ marksOf qs
-        marks-are =
-            ap (λ (l : List ℕ). flatMap (λ e. replicate (length (pieceAt (y .rule) (y .ps) e .lines)) (sideOf e)) l) entries-same
-            ∙ marks-flat (y .rule) (y .ps) (y .ws)
+        lines-are : p .lines ≡ linesOf qs
+        lines-are = ap (λ (l : List ℕ). merge (y .rule) (y .ps) l .lines) entries-same ∙ lines-flat (y .rule) (y .ps) (y .ws)
+
+        marks-are : p .marks ≡ marksOf qs
+        marks-are = ap (λ (l : List ℕ). merge (y .rule) (y .ps) l .marks) entries-same ∙ marks-flat (y .rule) (y .ps) (y .ws)
+
+        listing-are : p .listing ≡ listingOf qs
+        listing-are = ap (λ (l : List ℕ). merge (y .rule) (y .ps) l .listing) entries-same ∙ listing-flat (y .rule) (y .ps) (y .ws)
 
         size : length w₂ ≡ length w₀
         size = s .size ∙ t .size
@@ -191,10 +213,11 @@ module _ (width : ℕ) (w₀ : List ℕ) (n old m entries lengths r : ℕ) (inpu
             ∙ sym (take-take (length qs * pieceSize) (n * memberBlock) w₂ b) ∙ ap (take (length qs * pieceSize)) (s .front) ∙ take-take (length qs * pieceSize) (n * memberBlock) w₁ b
             ∙ t .records
 
-        members-are : slice (0 + n * memberBlock) (0 + n * memberBlock + length (linesOf qs)) w₂ ≡ linesOf qs
-        members-are =
-            let e : 0 + n * memberBlock ≡ n * memberBlock = omega arith in
-            rw e (subst (λ (l : List ℕ). slice (n * memberBlock) (n * memberBlock + length l) w₂ ≡ l) lines-are (s .members))
+        -- what stands in a block from the start of w on
+        block-is : (block : ℕ) (l l′ : List ℕ) → l ≡ l′ → slice (n * block) (n * block + length l) w₂ ≡ l → slice (0 + n * block) (0 + n * block + length l′) w₂ ≡ l′
+        block-is block l l′ e h =
+            let z : 0 + n * block ≡ n * block = omega arith in
+            rw z (subst (λ (l : List ℕ). slice (n * block) (n * block + length l) w₂ ≡ l) e h)
 
         copies-are : take (length (flatMap copy qs) * width) g₁ ≡ flat width (flatMap copy qs)
         unfolding written
@@ -212,13 +235,15 @@ module _ (width : ℕ) (w₀ : List ℕ) (n old m entries lengths r : ℕ) (inpu
                     listed = y .listed;
                     room = omega (arith, y .front, y .held .room, size);
                     records = records-are;
-                    members = members-are;
+                    members = block-is memberBlock (p .lines) (linesOf qs) lines-are (s .members);
+                    marks = block-is markBlock (p .marks) (marksOf qs) marks-are (s .marks);
+                    listing = block-is listingBlock (p .listing) (listingOf qs) listing-are (s .listing);
+                    drawn = λ q b. each-getD Drawn qs q nothing pieces-drawn b;
                     full = λ q b. each-getD (λ p. 0 < length (p .lines)) qs q nothing pieces-full b;
                     own = λ q b. each-getD (λ p. length (p .lines) ≡ 1 → Own width input (y .counts) p) qs q nothing pieces-own b;
                     wide = λ q b. each-getD (λ p. AllWide width (p .points)) qs q nothing pieces-wide b;
                     copied = copies-are;
                   };
-              marks = subst (λ (l : List ℕ). slice (n * markBlock) (n * markBlock + length l) w₂ ≡ l) marks-are (s .turned);
               rest = s .rest ∙ rest-drop w₁ w₀ (n * memberBlock) (t .rest) (n * joinBlock) (omega arith);
               merged-is = t .merged-is;
             }

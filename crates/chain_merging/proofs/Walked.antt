@@ -93,7 +93,7 @@ module _ (width : ℕ) (w : List ℕ) (old from to : ℕ) (input spare m₀ : Li
     unfolding pieceAt
     first-word =
         first-own width w old (v .n) input spare (v .counts) (v .ps) (v .held) here in-pieces own
-        ∙ ap (λ (l : List ℕ). placeOf (v .counts) (record { lines = l; marks = []; points = []; group = 0 })) (sym (one-lines width w old from to input spare v single))
+        ∙ ap (λ (l : List ℕ). placeOf (v .counts) (record { lines = l; marks = []; listing = []; points = []; group = 0 })) (sym (one-lines width w old from to input spare v single))
 
     count-word : getD w (recordOf old here + 4) 0 ≡ length (p .points)
     unfolding pieceAt

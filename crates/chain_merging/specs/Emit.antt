@@ -1,9 +1,11 @@
 -- From walks to the pieces that come out of a round. The workspace w holds the pieces ps that went in, in the block at `old`, and the entries of the
 -- walks ws; the pieces that come out go into the block at its front. What the records below call rule, counts, ps and ws is known to the caller alone.
-use Prim.Native.Nat.{ℕ, _+_, _*_, _≤_, _<_}
+use Prim.Native.Nat.{ℕ, _+_, _*_, _%_, _≤_, _<_}
 use mathlib.Core.Path.{_≡_}
-use mathlib.Core.List.{List, [], map, flatMap, flatten}
-use lib.ListN.{length, getD, take, drop, replicate}
+use mathlib.Core.Bool.{cond}
+use mathlib.Core.List.{List, [], map, flatMap, flatten, reverse}
+use lib.Dec.{eqb}
+use lib.ListN.{length, getD, take, drop}
 use lib.Seq.{slice}
 use Rattle.rules.specs.Lists.{total}
 use Rattle.rules.specs.Plane.{flat}
@@ -12,9 +14,10 @@ use Rattle.rules.specs.Chaining.{Piece, Rule, pieceAt, merge}
 use Rattle.rules.specs.Layout.{copy, five, pieceTable}
 use Rattle.rules.specs.Refusals.{pieceSize}
 use Rattle.rules.specs.Calls.{written}
-use Rattle.chain_pieces.specs.Held.{linesOf, marksOf, Held}
+use Rattle.chain_laws.proofs.Drawn.{Low}
+use Rattle.chain_pieces.specs.Held.{linesOf, Held}
 use Rattle.point_slices.specs.Holds.{HoldsFrom}
-use Rattle.chain_pieces.specs.Map.{joinBlock, markBlock, memberBlock}
+use Rattle.chain_pieces.specs.Map.{joinBlock, listingBlock, markBlock, memberBlock}
 
 -- the points of the pieces that are entered, counted
 abbrev pub pointsIn : Rule → List Piece → List ℕ → ℕ
@@ -63,13 +66,39 @@ pub record Emitted (width : ℕ) (w′ w : List ℕ) (merged′ merged counts : 
   pub row : HoldsFrom w′ w at pieceSize (five counts m c p)
   pub copied : HoldsFrom merged′ merged (c * width) (length (copy p) * width) (flat width (copy p))
 
--- ---- the members and marks of all walks, whose m entries stand one after another
+-- ---- the lines of one piece: members, marks and listing, each in its block
 
--- the members of one piece are copied, and then its marks are set
-pub record Members (w′ w : List ℕ) (from at marks count mark : ℕ) : Type 0 where
+-- marks of lines that are turned once more where the side is 1
+abbrev pub turnedBy : ℕ → List ℕ → List ℕ
+turnedBy side marks = map (λ mark. (mark + side) % 2) marks
+
+-- a listing in the order in which its lines are passed from that side on
+abbrev pub passedBy : ℕ → List ℕ → List ℕ
+passedBy side listing = cond (eqb side 0) listing (reverse listing)
+
+pub record Turnable (w : List ℕ) (from at count side : ℕ) : Type 0 where
+  pub before : at + count ≤ from
+  pub inside : from + count ≤ length w
+  pub one : side ≤ 1
+  pub low : Low 1 (slice from (from + count) w)
+
+-- the lines of a piece stand so far on as `from` says in each block, and go so far on as `at` says in those at the front
+pub record Listable (w : List ℕ) (n from at count side : ℕ) : Type 0 where
+  pub fits : at + count ≤ n
+  pub beyond : n * joinBlock ≤ from
+  pub inside : from + n * listingBlock + count ≤ length w
+  pub one : side ≤ 1
+  pub low : Low 1 (slice (from + n * markBlock) (from + n * markBlock + count) w)
+
+-- the members are copied, then the marks are turned, and then the lines are listed as they are passed
+pub record Members (w′ w : List ℕ) (n from at count side : ℕ) : Type 0 where
   pub copied : List ℕ
-  pub members : HoldsFrom copied w at count (slice from (from + count) w)
-  pub marked : HoldsFrom w′ copied marks count (replicate count mark)
+  pub marked : List ℕ
+  pub members : HoldsFrom copied w (at + n * memberBlock) count (slice (from + n * memberBlock) (from + n * memberBlock + count) w)
+  pub marks : HoldsFrom marked copied (at + n * markBlock) count (turnedBy side (slice (from + n * markBlock) (from + n * markBlock + count) w))
+  pub listing : HoldsFrom w′ marked (at + n * listingBlock) count (passedBy side (slice (from + n * listingBlock) (from + n * listingBlock + count) w))
+
+-- ---- the lines of all walks, whose m entries stand one after another
 
 pub record PiecesListable (w : List ℕ) (n old entries m : ℕ) : Type 0 where
   pub width : ℕ
@@ -83,13 +112,15 @@ pub record PiecesListable (w : List ℕ) (n old entries m : ℕ) : Type 0 where
   pub beyond : n * joinBlock ≤ entries
   pub inside : entries + m ≤ length w
   pub below : (k : ℕ) → k < m → pieceOf (getD w (entries + k) 0) < length ps
-  pub fits : length (flatMap (λ e. pieceAt rule ps e .lines) (slice entries (entries + m) w)) ≤ n
+  pub fits : length (merge rule ps (slice entries (entries + m) w) .lines) ≤ n
 
-pub record Listed (w′ w : List ℕ) (n : ℕ) (lines marks : List ℕ) : Type 0 where
+-- p has the lines of all that is entered
+pub record Listed (w′ w : List ℕ) (n : ℕ) (p : Piece) : Type 0 where
   pub size : length w′ ≡ length w
   pub front : take (n * memberBlock) w′ ≡ take (n * memberBlock) w
-  pub members : slice (n * memberBlock) (n * memberBlock + length lines) w′ ≡ lines
-  pub turned : slice (n * markBlock) (n * markBlock + length marks) w′ ≡ marks
+  pub members : slice (n * memberBlock) (n * memberBlock + length (p .lines)) w′ ≡ p .lines
+  pub marks : slice (n * markBlock) (n * markBlock + length (p .marks)) w′ ≡ p .marks
+  pub listing : slice (n * listingBlock) (n * listingBlock + length (p .listing)) w′ ≡ p .listing
   pub rest : drop (n * joinBlock) w′ ≡ drop (n * joinBlock) w
 
 -- ---- all walks
@@ -122,10 +153,9 @@ pub record Tabled (width : ℕ) (w′ w : List ℕ) (n : ℕ) (merged′ merged 
   pub rest : drop (n * memberBlock) w′ ≡ drop (n * memberBlock) w
   pub merged-is : merged′ ≡ written (flat width (flatMap copy qs)) merged
 
--- THE PIECES THAT COME OUT: they stand in the block at the front, with their marks; beyond it w is as before
+-- THE PIECES THAT COME OUT: they stand in the block at the front; beyond it w is as before
 pub record Done (width : ℕ) (w′ w : List ℕ) (n : ℕ) (input merged′ merged counts : List ℕ) (qs : List Piece) : Type 0 where
   pub size : length w′ ≡ length w
   pub held : Held width w′ 0 n input merged′ counts qs
-  pub marks : slice (n * markBlock) (n * markBlock + length (marksOf qs)) w′ ≡ marksOf qs
   pub rest : drop (n * joinBlock) w′ ≡ drop (n * joinBlock) w
   pub merged-is : merged′ ≡ written (flat width (flatMap copy qs)) merged

@@ -1,5 +1,6 @@
-// From walks to the pieces that come out of a round: their records, members and marks go into the block at the front of the workspace, and the
-// coordinates of those that are no line alone into `merged`.
+// From walks to the pieces that come out of a round: their records, members, marks and listing go into the block at the front of the workspace, and
+// the coordinates of those that are no line alone into `merged`.
+use chain_pieces::LISTING;
 use chain_pieces::MARKS;
 use chain_pieces::MEMBERS;
 use rules::PIECE;
@@ -7,15 +8,14 @@ ghost use mathlib.Core.Path.{_≡_};
 ghost use mathlib.Core.List.{[], _∷_, map, flatMap};
 ghost use mathlib.Core.Option.{none};
 ghost use Prim.Native.Nat.{_+_, _*_, _≤_};
-ghost use lib.ListN.{length, take, replicate};
+ghost use lib.ListN.{length, take};
 ghost use lib.Seq.{slice};
 ghost use Rattle.rules.specs.Plane.{flat};
-ghost use Rattle.rules.specs.Walking.{sideOf};
-ghost use Rattle.rules.specs.Chaining.{lay, run, pieceAt, merge};
+ghost use Rattle.rules.specs.Chaining.{lay, run, merge};
 ghost use Rattle.point_slices.specs.Holds.{Holds, HoldsFrom};
 ghost use Rattle.point_slices.specs.Run.{laid, walked};
 ghost use Rattle.chain_pieces.specs.Held.{coordinatesAt, Recorded};
-ghost use Rattle.chain_merging.specs.Emit.{Counted, Mergeable, joinedOf, Emittable, Emitted, Members, PiecesListable, Listed, Walks, Tabled, Done};
+ghost use Rattle.chain_merging.specs.Emit.{Counted, Mergeable, joinedOf, Emittable, Emitted, turnedBy, passedBy, Turnable, Listable, Members, PiecesListable, Listed, Walks, Tabled, Done};
 
 // The coordinates of the piece whose record stands at p, behind the first `have` numbers of `rest`. Returns how many numbers there are.
 fn append_piece<'a>(
@@ -185,42 +185,86 @@ fn emit_walks<'a>(
     }
 }
 
-// Two members of one piece, from `from` on, again from `at` on, and their two marks from `marks` on.
-fn list_two(w: &mut [u64], from: usize, at: usize, marks: usize, mark: u64)
-    requires { ⌜ (at + 2 ≤ from) × (from + 2 ≤ length (now w)) × (marks + 2 ≤ length (now w)) ⌝ }
-    ensures { λ _. ⌜ Members (now (w .exit)) (now (w .entry)) from at marks 2 mark ⌝ }
+// The line of a piece of one: its member, its mark, turned once more where the piece is entered at end 1, and its place in the listing.
+fn list_one(w: &mut [u64], n: usize, from: usize, at: usize, side: usize)
+    requires { ⌜ Listable (now w) n from at 1 side ⌝ }
+    ensures { λ _. ⌜ Members (now (w .exit)) (now (w .entry)) n from at 1 side ⌝ }
 {
-    let first = w[from];
-    let second = w[from + 1];
-    w[at] = first;
-    w[at + 1] = second;
-    w[marks] = mark;
-    w[marks + 1] = mark;
+    let line = w[from + n * MEMBERS];
+    let mark = w[from + n * MARKS];
+    let passed = w[from + n * LISTING];
+    w[at + n * MEMBERS] = line;
+    w[at + n * MARKS] = (mark + side as u64) % 2;
+    w[at + n * LISTING] = passed;
 }
 
-// The members of one piece, `count` of them from `from` on, again from `at` on, and as many marks from `marks` on. One member or two are listed without a loop.
-fn list_members(w: &mut [u64], from: usize, at: usize, marks: usize, count: usize, mark: u64)
-    requires { ⌜ (at + count ≤ from) × (from + count ≤ length (now w)) × (marks + count ≤ length (now w)) ⌝ }
-    ensures { λ _. ⌜ Members (now (w .exit)) (now (w .entry)) from at marks count mark ⌝ }
+// The two lines of a piece: members and marks in their order, and in the listing that one first which is passed first.
+fn list_two(w: &mut [u64], n: usize, from: usize, at: usize, side: usize)
+    requires { ⌜ Listable (now w) n from at 2 side ⌝ }
+    ensures { λ _. ⌜ Members (now (w .exit)) (now (w .entry)) n from at 2 side ⌝ }
+{
+    let first = w[from + n * MEMBERS];
+    let second = w[from + n * MEMBERS + 1];
+    let one = w[from + n * MARKS];
+    let two = w[from + n * MARKS + 1];
+    let ahead = w[from + n * LISTING + side];
+    let behind = w[from + n * LISTING + (1 - side)];
+    w[at + n * MEMBERS] = first;
+    w[at + n * MEMBERS + 1] = second;
+    w[at + n * MARKS] = (one + side as u64) % 2;
+    w[at + n * MARKS + 1] = (two + side as u64) % 2;
+    w[at + n * LISTING] = ahead;
+    w[at + n * LISTING + 1] = behind;
+}
+
+// The marks of `count` lines, from `from` on, again from `at` on, which lies before them: turned once more where the side is 1.
+fn turn_marks(w: &mut [u64], from: usize, at: usize, count: usize, side: usize)
+    requires { ⌜ Turnable (now w) from at count side ⌝ }
+    ensures { λ _. ⌜ HoldsFrom (now (w .exit)) (now (w .entry)) at count (turnedBy side (slice from (from + count) (now (w .entry)))) ⌝ }
+{
+    let mut i = 0;
+    while i < count {
+        w[at + i] = (w[from + i] + side as u64) % 2;
+        i += 1;
+    }
+}
+
+// The listing of a piece of `count` lines, from `from` on, in the order in which they are passed, from `at` on, which lies before it.
+fn pass_lines(w: &mut [u64], from: usize, at: usize, count: usize, side: usize)
+    requires { ⌜ (at + count ≤ from) × (from + count ≤ length (now w)) ⌝ }
+    ensures { λ _. ⌜ HoldsFrom (now (w .exit)) (now (w .entry)) at count (passedBy side (slice from (from + count) (now (w .entry)))) ⌝ }
+{
+    if side == 0 {
+        point_slices::copy_down(w, from, at, count);
+        return;
+    }
+    point_slices::copy_back(w, from, at, count);
+}
+
+// The lines of one piece, `count` of them, from a block of pieces that went in into the block at the front: `from` and `at` say how far on in their blocks
+// each of members, marks and listing stands. One line or two are listed without a loop.
+fn list_members(w: &mut [u64], n: usize, from: usize, at: usize, count: usize, side: usize)
+    requires { ⌜ Listable (now w) n from at count side ⌝ }
+    ensures { λ _. ⌜ Members (now (w .exit)) (now (w .entry)) n from at count side ⌝ }
 {
     if count == 1 {
-        let line = w[from];
-        w[at] = line;
-        w[marks] = mark;
+        list_one(w, n, from, at, side);
         return;
     }
     if count == 2 {
-        list_two(w, from, at, marks, mark);
+        list_two(w, n, from, at, side);
         return;
     }
-    point_slices::copy_down(w, from, at, count);
-    point_slices::fill_from(w, marks, count, mark);
+    point_slices::copy_down(w, from + n * MEMBERS, at + n * MEMBERS, count);
+    turn_marks(w, from + n * MARKS, at + n * MARKS, count, side);
+    pass_lines(w, from + n * LISTING, at + n * LISTING, count, side);
 }
 
-// The members of the pieces that are entered, piece by piece, and for each the mark of its piece's entry.
+// The members of the pieces that are entered, piece by piece, their marks, and the lines in the order in which they are passed.
 fn list_pieces(w: &mut [u64], n: usize, old: usize, entries: usize, m: usize)
     requires { ⌜ PiecesListable (now w) n old entries m ⌝ }
-    ensures { λ _. ⌜ ((y : PiecesListable (now (w .entry)) n old entries m) → Listed (now (w .exit)) (now (w .entry)) n (flatMap (λ e. pieceAt (y .rule) (y .ps) e .lines) (slice entries (entries + m) (now (w .entry)))) (flatMap (λ e. replicate (length (pieceAt (y .rule) (y .ps) e .lines)) (sideOf e)) (slice entries (entries + m) (now (w .entry))))) ⌝ }
+    ensures { λ _. ⌜ ((y : PiecesListable (now (w .entry)) n old entries m)
+        → Listed (now (w .exit)) (now (w .entry)) n (merge (y .rule) (y .ps) (slice entries (entries + m) (now (w .entry))))) ⌝ }
 {
     let mut r: usize = 0;
     let mut k: usize = 0;
@@ -228,8 +272,8 @@ fn list_pieces(w: &mut [u64], n: usize, old: usize, entries: usize, m: usize)
         let e = w[entries + k] as usize;
         let p = old + e / 2 * PIECE;
         let count = w[p + 1] as usize;
-        let from = old + n * MEMBERS + w[p] as usize;
-        list_members(w, from, n * MEMBERS + r, n * MARKS + r, count, e as u64 % 2);
+        let from = old + w[p] as usize;
+        list_members(w, n, from, r, count, e % 2);
         r += count;
         k += 1;
     }

@@ -10,28 +10,35 @@ use lib.Seq.{slice}
 use Rattle.rules.specs.Plane.{sameKey}
 use Rattle.rules.specs.Chaining.{Piece, keyAt}
 use Rattle.rules.specs.Refusals.{pieceSize}
-use Rattle.chain_pieces.specs.Held.{linesOf, Held}
+use Rattle.chain_laws.proofs.Drawn.{marks-all, listings-long}
+use Rattle.chain_pieces.specs.Held.{linesOf, marksOf, listingOf, Held}
+use Rattle.chain_pieces.proofs.Reading.{each-drawn}
 use Rattle.point_slices.specs.Holds.{HoldsFrom}
 use Rattle.point_slices.proofs.Laws.{from-length, from-beyond, from-part}
 use Rattle.chain_grouping.specs.Group.{sameWords, wordsOf, Nodes}
 use Rattle.chain_joins.proofs.Regions.{slice-same, drop-same}
 use Rattle.chain_nodes.specs.Noded.{Noded, Joined}
-use Rattle.chain_pieces.specs.Map.{groupBlock, joinBlock, markBlock, memberBlock, takenBlock, takenMarks}
+use Rattle.chain_pieces.specs.Map.{groupBlock, joinBlock, listingBlock, markBlock, memberBlock, nodeBlock, takenBlock}
 
 -- pieces in a block that stays
 pub held-same : (width : ℕ) (w′ w : List ℕ) (base n : ℕ) (input copies counts : List ℕ) (ps : List Piece) → length w′ ≡ length w
-    → ((j : ℕ) → base ≤ j → j < base + n * markBlock → getD w′ j 0 ≡ getD w j 0)
+    → ((j : ℕ) → base ≤ j → j < base + n * joinBlock → getD w′ j 0 ≡ getD w j 0)
     → Held width w base n input copies counts ps → Held width w′ base n input copies counts ps
 held-same width w′ w base n input copies counts ps z s h =
     let r = h .room in
     let f = h .few in
     let l = h .listed in
+    let marked : length (marksOf ps) ≡ length (linesOf ps) = marks-all ps (each-drawn h) in
+    let passed : length (listingOf ps) ≡ length (linesOf ps) = listings-long ps (each-drawn h) in
     record {
       few = f;
       listed = l;
       room = omega arith;
       records = slice-same w′ w base (length ps * pieceSize) z (omega arith) (λ j a b. s j a (omega arith)) ∙ h .records;
       members = slice-same w′ w (base + n * memberBlock) (length (linesOf ps)) z (omega arith) (λ j a b. s j (omega arith) (omega arith)) ∙ h .members;
+      marks = slice-same w′ w (base + n * markBlock) (length (marksOf ps)) z (omega arith) (λ j a b. s j (omega arith) (omega arith)) ∙ h .marks;
+      listing = slice-same w′ w (base + n * listingBlock) (length (listingOf ps)) z (omega arith) (λ j a b. s j (omega arith) (omega arith)) ∙ h .listing;
+      drawn = h .drawn;
       full = h .full;
       own = h .own;
       wide = h .wide;
@@ -73,7 +80,7 @@ module _ {width : ℕ} {w : List ℕ} {n m : ℕ} {on : Bool} {limit : Float} {i
   joins-room = omega (arith, ends-few, y .room)
 
   -- the same ends, where the block of the pieces and the groups stay
-  unfoldable pub noded-kept : (w′ : List ℕ) → length w′ ≡ length w → ((j : ℕ) → n * takenBlock ≤ j → j < n * takenMarks → getD w′ j 0 ≡ getD w j 0)
+  unfoldable pub noded-kept : (w′ : List ℕ) → length w′ ≡ length w → ((j : ℕ) → n * takenBlock ≤ j → j < n * nodeBlock → getD w′ j 0 ≡ getD w j 0)
       → drop (n * groupBlock) w′ ≡ drop (n * groupBlock) w → Noded width w′ n m on limit input spare
   noded-kept w′ z s d =
       record {
@@ -97,7 +104,7 @@ module _ {width : ℕ} {w : List ℕ} {n m : ℕ} {on : Bool} {limit : Float} {i
     pub groups-same : drop (n * groupBlock) w′ ≡ drop (n * groupBlock) w
     groups-same = drop-same w′ w (n * groupBlock) (j .size) (j .beyond)
 
-    pub block-same : (i : ℕ) → n * takenBlock ≤ i → i < n * takenMarks → getD w′ i 0 ≡ getD w i 0
+    pub block-same : (i : ℕ) → n * takenBlock ≤ i → i < n * nodeBlock → getD w′ i 0 ≡ getD w i 0
     block-same i a b = j .kept i (omega (arith, ends-few)) (omega arith)
 
     abbrev pub noded-same : Noded width w′ n m on limit input spare

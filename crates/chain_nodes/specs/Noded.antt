@@ -16,7 +16,7 @@ use Rattle.chain_joins.specs.Node.{nodeOf, leading}
 use Rattle.chain_grouping.specs.Map.{lastBlock, nextBlock}
 use Rattle.chain_pieces.specs.Map.{groupBlock, joinBlock, nodeBlock, roundRoom, takenBlock}
 
--- the m ends of the pieces are grouped at 149 n, by words that are equal where their keys are
+-- the m ends of the pieces are grouped at 151 n, by words that are equal where their keys are
 pub record Noded (width : ℕ) (w : List ℕ) (n m : ℕ) (on : Bool) (limit : Float) (input spare : List ℕ) : Type 0 where
   pub rule : Rule
   pub counts : List ℕ

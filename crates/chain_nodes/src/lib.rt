@@ -1,5 +1,5 @@
-// From grouped ends to joins, node by node. A round's part of the workspace, for n lines, has the table of joins at 7 n, the pieces that went in at 12 n, room
-// for the ends of one node at 19 n and for their pairing at 21 n, and the groups at 149 n.
+// From grouped ends to joins, node by node. A round's part of the workspace, for n lines, has the table of joins at 8 n, the pieces that went in at 13 n, room
+// for the ends of one node at 21 n and for their pairing at 23 n, and the groups at 151 n.
 use chain_grouping::LAST;
 use chain_grouping::NEXT;
 use chain_pieces::GROUPS;

@@ -14,7 +14,7 @@ use Rattle.rules.specs.Lists.{keep, upto}
 use Rattle.rules.specs.Cell.{floor64}
 use Rattle.rules.specs.Plane.{Point, Key, key, sameKey, float, cellKey, keyOf, nought}
 use Rattle.rules.specs.Walking.{walks}
-use Rattle.rules.specs.Chaining.{Piece, Rule, mate, pieceAt, run, keyAt, node, endAt, chosen, joined, partner, merged, merge, join, Line, pieces, limitOf, cellsOf, roundOne, roundTwo, chains}
+use Rattle.rules.specs.Chaining.{Piece, Rule, mate, pieceAt, run, keyAt, node, endAt, chosen, joined, partner, merged, passed, turned, merge, join, Line, pieces, limitOf, cellsOf, roundOne, roundTwo, chains}
 use Rattle.chain_origins.proofs.Zeros.{zeroOf}
 use Rattle.chain_origins.proofs.Cells.{from-zero}
 
@@ -47,7 +47,7 @@ module _ (g h : Grid) (limit : Option Float) (ps : List Piece) (alike : (k : ℕ
   partner-alike e = ap (mate e) (joined-alike (node by-g ps e) ∙ ap (joined by-h ps) (node-alike e))
 
   merge-alike : (w : List ℕ) → merge by-g ps w ≡ merge by-h ps w
-  unfolding merge merged run pieceAt
+  unfolding merge passed turned merged run pieceAt
   merge-alike [] = refl
   merge-alike (e ∷ []) = refl
   merge-alike (e ∷ f ∷ w) = refl

@@ -1,4 +1,4 @@
--- Reading a piece: the words of its record say where its members and its coordinates stand, and there they stand.
+-- Reading a piece: the words of its record say where its members, marks, listing and coordinates stand, and there they stand.
 -- It is true because a record counts what the pieces before it wrote, and that is what stands before.
 use Prim.Native.Nat.{ℕ, suc, _+_, _-_, _*_, _≤_, _<_}
 use mathlib.Core.Path.{_≡_, refl, sym, ap, ap₂, _∙_}
@@ -16,12 +16,14 @@ use Rattle.rules.specs.Chaining.{Piece, nothing}
 use Rattle.rules.specs.Layout.{copied, copy, five, pieceTable}
 use Rattle.rules.specs.Refusals.{pieceSize, sourceOf}
 use Rattle.chain_laws.proofs.Lines.{flatMap-append}
-use Rattle.chain_laws.proofs.Records.{five-length, row-at, members-at, copy-at}
+use Rattle.chain_laws.proofs.Records.{five-length, row-at, field-at, copy-at}
+use Rattle.chain_laws.proofs.Counts.{Each, each-of}
+use Rattle.chain_laws.proofs.Drawn.{Drawn, listing-long, marks-all, listings-long}
 use Rattle.point_numbers.specs.Width.{Whole}
 use Rattle.point_numbers.proofs.Points.{flat-length, points-flat}
 use Rattle.point_slices.proofs.Laws.{slice-part, rest-slice}
-use Rattle.chain_pieces.specs.Held.{linesOf, recordOf, coordinatesAt, Recorded, placeOf, Held}
-use Rattle.chain_pieces.specs.Map.{markBlock, memberBlock}
+use Rattle.chain_pieces.specs.Held.{linesOf, marksOf, listingOf, recordOf, coordinatesAt, Recorded, placeOf, Held}
+use Rattle.chain_pieces.specs.Map.{joinBlock, listingBlock, markBlock, memberBlock}
 
 -- ---- the five numbers of a piece
 
@@ -72,6 +74,10 @@ part-front m l i k h = sym (slice-part i k (take m l)) ∙ ap (drop i) (take-tak
 pub part-part : (a m : ℕ) (l : List ℕ) (i k : ℕ) → i + k ≤ m → take k (drop i (slice a (a + m) l)) ≡ take k (drop (a + i) l)
 part-part a m l i k h =
     ap (λ (t : List ℕ). take k (drop i t)) (slice-part a m l) ∙ part-front m (drop a l) i k h ∙ ap (take k) (drop-drop i a l)
+
+-- a mark for each line, and a place in the listing
+pub each-drawn : {width : ℕ} {w : List ℕ} {base n : ℕ} {input copies counts : List ℕ} {ps : List Piece} → Held width w base n input copies counts ps → Each Drawn ps
+each-drawn {ps = ps} h = each-of Drawn ps nothing (h .drawn)
 
 module _ (width : ℕ) (w : List ℕ) (base n : ℕ) (input copies counts : List ℕ) (ps : List Piece) (h : Held width w base n input copies counts ps) (q : ℕ) (b : q < length ps) where
   abbrev p : Piece
@@ -141,18 +147,38 @@ module _ (width : ℕ) (w : List ℕ) (base n : ℕ) (input copies counts : List
   pub point-count : getD w (at + 4) 0 ≡ length (p .points)
   point-count = word 4 (omega arith) ∙ common .2
 
-  -- ---- the members
+  -- ---- the members, the marks and the listing
 
   pub members-inside : base + n * memberBlock + getD w at 0 + getD w (at + 1) 0 ≤ base + n * markBlock
   members-inside = omega (arith, first-member, member-count, lines-split, h .listed)
 
+  -- what stands for the piece in a block that has a number for each line of each piece
+  module _ (f : Piece → List ℕ) (block : ℕ)
+      (stands : slice (base + n * block) (base + n * block + length (flatMap f ps)) w ≡ flatMap f ps)
+      (all : length (flatMap f ps) ≡ length (linesOf ps))
+      (before : length (flatMap f pre) ≡ length (linesOf pre))
+      (here : length (f p) ≡ length (p .lines))
+    where
+      part-is : slice (base + n * block + getD w at 0) (base + n * block + getD w at 0 + getD w (at + 1) 0) w ≡ f p
+      part-is =
+          slice-part (base + n * block + getD w at 0) (getD w (at + 1) 0) w
+          ∙ ap₂ (λ (i k : ℕ). take k (drop (base + n * block + i) w)) first-member member-count
+          ∙ sym (part-part (base + n * block) (length (flatMap f ps)) w (length (linesOf pre)) (length (p .lines)) (omega (arith, lines-split, all)))
+          ∙ ap (λ (l : List ℕ). take (length (p .lines)) (drop (length (linesOf pre)) l)) (stands ∙ ap (λ (l : List Piece). flatMap f l) whole)
+          ∙ field-at counts pre p post f (length (linesOf pre)) (length (p .lines)) before here
+
+  drawn-pre : Each Drawn pre
+  drawn-pre = each-of Drawn pre nothing (λ i k. rw (getD-take q ps i nothing (omega (arith, pre-size))) (h .drawn i (omega (arith, pre-size))))
+
   pub members-are : slice (base + n * memberBlock + getD w at 0) (base + n * memberBlock + getD w at 0 + getD w (at + 1) 0) w ≡ p .lines
-  members-are =
-      slice-part (base + n * memberBlock + getD w at 0) (getD w (at + 1) 0) w
-      ∙ ap₂ (λ (i k : ℕ). take k (drop (base + n * memberBlock + i) w)) first-member member-count
-      ∙ sym (part-part (base + n * memberBlock) (length (linesOf ps)) w (length (linesOf pre)) (length (p .lines)) (omega (arith, lines-split)))
-      ∙ ap (λ (l : List ℕ). take (length (p .lines)) (drop (length (linesOf pre)) l)) (h .members ∙ ap linesOf whole)
-      ∙ members-at counts pre p post
+  members-are = part-is (λ (p : Piece). p .lines) memberBlock (h .members) refl refl refl
+
+  pub marks-are : slice (base + n * markBlock + getD w at 0) (base + n * markBlock + getD w at 0 + getD w (at + 1) 0) w ≡ p .marks
+  marks-are = part-is (λ (p : Piece). p .marks) markBlock (h .marks) (marks-all ps (each-drawn h)) (marks-all pre drawn-pre) (h .drawn q b .marked)
+
+  pub listing-is : slice (base + n * listingBlock + getD w at 0) (base + n * listingBlock + getD w at 0 + getD w (at + 1) 0) w ≡ p .listing
+  listing-is =
+      part-is (λ (p : Piece). p .listing) listingBlock (h .listing) (listings-long ps (each-drawn h)) (listings-long pre drawn-pre) (listing-long p (h .drawn q b))
 
   -- ---- the coordinates
 
@@ -232,6 +258,9 @@ held-beyond width w′ w base n k input copies counts ps e z c h =
       room = omega (arith, h .room);
       records = rest-slice w′ w k e base (length ps * pieceSize) c ∙ h .records;
       members = rest-slice w′ w k e (base + n * memberBlock) (length (linesOf ps)) (omega arith) ∙ h .members;
+      marks = rest-slice w′ w k e (base + n * markBlock) (length (marksOf ps)) (omega arith) ∙ h .marks;
+      listing = rest-slice w′ w k e (base + n * listingBlock) (length (listingOf ps)) (omega arith) ∙ h .listing;
+      drawn = h .drawn;
       full = h .full;
       own = h .own;
       wide = h .wide;

@@ -1,5 +1,5 @@
--- Pieces as a round's workspace holds them, as the layout of 01 writes chains: a block of 7 n words for n lines has their records, from its start on,
--- their members, from 5 n on, and their marks, from 6 n on. The coordinates of a piece of one line are the input's, and those of the other pieces stand
+-- Pieces as a round's workspace holds them, as the layout of 01 writes chains: a block of 8 n words for n lines has their records, from its start on,
+-- their members, from 5 n on, their marks, from 6 n on, and their listing, from 7 n on. The coordinates of a piece of one line are the input's, and those of the other pieces stand
 -- one after another in a slice of copies.
 use Prim.Native.Nat.{ℕ, _+_, _*_, _≤_, _<_}
 use mathlib.Core.Path.{_≡_}
@@ -12,13 +12,17 @@ use Rattle.rules.specs.Chaining.{Piece, nothing}
 use Rattle.rules.specs.Layout.{copy, pieceTable}
 use Rattle.point_numbers.specs.Width.{AllWide}
 use Rattle.rules.specs.Refusals.{pieceSize, sourceOf}
-use Rattle.chain_pieces.specs.Map.{markBlock, memberBlock}
+use Rattle.chain_laws.proofs.Drawn.{Drawn}
+use Rattle.chain_pieces.specs.Map.{joinBlock, listingBlock, markBlock, memberBlock}
 
 abbrev pub linesOf : List Piece → List ℕ
 linesOf ps = flatMap (λ p. p .lines) ps
 
 abbrev pub marksOf : List Piece → List ℕ
 marksOf ps = flatMap (λ p. p .marks) ps
+
+abbrev pub listingOf : List Piece → List ℕ
+listingOf ps = flatMap (λ p. p .listing) ps
 
 -- ---- the numbers of a record that stands at p in w
 
@@ -52,9 +56,12 @@ pub record Own (width : ℕ) (input counts : List ℕ) (p : Piece) : Type 0 wher
 pub record Held (width : ℕ) (w : List ℕ) (base n : ℕ) (input copies counts : List ℕ) (ps : List Piece) : Type 0 where
   pub few : length ps ≤ n
   pub listed : length (linesOf ps) ≤ n
-  pub room : base + n * markBlock ≤ length w
+  pub room : base + n * joinBlock ≤ length w
   pub records : slice base (base + length ps * pieceSize) w ≡ pieceTable counts 0 0 ps
   pub members : slice (base + n * memberBlock) (base + n * memberBlock + length (linesOf ps)) w ≡ linesOf ps
+  pub marks : slice (base + n * markBlock) (base + n * markBlock + length (marksOf ps)) w ≡ marksOf ps
+  pub listing : slice (base + n * listingBlock) (base + n * listingBlock + length (listingOf ps)) w ≡ listingOf ps
+  pub drawn : (q : ℕ) → q < length ps → Drawn (getD ps q nothing)
   pub full : (q : ℕ) → q < length ps → 0 < length (getD ps q nothing .lines)
   pub own : (q : ℕ) → q < length ps → length (getD ps q nothing .lines) ≡ 1 → Own width input counts (getD ps q nothing)
   pub wide : (q : ℕ) → q < length ps → AllWide width (getD ps q nothing .points)

@@ -8,26 +8,32 @@ ghost use Rattle.chain_pieces.specs.Held.{coordinatesAt, Recorded};
 
 // The map of a round's part of the workspace, in words for each line of the call: where each block begins. specs/Map.antt has the same numbers.
 
-// The pieces that come out: records from the start on, members, and marks.
+// The pieces that come out: records from the start on, members, marks, and listing.
 pub const MEMBERS: usize = 5;
 
 pub const MARKS: usize = 6;
 
+pub const LISTING: usize = 7;
+
 // Joins, visited marks, entries and lengths of walks.
-pub const JOINS: usize = 7;
+pub const JOINS: usize = 8;
 
-// The pieces that go in: records, and members.
-pub const TAKEN: usize = 12;
+// The pieces that go in: records, members, marks, and listing.
+pub const TAKEN: usize = 13;
 
-pub const TAKEN_MEMBERS: usize = 17;
+pub const TAKEN_MEMBERS: usize = 18;
+
+pub const TAKEN_MARKS: usize = 19;
+
+pub const TAKEN_LISTING: usize = 20;
 
 // The ends of one node, and their pairing.
-pub const NODE: usize = 19;
+pub const NODE: usize = 21;
 
-pub const PAIRING: usize = 21;
+pub const PAIRING: usize = 23;
 
 // The ends grouped by key, and their keys.
-pub const GROUPS: usize = 149;
+pub const GROUPS: usize = 151;
 
 // Five numbers as the record at `at`.
 pub fn put_record(

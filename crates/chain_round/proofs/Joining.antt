@@ -82,6 +82,5 @@ module _ (grid : Grid) {width : ℕ} {w₀ : List ℕ} {n m : ℕ} {s : Settings
           size = D .size ∙ z;
           number = W .number ∙ sym (length-map (walks (partner (ruleOf grid s) (y .rounding .ps)) m) (merge (ruleOf grid s) (y .rounding .ps)));
           held = D .held;
-          marks = D .marks;
           merged-is = D .merged-is;
         })

@@ -30,7 +30,7 @@ use Rattle.chain_nodes.proofs.Frames.{held-same, noded-kept}
 use Rattle.chain_walks.specs.Walks.{joinsOf, marksOf, walksOf, WalksReady, AllWalked}
 use Rattle.chain_round.specs.Round.{RoundWalked}
 use Rattle.chain_round.proofs.WalkedParts.{walked-entries, walked-lengths, walked-beyond}
-use Rattle.chain_pieces.specs.Map.{groupBlock, joinBlock, takenBlock, takenMarks}
+use Rattle.chain_pieces.specs.Map.{groupBlock, joinBlock, nodeBlock, takenBlock}
 use Rattle.chain_walks.specs.Map.{entryBlock, lengthBlock, walkRoom}
 
 -- a word of a part that is back
@@ -81,7 +81,7 @@ module _ {width : ℕ} {w₀ : List ℕ} {n : ℕ} (m : ℕ) {on : Bool} {limit 
         ∙ getD-drop (n * joinBlock) w₀ (j - n * joinBlock) 0
         ∙ ap (λ (i : ℕ). getD w₀ i 0) p
 
-    pub block-kept : (j : ℕ) → n * takenBlock ≤ j → j < n * takenMarks → getD w₁ j 0 ≡ getD w₀ j 0
+    pub block-kept : (j : ℕ) → n * takenBlock ≤ j → j < n * nodeBlock → getD w₁ j 0 ≡ getD w₀ j 0
     block-kept j a b = same₁ j (omega (arith, few))
 
     pub groups-kept : drop (n * groupBlock) w₁ ≡ drop (n * groupBlock) w₀

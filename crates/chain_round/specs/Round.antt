@@ -15,10 +15,10 @@ use Rattle.rules.specs.Chaining.{Piece, Rule, keyAt, partner}
 use Rattle.rules.specs.Layout.{copy}
 use Rattle.rules.specs.Refusals.{mostLines, limitBad}
 use Rattle.rules.specs.Calls.{written}
-use Rattle.chain_pieces.specs.Held.{marksOf, Held}
+use Rattle.chain_pieces.specs.Held.{Held}
 use Rattle.chain_grouping.specs.Group.{sameWords, wordsOf, Nodes}
 use Rattle.chain_keys.specs.Tells.{OneGroup}
-use Rattle.chain_pieces.specs.Map.{groupBlock, joinBlock, markBlock, roundRoom, takenBlock}
+use Rattle.chain_pieces.specs.Map.{groupBlock, joinBlock, roundRoom, takenBlock}
 use Rattle.chain_walks.specs.Map.{entryBlock, lengthBlock}
 
 -- m pieces stand in the block of those that go in
@@ -54,10 +54,9 @@ pub record Joinable (width : ℕ) (w : List ℕ) (n m : ℕ) (s : Settings) (gro
   pub fair : eqb (s .switch) 1 ≡ true → limitBad (s .limit) ≡ false
   pub fits : total (map (λ (p : Piece). length (p .points)) (rounding .ps)) * width ≤ length merged
 
--- THE PIECES THAT COME OUT, qs: they stand in the block at the front with their marks, and what they copy in `merged`
+-- THE PIECES THAT COME OUT, qs: they stand in the block at the front, and what they copy in `merged`
 pub record Rounded (width : ℕ) (w′ w : List ℕ) (n r : ℕ) (input merged′ merged counts : List ℕ) (qs : List Piece) : Type 0 where
   pub size : length w′ ≡ length w
   pub number : r ≡ length qs
   pub held : Held width w′ 0 n input merged′ counts qs
-  pub marks : slice (n * markBlock) (n * markBlock + length (marksOf qs)) w′ ≡ marksOf qs
   pub merged-is : merged′ ≡ written (flat width (flatMap copy qs)) merged

@@ -39,14 +39,17 @@ pub extern "C" fn lovasuku_build(
     table: &mut [u32],
     members: &mut [u32],
     marks: &mut [u8],
+    listing: &mut [u32],
     merged: &mut [u64],
     spare: &mut [u64],
     workspace: &mut [u64],
 ) -> u64
     ensures { λ r. ⌜ Numbered (λ a. Built «wkb_type» (lent (now (coordinates .entry)) (now (counts .entry)) (now (groups .entry)) (now (kinds .entry)))
         (record { tolerance = tolerance; «origin_x» = «origin_x»; «origin_y» = «origin_y»; switch = switch; limit = limit })
-        (rooms (now (table .entry)) (now (members .entry)) (now (marks .entry)) (now (merged .entry)) (now (spare .entry)) (now (workspace .entry)))
-        a (rooms (now (table .exit)) (now (members .exit)) (now (marks .exit)) (now (merged .exit)) (now (spare .exit)) (now (workspace .exit)))) r ⌝ }
+        (rooms (now (table .entry)) (now (members .entry)) (now (marks .entry)) (now (listing .entry))
+        (now (merged .entry)) (now (spare .entry)) (now (workspace .entry)))
+        a (rooms (now (table .exit)) (now (members .exit)) (now (marks .exit)) (now (listing .exit))
+        (now (merged .exit)) (now (spare .exit)) (now (workspace .exit)))) r ⌝ }
 {
     number(build_chains::build(
         wkb_type,
@@ -64,6 +67,7 @@ pub extern "C" fn lovasuku_build(
         table,
         members,
         marks,
+        listing,
         merged,
         spare,
         workspace,
@@ -211,14 +215,17 @@ pub extern "C" fn lovasuku_build_offset(
     table: &mut [u32],
     members: &mut [u32],
     marks: &mut [u8],
+    listing: &mut [u32],
     merged: &mut [u64],
     spare: &mut [u64],
     workspace: &mut [u64],
 ) -> u64
     ensures { λ r. ⌜ Numbered (λ a. BuiltOffset «wkb_type» (lent (now (coordinates .entry)) (now (counts .entry)) (now (groups .entry)) (now (kinds .entry)))
         tolerance «origin_x» «origin_y» switch offset
-        (rooms (now (table .entry)) (now (members .entry)) (now (marks .entry)) (now (merged .entry)) (now (spare .entry)) (now (workspace .entry)))
-        a (rooms (now (table .exit)) (now (members .exit)) (now (marks .exit)) (now (merged .exit)) (now (spare .exit)) (now (workspace .exit)))) r ⌝ }
+        (rooms (now (table .entry)) (now (members .entry)) (now (marks .entry)) (now (listing .entry))
+        (now (merged .entry)) (now (spare .entry)) (now (workspace .entry)))
+        a (rooms (now (table .exit)) (now (members .exit)) (now (marks .exit)) (now (listing .exit))
+        (now (merged .exit)) (now (spare .exit)) (now (workspace .exit)))) r ⌝ }
 {
     number(offset_calls::build_offset(
         wkb_type,
@@ -234,6 +241,7 @@ pub extern "C" fn lovasuku_build_offset(
         table,
         members,
         marks,
+        listing,
         merged,
         spare,
         workspace,

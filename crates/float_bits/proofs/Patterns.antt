@@ -60,9 +60,6 @@ wild-is n = go (n % 2 ^ 63) (mod-lt n (lit< tt)) (ltb (n % 2 ^ 63) 0x7ff0_0000_0
     go r h true e = rw e (omega (arith, ltb-true r 0x7ff0_0000_0000_0000 e))
     go r h false e = rw e (omega (arith, ltb-false r 0x7ff0_0000_0000_0000 e))
 
-pub wild-small : (n : ℕ) → (n % 2 ^ 63 + 2 ^ 52) / 2 ^ 63 ≤ 1
-wild-small n = let h : n % 2 ^ 63 < 2 ^ 63 = mod-lt n (lit< tt) in omega arith
-
 -- ---- NaNs
 pub is-nan : (x : Float) → isNan x ≡ true → x ≡ nan
 unfolding isNan

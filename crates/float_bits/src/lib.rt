@@ -1,14 +1,14 @@
 // Doubles as their 64 bits. Rattle's `f64::from_bits` and `f64::to_bits` are undefined at a NaN, so each of these asks first, and is total.
 ghost use mathlib.Core.Path.{_≡_};
 ghost use mathlib.Core.Bool.{not};
-ghost use Prim.Native.Nat.{_≤_};
+ghost use Prim.Native.Nat.{_/_, _^_, _<_};
 ghost use Rattle.rules.specs.Lists.{one};
 ghost use lib.Ieee.{binary64, ofBits, isNan, eq};
 ghost use lib.Ieee.Scale.{finite};
 ghost use Rattle.float_bits.specs.Bits.{bitsOf};
 
 // The weights of the sign and of the exponent's lowest place, the bits of the infinity above zero, and those of the NaN that stands for all of them.
-const SIGN: u64 = 0x8000_0000_0000_0000;
+pub const SIGN: u64 = 0x8000_0000_0000_0000;
 
 const UNIT: u64 = 0x0010_0000_0000_0000;
 
@@ -30,11 +30,11 @@ pub fn is_finite(n: u64) -> bool
     n % SIGN < INFINITE
 }
 
-// 1 where n is a NaN's bits or an infinity's, and 0 where it stands for a number: one more in the exponent's lowest place reaches the sign's.
-pub fn wild(n: u64) -> u64
-    ensures { λ r. ⌜ (r ≡ one (not (finite (ofBits binary64 n)))) × (r ≤ 1) ⌝ }
+// n without its sign and with one more in the exponent's lowest place, which reaches the sign's exactly where n is a NaN's bits or an infinity's.
+pub fn raised(n: u64) -> u64
+    ensures { λ r. ⌜ (r / 2 ^ 63 ≡ one (not (finite (ofBits binary64 n)))) × (r < 2 ^ 64) ⌝ }
 {
-    (n % SIGN + UNIT) / SIGN
+    n % SIGN + UNIT
 }
 
 // The value that n stands for. All bits of a NaN give the one NaN.

@@ -40,13 +40,16 @@ pub fn build_offset(
     table: &mut [u32],
     members: &mut [u32],
     marks: &mut [u8],
+    listing: &mut [u32],
     merged: &mut [u64],
     spare: &mut [u64],
     workspace: &mut [u64],
 ) -> Answer
     ensures { λ r. ⌜ BuiltOffset «wkb_type» (lent (now (coordinates .entry)) (now (counts .entry)) (now (groups .entry)) (now (kinds .entry))) tolerance «origin_x» «origin_y» switch offset
-        (rooms (now (table .entry)) (now (members .entry)) (now (marks .entry)) (now (merged .entry)) (now (spare .entry)) (now (workspace .entry)))
-        r (rooms (now (table .exit)) (now (members .exit)) (now (marks .exit)) (now (merged .exit)) (now (spare .exit)) (now (workspace .exit))) ⌝ }
+        (rooms (now (table .entry)) (now (members .entry)) (now (marks .entry)) (now (listing .entry))
+        (now (merged .entry)) (now (spare .entry)) (now (workspace .entry)))
+        r (rooms (now (table .exit)) (now (members .exit)) (now (marks .exit)) (now (listing .exit))
+        (now (merged .exit)) (now (spare .exit)) (now (workspace .exit))) ⌝ }
 {
     let limit = float_offset::limit_for(offset);
     renumbered(
@@ -67,6 +70,7 @@ pub fn build_offset(
             table,
             members,
             marks,
+            listing,
             merged,
             spare,
             workspace,

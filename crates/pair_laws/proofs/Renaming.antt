@@ -30,7 +30,7 @@ module _ (f : ℕ → ℕ) (r : Rising f) where
       go (inr (inl h)) = le-ltb (f i) (f j) (omega (arith, ap f h)) ∙ sym (le-ltb i j (omega arith))
       go (inr (inr h)) = le-ltb (f i) (f j) (omega (arith, r .up j i h)) ∙ sym (le-ltb i j (omega arith))
 
-  same-eqb : (i j : ℕ) → eqb (f i) (f j) ≡ eqb i j
+  pub same-eqb : (i j : ℕ) → eqb (f i) (f j) ≡ eqb i j
   same-eqb i j = go (three i j)
     where
       go : (i < j) ⊎ ((i ≡ j) ⊎ (j < i)) → eqb (f i) (f j) ≡ eqb i j
@@ -38,7 +38,7 @@ module _ (f : ℕ → ℕ) (r : Rising f) where
       go (inr (inl h)) = eq-eqb (f i) (f j) (ap f h) ∙ sym (eq-eqb i j h)
       go (inr (inr h)) = ne-eqb (f i) (f j) (λ e. omega (arith, r .up j i h)) ∙ sym (ne-eqb i j (λ e. omega arith))
 
-  same-count : (x : ℕ) (l : List ℕ) → count (f x) (map f l) ≡ count x l
+  pub same-count : (x : ℕ) (l : List ℕ) → count (f x) (map f l) ≡ count x l
   unfolding count
   same-count x [] = refl
   same-count x (a ∷ l) = ap₂ _+_ (ap one (same-eqb x a)) (same-count x l)

@@ -2,12 +2,12 @@
 -- A record determines its lists, so that every argument but the records and the bounds is found.
 use Prim.Native.Nat.{ℕ, zero, suc, _+_, _-_, _≤_, _<_}
 use mathlib.Core.Path.{_≡_, refl, sym, ap, ap₂, _∙_, subst}
-use mathlib.Core.List.{List, [], _∷_, _++_, append-assoc, append-nil}
+use mathlib.Core.List.{List, [], _∷_, _++_, append-assoc, append-nil, reverse, reverse-cons}
 use native.Mathlib.Omega.{arith}
 use native.Mathlib.Nat.{add-zero}
 use native.Mathlib.Numerals.{add-one}
-use lib.ListN.{length, take, drop, getD, set, replicate, length-append, take-append-drop, length-drop, drop-of-length-le, replicate-append-replicate}
-use lib.Seq.{length-slice, drop-append-le, length-take-le, getD-take, take-at, take-suc, take-all, take-take, drop-append-add, drop-drop, drop-cons, drop-at, getD-drop, set-at, slice}
+use lib.ListN.{length, take, drop, getD, set, replicate, length-append, length-reverse, List·getD-append, take-append-drop, length-drop, drop-of-length-le, replicate-append-replicate}
+use lib.Seq.{length-slice, drop-append-le, length-take-le, getD-take, take-at, take-suc, take-all, take-take, drop-append-add, drop-drop, drop-cons, drop-at, getD-drop, getD-append-seam, set-at, slice}
 use borrow.Rule.Slice.PartMut.{midOf, putMid}
 use Rattle.point_slices.specs.Holds.{Holds, HoldsFrom}
 
@@ -205,7 +205,7 @@ module _ (l′ l : List ℕ) (k : ℕ) (e : drop k l′ ≡ drop k l) where
   pub rest-slice : (a m : ℕ) → k ≤ a → slice a (a + m) l′ ≡ slice a (a + m) l
   rest-slice a m h = slice-part a m l′ ∙ ap (take m) (rest-drop a h) ∙ sym (slice-part a m l)
 
--- ---- the loops of the leaves: one number more of a copy, of a part copied down, and of a fill
+-- ---- the loops of the leaves: one number more of a copy, of a part copied down, in its order or the last first, and of a fill
 
 pub copy-more : (d d₀ s : List ℕ) (at i : ℕ) → HoldsFrom d d₀ at i (take i s) → at + length s ≤ length d₀ → i < length s
     → HoldsFrom (set d (at + i) (getD s i 0)) d₀ at (i + 1) (take (i + 1) s)
@@ -219,15 +219,39 @@ copy-done d d₀ s at i n h e k =
 pub part-length : (a k : ℕ) (l : List ℕ) → a + k ≤ length l → length (slice a (a + k) l) ≡ k
 part-length a k l h = length-slice a (a + k) l h ∙ omega arith
 
--- what is read beyond `at` is as it was
+-- what is read beyond what was written is as it was
+pub read-beyond : {d d₀ : List ℕ} {at i : ℕ} {out : List ℕ} (from n j : ℕ) → HoldsFrom d d₀ at i out → at + n ≤ from → from + n ≤ length d₀ → i ≤ n → j < n
+    → getD d (from + j) 0 ≡ getD (slice from (from + n) d₀) j 0
+read-beyond {d₀ = d₀} from n j h a b k c =
+    from-beyond h (omega arith) (from + j) (omega arith)
+    ∙ sym (ap (λ (t : List ℕ). getD t j 0) (slice-part from n d₀) ∙ getD-take n (drop from d₀) j 0 c ∙ getD-drop from d₀ j 0)
+
 pub down-more : (d d₀ : List ℕ) (from at n i : ℕ) → HoldsFrom d d₀ at i (take i (slice from (from + n) d₀)) → at + n ≤ from → from + n ≤ length d₀ → i < n
     → HoldsFrom (set d (at + i) (getD d (from + i) 0)) d₀ at (i + 1) (take (i + 1) (slice from (from + n) d₀))
 down-more d d₀ from at n i h a b c =
     let k : length (slice from (from + n) d₀) ≡ n = part-length from n d₀ (omega arith) in
-    let same : getD d (from + i) 0 ≡ getD (slice from (from + n) d₀) i 0 =
-    from-beyond h (omega arith) (from + i) (omega arith)
-    ∙ sym (ap (λ (t : List ℕ). getD t i 0) (slice-part from n d₀) ∙ getD-take n (drop from d₀) i 0 c ∙ getD-drop from d₀ i 0) in
-    rw same (copy-more d d₀ (slice from (from + n) d₀) at i h (omega arith) (omega arith))
+    rw (read-beyond from n i h a b (omega arith) c) (copy-more d d₀ (slice from (from + n) d₀) at i h (omega arith) (omega arith))
+
+-- a number of a list that is turned round
+pub getD-back : (l : List ℕ) (i j : ℕ) → i + j + 1 ≡ length l → getD (reverse l) i 0 ≡ getD l j 0
+getD-back [] i j e = absurd (omega arith)
+getD-back (a ∷ l) i zero e =
+    let n : length (reverse l) ≡ i = omega (arith, length-reverse l) in
+    ap (λ (t : List ℕ). getD t i 0) (reverse-cons a l)
+    ∙ ap (λ (k : ℕ). getD (reverse l ++ (a ∷ [])) k 0) (sym n) ∙ getD-append-seam (reverse l) a [] 0
+getD-back (a ∷ l) i (suc j) e =
+    ap (λ (t : List ℕ). getD t i 0) (reverse-cons a l)
+    ∙ List·getD-append (reverse l) (a ∷ []) 0 i (omega (arith, length-reverse l)) ∙ getD-back l i j (omega arith)
+
+pub back-more : (d d₀ : List ℕ) (from at n i : ℕ) → HoldsFrom d d₀ at i (take i (reverse (slice from (from + n) d₀))) → at + n ≤ from → from + n ≤ length d₀ → i < n
+    → HoldsFrom (set d (at + i) (getD d (from + (n - 1 - i)) 0)) d₀ at (i + 1) (take (i + 1) (reverse (slice from (from + n) d₀)))
+back-more d d₀ from at n i h a b c =
+    let l = slice from (from + n) d₀ in
+    let k : length l ≡ n = part-length from n d₀ (omega arith) in
+    let e : i + (n - 1 - i) + 1 ≡ length l = omega arith in
+    let same : getD d (from + (n - 1 - i)) 0 ≡ getD (reverse l) i 0 =
+    read-beyond from n (n - 1 - i) h a b (omega arith) (omega arith) ∙ sym (getD-back l i (n - 1 - i) e) in
+    rw same (copy-more d d₀ (reverse l) at i h (omega (arith, length-reverse l)) (omega (arith, length-reverse l)))
 
 pub fill-more : (d d₀ : List ℕ) (at i v : ℕ) → HoldsFrom d d₀ at i (replicate i v) → at + i < length d₀ → HoldsFrom (set d (at + i) v) d₀ at (i + 1) (replicate (i + 1) v)
 fill-more d d₀ at i v h r =

@@ -2,7 +2,7 @@
 // A point is `width` numbers in their 64 bits: x, y and its extras.
 ghost use mathlib.Core.Path.{_≡_};
 ghost use mathlib.Core.Bool.{true, false};
-ghost use mathlib.Core.List.{[], _∷_};
+ghost use mathlib.Core.List.{[], _∷_, reverse};
 ghost use Prim.Native.Nat.{_+_, _≤_, _<_};
 ghost use lib.ListN.{length, take, replicate};
 ghost use lib.Seq.{slice};
@@ -170,6 +170,18 @@ pub fn copy_down(w: &mut [u64], from: usize, at: usize, n: usize)
     let mut i = 0;
     while i < n {
         w[at + i] = w[from + i];
+        i += 1;
+    }
+}
+
+// The n numbers from `from` on, the last first, from `at` on, which lies before them.
+pub fn copy_back(w: &mut [u64], from: usize, at: usize, n: usize)
+    requires { ⌜ (at + n ≤ from) × (from + n ≤ length (now w)) ⌝ }
+    ensures { λ _. ⌜ HoldsFrom (now (w .exit)) (now (w .entry)) at n (reverse (slice from (from + n) (now (w .entry)))) ⌝ }
+{
+    let mut i = 0;
+    while i < n {
+        w[at + i] = w[from + (n - 1 - i)];
         i += 1;
     }
 }

@@ -1,6 +1,6 @@
 -- Cases A to N of 01, computed on the book: `cases` is the single checked list of those that are marked P, `others` has G, I and N, `slips` tells
 -- what the cases leave open of 01's plausible slips, and `places` which coordinates are no place, and when 15 is given.
--- Written x,y there and x, y one after the other here. Marks, which 01 gives for C alone, are worked out by its rule for turned.
+-- Written x,y there and x, y one after the other here. Marks, which 01 gives for C alone, and listings, which 02 [6] gives for H alone, are worked out by their rules.
 use Prim.Native.Nat.{ℕ, _+_, _*_}
 use mathlib.Core.Bool.{Bool, true, false, _&&_}
 use mathlib.Core.List.{List, [], _∷_}
@@ -50,7 +50,7 @@ use Rattle.rules.proofs.Given.{
 -- no lines: 0 chains
 case-a : Bool
 unfolding builds
-case-a = builds (exactly [] []) [] [] [] []
+case-a = builds (exactly [] []) [] [] [] [] []
 
 -- one chain; in two groups, two
 case-b : Bool
@@ -61,11 +61,13 @@ case-b =
     ((0 ∷ 2 ∷ 1 ∷ 0 ∷ 3 ∷ 0 ∷ []) ∷ [])
     (0 ∷ 1 ∷ [])
     (0 ∷ 0 ∷ [])
+    (0 ∷ 1 ∷ [])
     (+0 ∷ +0 ∷ +1 ∷ +0 ∷ +2 ∷ +0 ∷ [])
     && builds (exactly (0 ∷ 1 ∷ []) lines)
     ((0 ∷ 1 ∷ 0 ∷ 0 ∷ 2 ∷ 0 ∷ []) ∷ (1 ∷ 1 ∷ 0 ∷ 2 ∷ 2 ∷ 0 ∷ []) ∷ [])
     (0 ∷ 1 ∷ [])
     (0 ∷ 0 ∷ [])
+    (0 ∷ 1 ∷ [])
     []
 
 -- the head is line 1's end 1
@@ -76,17 +78,19 @@ case-c =
     ((0 ∷ 2 ∷ 1 ∷ 0 ∷ 3 ∷ 0 ∷ []) ∷ [])
     (1 ∷ 0 ∷ [])
     (1 ∷ 0 ∷ [])
+    (1 ∷ 0 ∷ [])
     (+2 ∷ +0 ∷ +1 ∷ +0 ∷ +0 ∷ +0 ∷ [])
 
 -- a closed line is alone; a ring of two is one chain of four coordinates: both are loops
 case-d : Bool
 unfolding builds
 case-d =
-    builds (exactly (0 ∷ []) ((+0 ∷ +0 ∷ +1 ∷ +0 ∷ +0 ∷ +1 ∷ +0 ∷ +0 ∷ []) ∷ [])) ((0 ∷ 1 ∷ 0 ∷ 0 ∷ 4 ∷ 1 ∷ []) ∷ []) (0 ∷ []) (0 ∷ []) []
+    builds (exactly (0 ∷ []) ((+0 ∷ +0 ∷ +1 ∷ +0 ∷ +0 ∷ +1 ∷ +0 ∷ +0 ∷ []) ∷ [])) ((0 ∷ 1 ∷ 0 ∷ 0 ∷ 4 ∷ 1 ∷ []) ∷ []) (0 ∷ []) (0 ∷ []) (0 ∷ []) []
     && builds (exactly (0 ∷ 0 ∷ []) ((+0 ∷ +0 ∷ +1 ∷ +0 ∷ []) ∷ (+1 ∷ +0 ∷ +1 ∷ +1 ∷ +0 ∷ +0 ∷ []) ∷ []))
     ((0 ∷ 2 ∷ 1 ∷ 0 ∷ 4 ∷ 1 ∷ []) ∷ [])
     (0 ∷ 1 ∷ [])
     (0 ∷ 0 ∷ [])
+    (0 ∷ 1 ∷ [])
     (+0 ∷ +0 ∷ +1 ∷ +0 ∷ +1 ∷ +1 ∷ +0 ∷ +0 ∷ [])
 
 -- three lines from one point, limit -0.5
@@ -107,11 +111,13 @@ case-e =
     ((0 ∷ 2 ∷ 1 ∷ 0 ∷ 3 ∷ 0 ∷ []) ∷ (2 ∷ 1 ∷ 0 ∷ 4 ∷ 2 ∷ 0 ∷ []) ∷ [])
     (0 ∷ 1 ∷ 2 ∷ [])
     (0 ∷ 0 ∷ 0 ∷ [])
+    (0 ∷ 1 ∷ 2 ∷ [])
     (-1 ∷ +0 ∷ +0 ∷ +0 ∷ +1 ∷ +0 ∷ [])
     && builds (fork 0)
     ((0 ∷ 1 ∷ 0 ∷ 0 ∷ 2 ∷ 0 ∷ []) ∷ (1 ∷ 1 ∷ 0 ∷ 2 ∷ 2 ∷ 0 ∷ []) ∷ (2 ∷ 1 ∷ 0 ∷ 4 ∷ 2 ∷ 0 ∷ []) ∷ [])
     (0 ∷ 1 ∷ 2 ∷ [])
     (0 ∷ 0 ∷ 0 ∷ [])
+    (0 ∷ 1 ∷ 2 ∷ [])
     []
 
 -- the zeros are two keys and one coordinate
@@ -122,6 +128,7 @@ case-f =
     ((0 ∷ 2 ∷ 1 ∷ 0 ∷ 1 ∷ 0 ∷ []) ∷ [])
     (0 ∷ 1 ∷ [])
     (0 ∷ 0 ∷ [])
+    (0 ∷ 1 ∷ [])
     (+0 ∷ +0 ∷ [])
 
 -- two lines, tolerance 1
@@ -142,10 +149,11 @@ case-g =
     ((0 ∷ 2 ∷ 1 ∷ 0 ∷ 4 ∷ 0 ∷ []) ∷ [])
     (0 ∷ 1 ∷ [])
     (0 ∷ 0 ∷ [])
+    (0 ∷ 1 ∷ [])
     (+0·25 ∷ +0 ∷ +1·25 ∷ +0 ∷ +1·75 ∷ +0 ∷ +3·5 ∷ +0 ∷ [])
-    && builds (near +2) ((0 ∷ 1 ∷ 0 ∷ 0 ∷ 2 ∷ 0 ∷ []) ∷ (1 ∷ 1 ∷ 0 ∷ 2 ∷ 2 ∷ 0 ∷ []) ∷ []) (0 ∷ 1 ∷ []) (0 ∷ 0 ∷ []) []
+    && builds (near +2) ((0 ∷ 1 ∷ 0 ∷ 0 ∷ 2 ∷ 0 ∷ []) ∷ (1 ∷ 1 ∷ 0 ∷ 2 ∷ 2 ∷ 0 ∷ []) ∷ []) (0 ∷ 1 ∷ []) (0 ∷ 0 ∷ []) (0 ∷ 1 ∷ []) []
 
--- lines 1 and 2 are one piece after round one, which round two enters at end 1: the piece's members keep their order
+-- lines 1 and 2 are one piece after round one, which round two enters at end 1: the piece's members keep their order, and its listing is turned
 case-h : Bool
 unfolding builds
 case-h =
@@ -160,17 +168,19 @@ case-h =
     ((0 ∷ 3 ∷ 1 ∷ 0 ∷ 5 ∷ 0 ∷ []) ∷ [])
     (0 ∷ 1 ∷ 2 ∷ [])
     (0 ∷ 1 ∷ 1 ∷ [])
+    (0 ∷ 2 ∷ 1 ∷ [])
     (+0 ∷ +0 ∷ +1·25 ∷ +0 ∷ +1·75 ∷ +0 ∷ +3·5 ∷ +0 ∷ +4·5 ∷ +0 ∷ [])
 
 -- a lone line keeps its repeats
 case-i : Bool
 unfolding builds
 case-i =
-    builds (exactly (0 ∷ []) ((+0 ∷ +0 ∷ +0 ∷ +0 ∷ +1 ∷ +0 ∷ []) ∷ [])) ((0 ∷ 1 ∷ 0 ∷ 0 ∷ 3 ∷ 0 ∷ []) ∷ []) (0 ∷ []) (0 ∷ []) []
+    builds (exactly (0 ∷ []) ((+0 ∷ +0 ∷ +0 ∷ +0 ∷ +1 ∷ +0 ∷ []) ∷ [])) ((0 ∷ 1 ∷ 0 ∷ 0 ∷ 3 ∷ 0 ∷ []) ∷ []) (0 ∷ []) (0 ∷ []) (0 ∷ []) []
     && builds (exactly (0 ∷ 0 ∷ []) ((+0 ∷ +0 ∷ +0 ∷ +0 ∷ +1 ∷ +0 ∷ []) ∷ (+1 ∷ +0 ∷ +2 ∷ +0 ∷ []) ∷ []))
     ((0 ∷ 2 ∷ 1 ∷ 0 ∷ 3 ∷ 0 ∷ []) ∷ [])
     (0 ∷ 1 ∷ [])
     (0 ∷ 0 ∷ [])
+    (0 ∷ 1 ∷ [])
     (+0 ∷ +0 ∷ +1 ∷ +0 ∷ +2 ∷ +0 ∷ [])
 
 -- ties go by i and then j
@@ -251,7 +261,7 @@ unfolding book
 refusedBy kind switch x =
     refusalOf 2 (lent (+0 ∷ +0 ∷ +1 ∷ +0 ∷ +1 ∷ x ∷ []) (2 ∷ 1 ∷ []) (0 ∷ 0 ∷ []) (0 ∷ kind ∷ []))
     (record { tolerance = float +0; «origin_x» = float +0; «origin_y» = float +0; switch = switch; limit = float +0 })
-    (rooms [] [] [] [] [] [])
+    (rooms [] [] [] [] [] [] [])
 
 -- as many numbers as are beyond the scope, of one line, all of them NaN
 tooMany : ℕ
@@ -260,7 +270,7 @@ tooMany =
     let numbers = mostPoints * 2 + 2 in
     refusalOf 2 (lent (replicate numbers not-a-number) ((mostPoints + 1) ∷ []) (0 ∷ []) (0 ∷ []))
     (record { tolerance = float +0; «origin_x» = float +0; «origin_y» = float +0; switch = 0; limit = float +0 })
-    (rooms [] [] [] [] [] [])
+    (rooms [] [] [] [] [] [] [])
 
 place-nan : Bool
 unfolding refusedBy
@@ -296,6 +306,7 @@ place-overflow =
     ((0 ∷ 1 ∷ 0 ∷ 0 ∷ 2 ∷ 0 ∷ []) ∷ (1 ∷ 2 ∷ 1 ∷ 0 ∷ 3 ∷ 0 ∷ []) ∷ [])
     (0 ∷ 2 ∷ 1 ∷ [])
     (0 ∷ 1 ∷ 0 ∷ [])
+    (0 ∷ 2 ∷ 1 ∷ [])
     (+2^1023 ∷ +2^1023 ∷ +2^1023 ∷ +0 ∷ +0 ∷ +0 ∷ [])
 
 pub placeCases : List Bool
@@ -315,7 +326,7 @@ abbrev coarsely : Settings
 coarsely = record { tolerance = float +1; «origin_x» = float +0; «origin_y» = float +0; switch = 0; limit = float +0 }
 
 abbrev refusal : ℕ → ℕ → ℕ
-refusal t numbers = refusalOf t heights coarsely (rooms (replicate 12 0) (replicate 2 0) (replicate 2 0) (replicate numbers 0) (replicate numbers 0) (replicate 384 0))
+refusal t numbers = refusalOf t heights coarsely (rooms (replicate 12 0) (replicate 2 0) (replicate 2 0) (replicate 2 0) (replicate numbers 0) (replicate numbers 0) (replicate 384 0))
 
 pub extrasRide : Bool
 unfolding book

@@ -8,7 +8,7 @@ use Rattle.rules.specs.Cell.{floor64, cell}
 use Rattle.rules.specs.Plane.{numbersOf, reads, points, flat, equal, sameKey, exactKey, cellKey, keyOf, toward, straight, directionOf, clamp, dot, measure}
 use Rattle.rules.specs.Selecting.{within, pair, pairsWith, qualifying, before, insert, sorted, greedy, select}
 use Rattle.rules.specs.Walking.{back, forward, walk, walksFrom, walks}
-use Rattle.rules.specs.Chaining.{mate, lay, pieceAt, run, keyAt, node, endAt, chosen, joined, partner, merged, merge, join, plain, alone, pieces, limitOf, roundOne, roundTwo, chains}
+use Rattle.rules.specs.Chaining.{mate, lay, pieceAt, run, keyAt, node, endAt, chosen, joined, partner, merged, passed, turned, merge, join, plain, alone, pieces, limitOf, roundOne, roundTwo, chains}
 use Rattle.rules.specs.Layout.{lines, copied, copy, loop, five, six, rows, laidOut, build, given, ends, listed}
 use Rattle.rules.specs.Types.{widthOf}
 use Rattle.rules.specs.Refusals.{firstOf, anyAbove, limitBad, originBad, nowhere, anyNowhere, refusalOf, moreThanTwice, anyWild, pairRefusalOf}
@@ -31,7 +31,7 @@ unfolding within pair pairsWith qualifying before insert sorted greedy select
 the-pairs = tt
 
 unfoldable pub the-chains : Unit {0}
-unfolding back forward walk walksFrom walks mate lay pieceAt run keyAt node endAt chosen joined partner merged merge join plain alone pieces limitOf roundOne roundTwo chains
+unfolding back forward walk walksFrom walks mate lay pieceAt run keyAt node endAt chosen joined partner merged passed turned merge join plain alone pieces limitOf roundOne roundTwo chains
 the-chains = tt
 
 unfoldable pub the-calls : Unit {0}

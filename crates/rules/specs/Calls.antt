@@ -43,6 +43,7 @@ filled t l s o =
       table = written (builtOf t l s .records) (o .table);
       members = written (builtOf t l s .members) (o .members);
       marks = written (builtOf t l s .marks) (o .marks);
+      listing = written (builtOf t l s .listing) (o .listing);
       merged = written (builtOf t l s .merged) (o .merged);
       spare = cleared (length (l .coordinates)) (o .spare);
       workspace = cleared (length (l .counts) * lineRoom) (o .workspace);

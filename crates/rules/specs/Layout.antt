@@ -69,6 +69,7 @@ pub record Laid : Type 0 where
   pub records : List ℕ
   pub members : List ℕ
   pub marks : List ℕ
+  pub listing : List ℕ
   pub merged : List ℕ
 
 unfoldable pub laidOut : ℕ → List ℕ → List Piece → Laid
@@ -78,6 +79,7 @@ laidOut w counts ps =
       records = table counts 0 0 ps;
       members = flatMap (λ p. p .lines) ps;
       marks = flatMap (λ p. p .marks) ps;
+      listing = flatMap (λ p. p .listing) ps;
       merged = flat w (flatMap copy ps);
     }
 

@@ -156,8 +156,11 @@ pub struct Built {
     pub table: Vec<Record>,
     /// Line positions, chain by chain.
     pub members: Vec<u32>,
-    /// The turned mark of each member, in member order.
+    /// The turned mark of each member, in member order: 1 where it was turned in an odd number of
+    /// rounds.
     pub marks: Vec<u8>,
+    /// Line positions, chain by chain, in the order in which the coordinates pass them.
+    pub listing: Vec<u32>,
     /// The coordinates of the chains of more than one line, one after another.
     pub merged: Vec<u64>,
 }

@@ -39,12 +39,17 @@ pub fn built(call: &BuildCall, built: &Built) -> Checked {
     ensure(once == all, "the members are not the lines, each once")?;
     ensure(built.marks.len() == built.members.len(), "there is not one mark per member")?;
     ensure(built.marks.iter().all(|&mark| mark <= 1), "a mark is above 1")?;
+    ensure(
+        built.listing.len() == built.members.len(),
+        "the listing is not as long as the members",
+    )?;
     let (mut members, mut merged) = (0, 0);
     for record in &built.table {
         ensure(record[0] as usize == members, "a first member does not add up")?;
         members += record[1] as usize;
         ensure(members <= built.members.len(), "a chain has members beyond the last")?;
         let chain = &built.members[record[0] as usize..members];
+        listed(chain, &built.listing[record[0] as usize..members])?;
         match chain {
             [] => return Err("a chain has no member".to_string()),
             &[line] => lone(call, record, line as usize)?,
@@ -56,6 +61,14 @@ pub fn built(call: &BuildCall, built: &Built) -> Checked {
     ensure(members == built.members.len(), "the last members are in no chain")?;
     ensure(call.stride() * merged == built.merged.len(), "the merged coordinates do not add up")?;
     passing(call, built)
+}
+
+/// The listing of a chain has its members, each once.
+fn listed(chain: &[u32], listing: &[u32]) -> Checked {
+    let [mut members, mut lines] = [chain, listing].map(<[u32]>::to_vec);
+    members.sort_unstable();
+    lines.sort_unstable();
+    ensure(members == lines, "a listing does not have the members, each once")
 }
 
 /// A chain of one line names the line's own coordinates.

@@ -147,6 +147,7 @@ impl Writer {
         self.list(&built.table, Self::record);
         self.list(&built.members, Self::middle);
         self.list(&built.marks, Self::small);
+        self.list(&built.listing, Self::middle);
         self.list(&built.merged, Self::word);
     }
 
@@ -247,6 +248,7 @@ impl<'a> Reader<'a> {
             table: self.list(Self::numbers)?,
             members: self.list(Self::within)?,
             marks: self.list(Self::within)?,
+            listing: self.list(Self::within)?,
             merged: self.list(Self::word)?,
         })
     }

@@ -113,8 +113,26 @@ fn h_a_piece_walked_backwards_keeps_its_members_in_order() {
         [&[(0.0, 0.0), (1.25, 0.0)], &[(4.5, 0.0), (3.5, 0.0)], &[(3.5, 0.0), (1.75, 0.0)]];
     let built = build(&lines, 1.0, None);
     assert_eq!((built.members, built.marks), (vec![0, 1, 2], vec![0, 1, 1]));
+    assert_eq!(built.listing, [0, 2, 1]);
     let run = [(0.0, 0.0), (1.25, 0.0), (1.75, 0.0), (3.5, 0.0), (4.5, 0.0)];
     assert_eq!(built.merged, bits(&run));
+}
+
+#[test]
+fn a_mark_counts_the_rounds_in_which_a_line_was_turned() {
+    let first: &Line = &[(0.0, 0.0), (1.25, 0.0)];
+    let both = |lines: [&Line; 2]| {
+        let built = build(&[first, lines[0], lines[1]], 1.0, None);
+        (built.members, built.marks, built.listing)
+    };
+    // Turned by round one alone, and by both.
+    let once = both([&[(1.75, 0.0), (3.5, 0.0)], &[(4.5, 0.0), (3.5, 0.0)]]);
+    assert_eq!(once, (vec![0, 1, 2], vec![0, 0, 1], vec![0, 1, 2]));
+    let twice = both([&[(4.5, 0.0), (3.5, 0.0)], &[(1.75, 0.0), (3.5, 0.0)]]);
+    assert_eq!(twice, (vec![0, 1, 2], vec![0, 1, 0], vec![0, 2, 1]));
+    // A piece that round two leaves alone keeps its marks.
+    let alone = build(&[first, &[(2.0, 0.0), (1.25, 0.0)]], 0.1, None);
+    assert_eq!((alone.marks, alone.listing), (vec![0, 1], vec![0, 1]));
 }
 
 #[test]

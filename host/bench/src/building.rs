@@ -97,6 +97,7 @@ struct Rooms {
     table: Vec<u32>,
     members: Vec<u32>,
     marks: Vec<u8>,
+    listing: Vec<u32>,
     merged: Vec<f64>,
     spare: Vec<f64>,
     workspace: Vec<u64>,
@@ -110,6 +111,7 @@ impl Rooms {
             table: vec![u32::MAX; RECORD * n],
             members: vec![u32::MAX; n],
             marks: vec![u8::MAX; n],
+            listing: vec![u32::MAX; n],
             merged: vec![f64::NAN; numbers],
             spare: vec![f64::NAN; numbers],
             workspace: vec![u64::MAX; LINE_WORKSPACE * n],
@@ -117,12 +119,12 @@ impl Rooms {
     }
 
     fn lent(&mut self) -> door::BuildRooms<'_> {
-        let Rooms { table, members, marks, merged, spare, workspace } = self;
-        door::BuildRooms { table, members, marks, merged, spare, workspace }
+        let Rooms { table, members, marks, listing, merged, spare, workspace } = self;
+        door::BuildRooms { table, members, marks, listing, merged, spare, workspace }
     }
 
-    /// Tests that the rooms have the Rust's chains and are cleared where the rules say so. The
-    /// marks, which the Rust does not know, are not looked at.
+    /// Tests that the rooms have the Rust's chains and are cleared where the rules say so. Marks and
+    /// listing, which the Rust does not know, are not looked at.
     fn check(&self, chains: i64, rust: &Built) -> Result<(), String> {
         let merged = self.merged[..rust.merged.len()].iter().map(|number| number.to_bits());
         let table: Vec<u32> = rust.table.iter().flatten().copied().collect();

@@ -1,7 +1,7 @@
 //! A building call, put to the library and held to the judge's answer.
 
 use crate::room::{more, Dirt, Room};
-use crate::{extras, Door, Judge};
+use crate::{extras, laying, Door, Judge};
 use answers::offset::of_limit;
 use answers::random::Random;
 use answers::{BuildCall, Built, Refusal};
@@ -15,6 +15,8 @@ pub struct BuildRooms {
     pub members: Room<u32>,
     /// The members' turned marks.
     pub marks: Room<u8>,
+    /// The lines of all chains in the order in which the coordinates pass them.
+    pub listing: Room<u32>,
     /// The coordinates of the chains of several lines.
     pub merged: Room<f64>,
     /// Spare coordinates.
@@ -25,18 +27,19 @@ pub struct BuildRooms {
 
 impl BuildRooms {
     /// The lengths that the rooms of a call must have, in the order of the fields.
-    pub fn lengths(call: &BuildCall) -> [usize; 6] {
+    pub fn lengths(call: &BuildCall) -> [usize; 7] {
         let (n, numbers) = (call.counts.len(), call.coordinates.len());
-        [RECORD * n, n, n, numbers, numbers, LINE_WORKSPACE * n]
+        [RECORD * n, n, n, n, numbers, numbers, LINE_WORKSPACE * n]
     }
 
     /// Dirty rooms of exactly these lengths.
-    pub fn new(random: &mut Random, lengths: [usize; 6]) -> Self {
-        let [table, members, marks, merged, spare, workspace] = lengths;
+    pub fn new(random: &mut Random, lengths: [usize; 7]) -> Self {
+        let [table, members, marks, listing, merged, spare, workspace] = lengths;
         BuildRooms {
             table: Room::new(Dirt::some(random), table),
             members: Room::new(Dirt::some(random), members),
             marks: Room::new(Dirt::some(random), marks),
+            listing: Room::new(Dirt::some(random), listing),
             merged: Room::new(Dirt::some(random), merged),
             spare: Room::new(Dirt::some(random), spare),
             workspace: Room::new(Dirt::some(random), workspace),
@@ -54,6 +57,7 @@ impl BuildRooms {
         self.table.untouched("table")?;
         self.members.untouched("members")?;
         self.marks.untouched("marks")?;
+        self.listing.untouched("listing")?;
         self.merged.untouched("merged")?;
         self.spare.untouched("spare")?;
         self.workspace.untouched("workspace")
@@ -65,6 +69,7 @@ impl BuildRooms {
         self.table.begins_with("table", &built.table.concat())?;
         self.members.begins_with("members", &built.members)?;
         self.marks.begins_with("marks", &built.marks)?;
+        self.listing.begins_with("listing", &built.listing)?;
         self.merged.begins_with("merged", &merged)?;
         self.spare.cleared("spare", call.coordinates.len())?;
         self.workspace.cleared("workspace", LINE_WORKSPACE * call.counts.len())
@@ -72,9 +77,9 @@ impl BuildRooms {
 }
 
 /// Puts the call to the door, in rooms that the seed determines, and holds it to the judge's
-/// answer; once more with an offset in the limit's place, where the limit is of one; and one with
-/// extras to what is known of these without a judge. The error is a sentence about the first
-/// difference.
+/// answer; once more with an offset in the limit's place, where the limit is of one; and to what is
+/// known without a judge of listings and marks, and of extras where there are any. The error is a
+/// sentence about the first difference.
 pub fn compare_build(
     door: &dyn Door,
     judge: Judge,
@@ -88,7 +93,10 @@ pub fn compare_build(
     }
     match &wanted {
         // The rooms have been seen to hold this answer.
-        Ok(built) => extras::check(door, call, built, seed),
+        Ok(built) => {
+            laying::check(call, built)?;
+            extras::check(door, call, built, seed)
+        }
         Err(_) => Ok(()),
     }
 }

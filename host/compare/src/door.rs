@@ -102,6 +102,7 @@ fn lent(rooms: &mut BuildRooms) -> door::BuildRooms<'_> {
         table: rooms.table.lent(),
         members: rooms.members.lent(),
         marks: rooms.marks.lent(),
+        listing: rooms.listing.lent(),
         merged: rooms.merged.lent(),
         spare: rooms.spare.lent(),
         workspace: rooms.workspace.lent(),

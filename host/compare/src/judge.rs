@@ -11,7 +11,7 @@ const MANY_ENDS: usize = 1_024;
 /// Who says what the answer is.
 #[derive(Clone, Copy, Debug)]
 pub enum Judge {
-    /// The Rust original with the three edits of the rules. Marks, which it does not know, are the
+    /// The Rust original with the three edits of the rules. Marks and listings, which it does not know, are the
     /// model's.
     Oracle(Oracle),
     /// The rules in plain Rust.

@@ -12,6 +12,7 @@
 //! - [`room`]: rooms that show what was written into them.
 //! - [`building`], [`pairing`], [`why`]: one call, compared.
 //! - [`extras`]: what holds of heights and measures, judged apart from the model.
+//! - [`laying`]: that lines laid by listing and marks are their chain, judged apart from it too.
 //! - [`shrink`]: a call that differs, made small.
 //! - [`run`]: a whole run, on all cores.
 
@@ -23,6 +24,7 @@ pub mod calls;
 pub mod door;
 pub mod extras;
 pub mod judge;
+pub mod laying;
 pub mod pairing;
 pub mod room;
 pub mod run;

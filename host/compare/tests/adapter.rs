@@ -4,7 +4,7 @@ use answers::format::Recorded;
 use answers::model::plane::Point;
 use answers::replay::{load, FILES};
 use answers::{BuildCall, Built, Record, Refusal};
-use lovasuku_chains::{self as library, build_chains, LineInput, OwnedChain};
+use lovasuku_chains::{self as library, build_chains, LineInput, OwnedChain, PathLine};
 
 /// The angle in degrees that says the same as switch and limit, where one does to the bit.
 fn angle(call: &BuildCall) -> Option<f64> {
@@ -29,12 +29,12 @@ fn floats([x, y]: Point) -> (f64, f64) {
     (f64::from_bits(x), f64::from_bits(y))
 }
 
-/// Members, marks, the bits of points of a chain, and whether it is a loop.
-type Bits = (Vec<usize>, Vec<bool>, Vec<Point>, bool);
+/// Members, path, the bits of points of a chain, and whether it is a loop.
+type Bits = (Vec<usize>, Vec<PathLine>, Vec<Point>, bool);
 
 fn bits(chain: OwnedChain) -> Bits {
     let points = chain.points.into_iter().map(|(x, y)| [x.to_bits(), y.to_bits()]);
-    (chain.members, chain.turned, points.collect(), chain.is_loop)
+    (chain.members, chain.path, points.collect(), chain.is_loop)
 }
 
 /// The recorded chains. Lines that pass through have no points here.
@@ -46,9 +46,12 @@ fn recorded(call: &BuildCall, built: &Built) -> Vec<Bits> {
         let passes = call.kinds[lines[0]] == 1;
         let from = if source == 0 { &call.coordinates } else { &built.merged };
         let points = from[numbers].chunks_exact(2).map(|two| [two[0], two[1]]);
-        let turned = built.marks[places].iter().map(|&mark| mark == 1).collect();
+        let mark = |line: u32| built.members.iter().position(|&member| member == line);
+        let turned = |line: u32| mark(line).map_or(false, |place| built.marks[place] == 1);
+        let path =
+            built.listing[places].iter().map(|&line| PathLine { line, turned: turned(line) });
         let points = if passes { vec![] } else { points.collect() };
-        (lines, turned, points, looped == 1 && !passes)
+        (lines, path.collect(), points, looped == 1 && !passes)
     };
     built.table.iter().map(chain).collect()
 }

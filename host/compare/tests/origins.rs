@@ -72,6 +72,7 @@ fn built(door: &dyn Door, call: &BuildCall) -> Built {
     Built {
         members: rooms.members.lent()[..call.lines()].to_vec(),
         marks: rooms.marks.lent()[..call.lines()].to_vec(),
+        listing: rooms.listing.lent()[..call.lines()].to_vec(),
         merged: rooms.merged.lent()[..2 * merged].iter().map(|x| x.to_bits()).collect(),
         table,
     }

@@ -14,6 +14,9 @@ pub struct Chains<'a> {
     pub(crate) table: &'a [u32],
     pub(crate) members: &'a [u32],
     pub(crate) marks: &'a [u8],
+    pub(crate) listing: &'a [u32],
+    /// The turned marks in the listing's order.
+    pub(crate) way: &'a [u8],
     pub(crate) merged: &'a [f64],
 }
 
@@ -62,6 +65,12 @@ impl<'a> Chains<'a> {
         self.marks
     }
 
+    /// The lines of all chains, one chain after another as in the members, in the order in which the
+    /// coordinates pass them.
+    pub fn listing(&self) -> &'a [u32] {
+        self.listing
+    }
+
     /// All numbers of the coordinates of all chains of several lines, one chain after another.
     pub fn merged(&self) -> &'a [f64] {
         self.merged
@@ -85,6 +94,8 @@ impl<'a> Chains<'a> {
         Chain {
             members: part(self.members, member, members, 1),
             marks: part(self.marks, member, members, 1),
+            listing: part(self.listing, member, members, 1),
+            way: part(self.way, member, members, 1),
             coordinates: part(from, first, count, dimension.stride()),
             dimension,
             merged,
@@ -140,11 +151,23 @@ impl<'a> Iterator for Iter<'a> {
 
 impl ExactSizeIterator for Iter<'_> {}
 
-/// One chain: its members, their turned marks and its coordinates, none of them copied.
+/// A line on the way of a chain.
+#[derive(Clone, Copy, Debug, PartialEq, Eq, Hash)]
+pub struct PathLine {
+    /// The position of the line.
+    pub line: u32,
+    /// True where the way runs from the line's last coordinate to its first: the line was drawn
+    /// against it.
+    pub turned: bool,
+}
+
+/// One chain: its lines, the way each was drawn and its coordinates, none of them copied.
 #[derive(Clone, Copy, Debug, PartialEq)]
 pub struct Chain<'a> {
     members: &'a [u32],
     marks: &'a [u8],
+    listing: &'a [u32],
+    way: &'a [u8],
     coordinates: &'a [f64],
     dimension: Dimension,
     merged: bool,
@@ -152,19 +175,53 @@ pub struct Chain<'a> {
 }
 
 impl<'a> Chain<'a> {
-    /// The positions of its lines. Within a piece of several lines that was walked backwards they
-    /// stand in the piece's own order, not in that of the coordinates.
+    /// Its lines in the order in which its coordinates pass them, each with the way in which it was
+    /// drawn.
+    ///
+    /// Laid end to end in this order, each backwards where it is turned, without repeats of x and y,
+    /// they are the chain's coordinates by `==`; so it is proved, with a tolerance too.
+    ///
+    /// ```
+    /// use lovasuku_chains::{LinesBuf, Rooms, Settings};
+    ///
+    /// # fn main() -> Result<(), lovasuku_chains::Refusal> {
+    /// let mut roads = LinesBuf::default();
+    /// roads.push([[0.0, 0.0], [1.25, 0.0]], 0);
+    /// roads.push([[4.5, 0.0], [3.5, 0.0]], 0);
+    /// roads.push([[3.5, 0.0], [1.75, 0.0]], 0);
+    /// let mut rooms = Rooms::default();
+    /// let chains = rooms.build(roads.lines(), Settings::default().with_tolerance(1.0))?;
+    /// let chain = chains.get(0).unwrap();
+    /// let path = chain.path().map(|step| (step.line, step.turned));
+    /// assert!(path.eq([(0, false), (2, true), (1, true)]));
+    /// // The members stand in the order in which the two rounds appended them.
+    /// assert_eq!(chain.members(), [0, 1, 2]);
+    /// # Ok(())
+    /// # }
+    /// ```
+    pub fn path(&self) -> impl ExactSizeIterator<Item = PathLine> + 'a {
+        let step = |(&line, &mark): (&u32, &u8)| PathLine { line, turned: mark == 1 };
+        self.listing.iter().zip(self.way).map(step)
+    }
+
+    /// The positions of its lines in the order in which its coordinates pass them.
+    pub fn listing(&self) -> &'a [u32] {
+        self.listing
+    }
+
+    /// The positions of its lines in the order in which they were appended. Within a piece of several
+    /// lines that round two turned that is the piece's own order, not that of the coordinates.
     pub fn members(&self) -> &'a [u32] {
         self.members
     }
 
-    /// The turned mark of each member: 1 where the piece that held the line was entered at its
-    /// last coordinate in the last round that ran.
+    /// The turned mark of each member: 1 where the line was turned in an odd number of rounds, so that
+    /// it was drawn against the chain.
     pub fn marks(&self) -> &'a [u8] {
         self.marks
     }
 
-    /// The turned marks as truths.
+    /// The turned marks as truths, in the members' order.
     pub fn turned(&self) -> impl ExactSizeIterator<Item = bool> + 'a {
         self.marks.iter().map(|&mark| mark == 1)
     }

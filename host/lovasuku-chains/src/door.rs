@@ -49,6 +49,8 @@ pub struct BuildRooms<'a> {
     pub members: &'a mut [u32],
     /// n bytes: the members' turned marks.
     pub marks: &'a mut [u8],
+    /// n numbers: the lines of all chains in the order in which the coordinates pass them.
+    pub listing: &'a mut [u32],
     /// w c numbers: the coordinates of the chains of several lines.
     pub merged: &'a mut [f64],
     /// w c numbers, 0 after an accepted call.
@@ -117,6 +119,8 @@ pub fn build(wkb_type: u32, lines: Lines<'_>, settings: RawSettings, rooms: Buil
             rooms.members.len(),
             rooms.marks.as_mut_ptr(),
             rooms.marks.len(),
+            rooms.listing.as_mut_ptr(),
+            rooms.listing.len(),
             rooms.merged.as_mut_ptr(),
             rooms.merged.len(),
             rooms.spare.as_mut_ptr(),
@@ -211,6 +215,8 @@ pub fn build_offset(
             rooms.members.len(),
             rooms.marks.as_mut_ptr(),
             rooms.marks.len(),
+            rooms.listing.as_mut_ptr(),
+            rooms.listing.len(),
             rooms.merged.as_mut_ptr(),
             rooms.merged.len(),
             rooms.spare.as_mut_ptr(),

@@ -28,6 +28,7 @@
 //! | To | use |
 //! |---|---|
 //! | join lines | [`Rooms::build`], which gives [`Chains`] |
+//! | follow a chain through its lines, and see which way each was drawn | [`Chain::path`] |
 //! | pair the ends at one node | [`Rooms::pairs`] |
 //! | ask why two ends are joined or not | [`Rooms::why`], which gives a [`Reason`] |
 //! | state a bend as an offset per metre | [`Offset`], whose limit any call takes |
@@ -66,7 +67,7 @@ pub mod size;
 mod two;
 mod wkb;
 
-pub use chains::{Chain, Chains, Iter};
+pub use chains::{Chain, Chains, Iter, PathLine};
 pub use dimension::Dimension;
 pub use lines::{Lines, LinesBuf, PASSING, PLAIN};
 pub use nearest::Nearest;

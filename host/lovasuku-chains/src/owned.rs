@@ -1,7 +1,7 @@
 //! Chains that own what they hold, in the shape of tylertoo's `build_chains`.
 
 use crate::size::POINT;
-use crate::{Chain, LinesBuf, Refusal, Rooms, Settings};
+use crate::{Chain, LinesBuf, PathLine, Refusal, Rooms, Settings};
 
 /// A line for [`build_chains`].
 #[derive(Clone, Debug)]
@@ -18,8 +18,8 @@ pub struct LineInput<P> {
 pub struct OwnedChain {
     /// Positions of the lines among those given.
     pub members: Vec<usize>,
-    /// The turned mark of each member.
-    pub turned: Vec<bool>,
+    /// The same lines in the order in which the points pass them, each with the way it was drawn.
+    pub path: Vec<PathLine>,
     /// The chain's points, x and y of each. A line that was given without points has none.
     pub points: Vec<(f64, f64)>,
     /// Whether it is a loop, as [`Chain::is_loop`] tells. A line that was given without points is none.
@@ -30,7 +30,7 @@ impl From<Chain<'_>> for OwnedChain {
     fn from(chain: Chain<'_>) -> Self {
         OwnedChain {
             members: chain.members().iter().map(|&line| line as usize).collect(),
-            turned: chain.turned().collect(),
+            path: chain.path().collect(),
             points: chain.points().map(|[x, y]| (x, y)).collect(),
             is_loop: chain.is_loop(),
         }

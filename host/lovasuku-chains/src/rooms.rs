@@ -9,7 +9,7 @@ use crate::{Dimension, Ends, Lines, Reason, Refusal, Route, Settings};
 /// The rooms that are lent to every call, again and again.
 ///
 /// They grow where a call needs more than any before it, and never shrink, so that a run of calls
-/// soon allocates nothing: 1,565 bytes for each line and 16 for each number of a coordinate of the
+/// soon allocates nothing: 1,571 bytes for each line and 16 for each number of a coordinate of the
 /// largest call, at most 8.5 megabytes for x and y.
 ///
 /// ```
@@ -37,6 +37,9 @@ pub struct Rooms {
     table: Vec<u32>,
     members: Vec<u32>,
     marks: Vec<u8>,
+    listing: Vec<u32>,
+    turned: Vec<u8>,
+    way: Vec<u8>,
     merged: Vec<f64>,
     spare: Vec<f64>,
     pairs: Vec<u32>,
@@ -94,16 +97,19 @@ impl Rooms {
         let (switch, limit) = settings.switch_and_limit();
         let Settings { tolerance, origin, .. } = settings;
         let raw = RawSettings { tolerance, origin, switch, limit };
-        let Rooms { table, members, marks, merged, spare, workspace, .. } = self;
-        let rooms = BuildRooms { table, members, marks, merged, spare, workspace };
+        let Rooms { table, members, marks, listing, merged, spare, workspace, .. } = self;
+        let rooms = BuildRooms { table, members, marks, listing, merged, spare, workspace };
         let chains = door::result(door::build(lines.dimension.wkb_type(), lines, raw, rooms))?;
         let chains = chains as usize;
+        self.mark_the_way(n);
         let table = first(&self.table, RECORD * chains);
         Ok(Chains {
             lines,
             table,
             members: first(&self.members, n),
             marks: first(&self.marks, n),
+            listing: first(&self.listing, n),
+            way: first(&self.way, n),
             merged: first(&self.merged, lines.dimension.stride() * merged_points(table)),
         })
     }
@@ -185,10 +191,26 @@ impl Rooms {
         Reason::of_number(number, by_two(&self.pairs)).ok_or(Refusal::Unknown(number as i64))
     }
 
+    /// Puts the marks, which stand in the members' order, in that of the listing too, for so many
+    /// lines.
+    fn mark_the_way(&mut self, lines: usize) {
+        for (&line, &mark) in self.members.iter().zip(&self.marks).take(lines) {
+            if let Some(turned) = self.turned.get_mut(line as usize) {
+                *turned = mark;
+            }
+        }
+        for (mark, &line) in self.way.iter_mut().zip(&self.listing).take(lines) {
+            *mark = self.turned.get(line as usize).copied().unwrap_or_default();
+        }
+    }
+
     fn grow_for_building(&mut self, lines: usize, numbers: usize) {
         grow(&mut self.table, RECORD * lines);
         grow(&mut self.members, lines);
         grow(&mut self.marks, lines);
+        grow(&mut self.listing, lines);
+        grow(&mut self.turned, lines);
+        grow(&mut self.way, lines);
         grow(&mut self.merged, numbers);
         grow(&mut self.spare, numbers);
         grow(&mut self.workspace, LINE_WORKSPACE * lines);

@@ -1,6 +1,6 @@
 //! The cases of the rules, both sides of each edge, in order of letter.
 
-use lovasuku_chains::{Ends, LinesBuf, OwnedChain, Refusal, Rooms, Route, Settings};
+use lovasuku_chains::{Ends, LinesBuf, OwnedChain, PathLine, Refusal, Rooms, Route, Settings};
 
 type Point = (f64, f64);
 
@@ -23,6 +23,11 @@ fn built(lines: &[&[Point]], settings: Settings) -> Vec<OwnedChain> {
 
 fn members(chains: &[OwnedChain]) -> Vec<&[usize]> {
     chains.iter().map(|chain| &chain.members[..]).collect()
+}
+
+/// The lines of a chain in the order in which its points pass them, and whether each is turned.
+fn path(chain: &OwnedChain) -> Vec<(u32, bool)> {
+    chain.path.iter().map(|&PathLine { line, turned }| (line, turned)).collect()
 }
 
 fn exact() -> Settings {
@@ -58,7 +63,7 @@ fn case_b_two_lines_end_to_end() {
     let chains = built(&[first, second], exact());
     assert_eq!(members(&chains), [[0, 1]]);
     assert_eq!(chains[0].points, [(0., 0.), (1., 0.), (2., 0.)]);
-    assert_eq!(chains[0].turned, [false, false]);
+    assert_eq!(path(&chains[0]), [(0, false), (1, false)]);
     let apart = built_in(&[(first, 0), (second, 1)], exact());
     assert_eq!(members(&apart), [[0], [1]]);
 }
@@ -67,7 +72,7 @@ fn case_b_two_lines_end_to_end() {
 fn case_c_walked_from_the_free_end() {
     let chains = built(&[&[(1., 0.), (0., 0.)], &[(1., 0.), (2., 0.)]], exact());
     assert_eq!(members(&chains), [[1, 0]]);
-    assert_eq!(chains[0].turned, [true, false]);
+    assert_eq!(path(&chains[0]), [(1, true), (0, false)]);
     assert_eq!(chains[0].points, [(2., 0.), (1., 0.), (0., 0.)]);
 }
 
@@ -138,9 +143,27 @@ fn case_h_members_of_a_piece_walked_backwards() {
         [&[(0., 0.), (1.25, 0.)], &[(4.5, 0.), (3.5, 0.)], &[(3.5, 0.), (1.75, 0.)]];
     let chains = built(&lines, tolerance(1.));
     assert_eq!(members(&chains), [[0, 1, 2]]);
-    assert_eq!(chains[0].turned, [false, true, true]);
+    assert_eq!(path(&chains[0]), [(0, false), (2, true), (1, true)]);
     let x: Vec<f64> = chains[0].points.iter().map(|point| point.0).collect();
     assert_eq!(x, [0., 1.25, 1.75, 3.5, 4.5]);
+}
+
+#[test]
+fn a_mark_counts_both_rounds() {
+    // Round one turns line 2, which round two leaves as it is.
+    let once: [&[Point]; 3] =
+        [&[(0., 0.), (1.25, 0.)], &[(1.75, 0.), (3.5, 0.)], &[(4.5, 0.), (3.5, 0.)]];
+    let chains = built(&once, tolerance(1.));
+    assert_eq!(path(&chains[0]), [(0, false), (1, false), (2, true)]);
+    // Round one turns line 2, and round two turns it back.
+    let twice: [&[Point]; 3] =
+        [&[(0., 0.), (1.25, 0.)], &[(4.5, 0.), (3.5, 0.)], &[(1.75, 0.), (3.5, 0.)]];
+    let chains = built(&twice, tolerance(1.));
+    assert_eq!(members(&chains), [[0, 1, 2]]);
+    assert_eq!(path(&chains[0]), [(0, false), (2, false), (1, true)]);
+    // A piece that round two leaves alone keeps round one's marks.
+    let alone: [&[Point]; 2] = [&[(0., 0.), (1., 0.)], &[(2., 0.), (1., 0.)]];
+    assert_eq!(path(&built(&alone, tolerance(0.1))[0]), [(0, false), (1, true)]);
 }
 
 #[test]

@@ -62,10 +62,11 @@ impl Outcome<'_> {
 
     fn chains(&self, progress: &Progress) -> (Vec<u8>, Vec<String>) {
         let Outcome { request, delivery, measure, .. } = *self;
-        let own = own_names(&request.prefix, request.reading.explode);
+        let parts = request.reading.explode;
+        let own = own_names(&request.prefix, parts);
         let names = own.join(", ");
-        let written =
-            Chains { delivery, measure, keep: request.keep, own }.write(self.chains, progress);
+        let written = Chains { delivery, measure, keep: request.keep, own, parts }
+            .write(self.chains, progress);
         let mut warnings = Vec::new();
         if written.clashes > 0 {
             warnings.push(format!(
@@ -115,6 +116,7 @@ impl Outcome<'_> {
             name: &name,
             settings: &settings_in_words(self.request, self.measure),
             cells: cells(self.request),
+            arrows: self.request.arrows,
             delivery: self.delivery,
             measure: self.measure,
             chains: self.chains,

@@ -2,7 +2,7 @@
 
 mod networks;
 
-use lovasuku_chains::{large, Dimension, Settings};
+use lovasuku_chains::{large, Dimension, PathLine, Settings};
 use lovasuku_command::delivery::Point;
 use lovasuku_command::joining::{join, Capacity, Chain, Fault, Joint, JointKind, Line};
 use lovasuku_command::progress::Progress;
@@ -31,12 +31,12 @@ fn chains(network: &Network, settings: Settings, capacity: Capacity) -> Option<V
 }
 
 /// All of a chain, with its points as bits.
-type Bits<'a> = (&'a [u32], &'a [bool], Option<Vec<[u64; 2]>>, bool, &'a [Joint]);
+type Bits<'a> = (&'a [u32], &'a [PathLine], Option<Vec<[u64; 2]>>, bool, &'a [Joint]);
 
 fn bits(chain: &Chain) -> Bits<'_> {
     let points = chain.points.as_ref();
     let points = points.map(|points| points.iter().map(|point| point.map(f64::to_bits)).collect());
-    (&chain.members, &chain.turned, points, chain.is_loop, &chain.joints)
+    (&chain.members, &chain.path, points, chain.is_loop, &chain.joints)
 }
 
 /// Networks of so many seeds and of about so many lines, each with settings.
@@ -165,7 +165,8 @@ fn a_bridge_to_a_piece_that_was_turned() {
     // The piece of lines 1 and 2 runs from 6 to 1.75 and is walked backwards, so its members stand
     // against the way of the points.
     assert_eq!(chains[0].members, [0, 2, 1]);
-    assert_eq!(chains[0].turned, [false, true, true]);
+    let path = chains[0].path.iter().map(|step| (step.line, step.turned));
+    assert!(path.eq([(0, false), (1, true), (2, false)]));
     assert_eq!(chains[0].joints[0].lines, [0, 1]);
     assert_eq!(chains[0].joints[0].ends, [[1.25, 0.0], [1.75, 0.0]]);
     assert_eq!(chains[0].joints[1].lines, [1, 2]);

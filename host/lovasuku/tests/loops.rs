@@ -76,7 +76,7 @@ fn a_property_of_that_name_gives_way() {
     let named = line("[[500,0],[510,0],[500,0]]")
         .replace("\"geometry\"", "\"properties\":{\"loop\":\"north\"},\"geometry\"");
     let run = run(&["join", "-", "-o", "-"], &named);
-    assert!(run.err.contains("named like one of members, turned, count, loop"), "{}", run.err);
+    assert!(run.err.contains("named like one of members, path, count, loop"), "{}", run.err);
     assert_eq!(features(&run.out)[0]["properties"]["loop"], true);
     let chains = features(&joined(&named, &["--prefix", "x_"]));
     let properties = &chains[0]["properties"];

@@ -153,7 +153,7 @@ fn the_map_of_a_large_network_stays_small() {
     for (side, lines) in [(52, 5_408), (160, 51_200)] {
         let text = city(side);
         assert_eq!(text.lines().count(), lines);
-        let svg = map(&text, &["--tolerance", "3"]);
+        let svg = map(&text, &["--tolerance", "3", "--arrows"]);
         assert!((100_000..3_000_000).contains(&svg.len()), "{} bytes for {lines} lines", svg.len());
         // The longest chains and bridges are still drawn by themselves, and their places are told.
         let titles = ["<title>chain ", "<title>bridge of"].map(|title| times(&svg, title));

@@ -37,7 +37,9 @@ fn parts_of_multi_line_strings_are_joined_where_asked() {
     assert_eq!(members(&exploded), [r#"["a","m","m","b"]"#, r#"["m"]"#]);
     let chains = features(&exploded);
     assert_eq!(chains[0]["properties"]["parts"].to_string(), "[0,0,1,0]");
-    assert_eq!(chains[0]["properties"]["turned"].to_string(), "[false,false,true,false]");
+    let path = chains[0]["properties"]["path"].as_array().unwrap();
+    let turned: Vec<bool> = path.iter().map(|step| step["turned"] == true).collect();
+    assert_eq!(turned, [false, false, true, false]);
     assert_eq!(chains[1]["properties"]["parts"].to_string(), "[2]");
     assert_eq!(chains[1]["geometry"]["type"], "LineString");
     // Without ids a part is named by the position of its feature.

@@ -36,8 +36,8 @@ fn three() -> [String; 3] {
 #[test]
 fn what_a_chain_keeps() {
     let own = |more: Value| {
-        let mut all = json!({"members": [0, 1, 2], "turned": [false, false, false], "count": 3,
-            "loop": false});
+        let path = [0, 1, 2].map(|line| json!({"line": line, "turned": false}));
+        let mut all = json!({"members": [0, 1, 2], "path": path, "count": 3, "loop": false});
         all.as_object_mut().unwrap().extend(more.as_object().unwrap().clone());
         all
     };
@@ -59,12 +59,13 @@ fn properties_named_like_those_of_chains_are_told_of() {
     let (out, told) = join(&lines, &[]);
     assert_eq!(features(&out)[0]["properties"]["count"], 2);
     let warning =
-        "  warning  properties of the input named like one of members, turned, count, loop are \
+        "  warning  properties of the input named like one of members, path, count, loop are \
                    left out of 1 chain (--prefix PREFIX gives those of chains other names)\n";
     assert!(told.contains(warning), "{told}");
     let (out, told) = join(&lines, &["--prefix", "chain_"]);
     assert!(!told.contains("warning"), "{told}");
-    let wanted = json!({"chain_members": [0, 1], "chain_turned": [false, false], "chain_count": 2, "chain_loop": false,
+    let path = [0, 1].map(|line| json!({"line": line, "turned": false}));
+    let wanted = json!({"chain_members": [0, 1], "chain_path": path, "chain_count": 2, "chain_loop": false,
         "count": 9, "a": 1});
     assert_eq!(features(&out)[0]["properties"], wanted);
     for how in ["first", "longest", "list"] {
@@ -129,7 +130,7 @@ fn a_feature_a_line() {
     let plain = ["0", "1"].map(|id| {
         let x = if id == "0" { [0, 1] } else { [700, 701] };
         format!(
-            r#"{{"type":"Feature","id":{id},"properties":{{"members":[{id}],"turned":[false],"count":1,"loop":false,"a":{{ "b":  1}}}},"geometry":{{"type":"LineString","coordinates":[[{:.1},500.0],[{:.1},500.0]]}}}}"#,
+            r#"{{"type":"Feature","id":{id},"properties":{{"members":[{id}],"path":[{{"line":{id},"turned":false}}],"count":1,"loop":false,"a":{{ "b":  1}}}},"geometry":{{"type":"LineString","coordinates":[[{:.1},500.0],[{:.1},500.0]]}}}}"#,
             x[0] as f64, x[1] as f64
         )
     });

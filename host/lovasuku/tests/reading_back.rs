@@ -106,7 +106,7 @@ fn properties_stay_as_they_are_written() {
         format!(r#"{{"type":"FeatureCollection","crs":{crs},"features":[{}]}}"#, lines.join(","));
     let out = joined(&text, &[]);
     assert!(out.contains(&format!("\"crs\":{crs},")), "{out}");
-    let wanted = r#""properties":{"members":["a \"b\"",-2.50],"turned":[false,false],"count":2,"loop":false,"big":123456789012345678901234567890,"zeal":1.50,"a":"\u00e9 é","nested":{"z":1,"a":[]}}"#;
+    let wanted = r#""properties":{"members":["a \"b\"",-2.50],"path":[{"line":"a \"b\"","turned":false},{"line":-2.50,"turned":false}],"count":2,"loop":false,"big":123456789012345678901234567890,"zeal":1.50,"a":"\u00e9 é","nested":{"z":1,"a":[]}}"#;
     assert!(out.contains(wanted), "{out}");
 }
 

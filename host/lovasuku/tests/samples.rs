@@ -100,7 +100,7 @@ fn every_line_is_in_one_chain_and_counts_are_right() {
     for chain in &chains {
         let members = chain["properties"]["members"].as_array().unwrap();
         assert_eq!(chain["properties"]["count"], members.len());
-        assert_eq!(chain["properties"]["turned"].as_array().unwrap().len(), members.len());
+        assert_eq!(chain["properties"]["path"].as_array().unwrap().len(), members.len());
         all.extend(members.iter().map(Value::to_string));
     }
     let input = features(&sample_text("yard.geojson"));

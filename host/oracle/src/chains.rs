@@ -10,8 +10,8 @@ pub struct Chain {
     pub points: Vec<Point>,
 }
 
-/// The table, members and merged coordinates of the chains. The original knows no turned marks and no
-/// extras, so that the merged coordinates are x and y alone, whatever the call's type is. Nor does it
+/// The table, members and merged coordinates of the chains. The original knows no turned marks, no
+/// listing and no extras, so that the merged coordinates are x and y alone, whatever the call's type is. Nor does it
 /// know loops: whether a chain is one is told from its coordinates.
 ///
 /// A chain of one line names the line's own coordinates; the others stand in the merged

@@ -93,14 +93,15 @@ impl Oracle {
     }
 }
 
-/// The edited original as something that answers calls. The marks and the extras, which it does not
+/// The edited original as something that answers calls. The marks, the listing and the extras, which it does not
 /// know, are the model's, and so are the refusals of types that are none and of coordinates and
 /// origins that are no place.
 impl Port for Oracle {
     fn build(&mut self, call: &BuildCall) -> Result<Built, Refusal> {
-        let Built { marks, merged, .. } = Model.build(call)?;
+        let Built { marks, listing, merged, .. } = Model.build(call)?;
         let flat = without_marks(call, &self.chains(call));
-        Ok(Built { marks, merged: with_extras(&flat.merged, &merged, call.stride()), ..flat })
+        let merged = with_extras(&flat.merged, &merged, call.stride());
+        Ok(Built { marks, listing, merged, ..flat })
     }
 
     fn pairs(&mut self, route: Route, call: &PairingCall) -> Result<Vec<Pair>, Refusal> {

@@ -9,13 +9,13 @@ width-of-requires : tie.Need-width-of-requires
 width-of-requires c κs = search needs
 
 join-lines-requires : tie.Need-join-lines-requires
-join-lines-requires c κs = (joinable-by _ _ _ _ (c .before .before .before .before .before .before .before .before .before .before .before .before .before .before .pre) (c .before .before .before .width-of .ensures .0), spare-long _ _ _ _ (c .before .before .before .before .before .before .before .before .before .before .before .before .before .before .pre))
+join-lines-requires c κs = (joinable-by _ _ _ _ (c .before .before .before .before .before .before .before .before .before .before .before .before .before .before .before .pre) (c .before .before .before .width-of .ensures .0), spare-long _ _ _ _ (c .before .before .before .before .before .before .before .before .before .before .before .before .before .before .before .pre))
 
 mul-end : tie.Need-mul-end
-mul-end c = omega (arith, joinable _ _ _ _ (c .before .before .before .before .before .before .before .before .before .before .before .before .before .before .before .before .before .before .before .before .before .pre) .few)
+mul-end c = omega (arith, joinable _ _ _ _ (c .before .before .before .before .before .before .before .before .before .before .before .before .before .before .before .before .before .before .before .before .before .before .pre) .few)
 
 mul-lay-out : tie.Need-mul-lay-out
-mul-lay-out c = omega (arith, joinable _ _ _ _ (c .before .before .before .before .before .before .before .before .before .before .before .before .before .before .before .before .before .before .before .before .before .pre) .few)
+mul-lay-out c = omega (arith, joinable _ _ _ _ (c .before .before .before .before .before .before .before .before .before .before .before .before .before .before .before .before .before .before .before .before .before .before .pre) .few)
 
 sub-lay-out : tie.Need-sub-lay-out
 sub-lay-out c = search needs
@@ -24,18 +24,18 @@ part-lay-out-start : tie.Need-part-lay-out-start
 part-lay-out-start c = search needs
 
 part-lay-out-end : tie.Need-part-lay-out-end
-part-lay-out-end c = omega (arith, joinable _ _ _ _ (c .before .before .before .before .before .before .before .before .before .before .before .before .before .before .before .before .before .before .before .before .before .before .pre) .workspace-long)
+part-lay-out-end c = omega (arith, joinable _ _ _ _ (c .before .before .before .before .before .before .before .before .before .before .before .before .before .before .before .before .before .before .before .before .before .before .before .pre) .workspace-long)
 
 lay-out-requires : tie.Need-lay-out-requires
 lay-out-requires c κs =
-    let joined = c .before .before .before .before .before .before .before .before .before .before .before .before in
-    layable _ _ _ _ (joined .before .before .before .before .before .before .before .before .before .before .before .before .before .before .before .pre) (joined .before .before .before .before .width-of .ensures .0) (joined .join-lines .ensures)
+    let joined = c .before .before .before .before .before .before .before .before .before .before .before .before .before in
+    layable _ _ _ _ (joined .before .before .before .before .before .before .before .before .before .before .before .before .before .before .before .before .pre) (joined .before .before .before .before .width-of .ensures .0) (joined .join-lines .ensures)
 
 clear-requires : tie.Need-clear-requires
-clear-requires c κs = omega (arith, spare-long _ _ _ _ (c .before .before .before .before .before .before .before .before .before .before .before .before .before .before .before .before .before .before .before .before .before .before .before .before .before .before .before .before .before .before .before .before .before .before .before .pre))
+clear-requires c κs = omega (arith, spare-long _ _ _ _ (c .before .before .before .before .before .before .before .before .before .before .before .before .before .before .before .before .before .before .before .before .before .before .before .before .before .before .before .before .before .before .before .before .before .before .before .before .before .before .before .pre))
 
 clear-requires-2 : tie.Need-clear-requires-2
-clear-requires-2 c κs = omega (arith, joinable _ _ _ _ (c .before .before .before .before .before .before .before .before .before .before .before .before .before .before .before .before .before .before .before .before .before .before .before .before .before .before .before .before .before .before .before .before .before .before .before .before .before .before .before .pre) .workspace-long)
+clear-requires-2 c κs = omega (arith, joinable _ _ _ _ (c .before .before .before .before .before .before .before .before .before .before .before .before .before .before .before .before .before .before .before .before .before .before .before .before .before .before .before .before .before .before .before .before .before .before .before .before .before .before .before .before .before .before .before .pre) .workspace-long)
 
 same-length : tie.Need-same-length
 same-length c = search needs
@@ -55,12 +55,15 @@ same-length-5 c = search needs
 same-length-6 : tie.Need-same-length-6
 same-length-6 c = search needs
 
+same-length-7 : tie.Need-same-length-7
+same-length-7 c = search needs
+
 returns : tie.Need-returns
 unfolding layable
 returns c =
-    let laid = c .before .before .before .before .before .before .before .before .before .before .before .before .before .before in
-    let joined = laid .before .before .before .before .before .before .before .before .before .before .before .before .before in
-    let z = joined .before .before .before .before .before .before .before .before .before .before .before .before .before .before .before .pre in
+    let laid = c .before .before .before .before .before .before .before .before .before .before .before .before .before .before .before .before in
+    let joined = laid .before .before .before .before .before .before .before .before .before .before .before .before .before .before in
+    let z = joined .before .before .before .before .before .before .before .before .before .before .before .before .before .before .before .before .pre in
     let w = joined .before .before .before .before .width-of .ensures .0 in
     let l = joined .join-lines .ensures in
     accepted _ _ _ _ z w l (laid .lay-out .ensures (layable _ _ _ _ z w l)) (c .before .before .before .before .before .before .clear .ensures) (c .before .before .clear2 .ensures)
@@ -85,4 +88,5 @@ build-admitted-spec =
     same-length-4
     same-length-5
     same-length-6
+    same-length-7
     returns)

@@ -1,4 +1,4 @@
--- Five stores, one behind the other, are the record; the member and the mark are one store each.
+-- Six stores, one behind the other, are the record; the member, the mark and the place in the listing are one store each.
 use Prim.Native.Nat.{_*_}
 use native.Mathlib.Omega.{arith}
 use lib.ListN.{length-set}
@@ -78,6 +78,15 @@ slice-write-members c = search needs
 slice-write-marks : tie.Need-slice-write-marks
 slice-write-marks c = search needs
 
+cast-listing : tie.Need-cast-listing
+cast-listing c = search needs
+
+mul-listing : tie.Need-mul-listing
+mul-listing c = search needs
+
+slice-write-listing : tie.Need-slice-write-listing
+slice-write-listing c = search needs
+
 same-length : tie.Need-same-length
 same-length c = search needs
 
@@ -87,6 +96,9 @@ same-length-2 c = search needs
 same-length-3 : tie.Need-same-length-3
 same-length-3 c = search needs
 
+same-length-4 : tie.Need-same-length-4
+same-length-4 c = search needs
+
 returns : tie.Need-returns
 returns c =
     let a = c .args in
@@ -94,6 +106,7 @@ returns c =
       row = from-set (record-put (a .table .now) (a .chain * recordSize) (a .m) 1 0 (a .first) (a .count) (omega (arith, c .pre .record-fits))) (omega (arith, c .pre .record-fits)) (a .closed);
       member = one-put (a .members .now) (a .m) (a .k) (c .pre .member-fits);
       mark = one-put (a .marks .now) (a .m) 0 (c .pre .mark-fits);
+      line = one-put (a .listing .now) (a .m) (a .k) (c .pre .line-fits);
     }
 
 pub lay-line-spec : {M : Type 1} → statement M
@@ -123,7 +136,11 @@ lay-line-spec =
     mul-members
     slice-write-members
     slice-write-marks
+    cast-listing
+    mul-listing
+    slice-write-listing
     same-length
     same-length-2
     same-length-3
+    same-length-4
     returns)

@@ -11,16 +11,20 @@ use Rattle.build_layout.proofs.lay_rest.Statement.{statement}
 use Rattle.build_layout.proofs.lay_rest.Tie as tie
 
 abbrev Inv-loop : tie.InvT-loop
-Inv-loop coordinates width counts kinds j m table₀ members₀ marks₀ k₀ r₀ first₀ table members marks k r first =
-    (y : Rest width coordinates counts kinds j m table₀ members₀ marks₀) → Resting width counts kinds coordinates (y .groups) j m table table₀ members members₀ marks marks₀ k r first
+Inv-loop coordinates width counts kinds j m table₀ members₀ marks₀ listing₀ k₀ r₀ first₀ table members marks listing k r first =
+    (y : Rest width coordinates counts kinds j m table₀ members₀ marks₀ listing₀)
+    → Resting width counts kinds coordinates (y .groups) j m table table₀ members members₀ marks marks₀ listing listing₀ k r first
 
 abbrev μ-loop : tie.MeasureT-loop
-μ-loop coordinates width counts kinds j m table₀ members₀ marks₀ k₀ r₀ first₀ table members marks k r first = length counts - k
+μ-loop coordinates width counts kinds j m table₀ members₀ marks₀ listing₀ k₀ r₀ first₀ table members marks listing k r first = length counts - k
+
+abbrev start : tie.At-loop Inv-loop μ-loop → tie.Start Inv-loop μ-loop
+start l = l .before .before .before .before .before .before .before .before
 
 loop-holds : tie.Need-loop-holds Inv-loop μ-loop
 loop-holds c =
-    let a = c .before .before .before .before .before .before .args in
-    λ y. resting-start (a .width) (a .counts .now) (a .kinds .now) (a .coordinates .now) (y .groups) (a .j) (a .m) (a .table .now) (a .members .now) (a .marks .now)
+    let a = c .before .before .before .before .before .before .before .args in
+    λ y. resting-start (a .width) (a .counts .now) (a .kinds .now) (a .coordinates .now) (y .groups) (a .j) (a .m) (a .table .now) (a .members .now) (a .marks .now) (a .listing .now)
 
 mul-count : tie.Need-mul-count Inv-loop μ-loop
 mul-count c = omega arith
@@ -37,88 +41,88 @@ is-plain-requires c κs = omega arith
 cast-from : tie.Need-cast-from Inv-loop μ-loop
 cast-from c =
     let l = c .before .before .before .before .before in
-    let y = l .before .before .before .before .before .before .before .pre in
+    let y = start l .pre in
     omega (arith, l .loop .inv y .first-small)
 
 mul-from : tie.Need-mul-from Inv-loop μ-loop
 mul-from c =
     let l = c .before .before .before .before .before in
-    let y = l .before .before .before .before .before .before .before .pre in
+    let y = start l .pre in
     omega (arith, part-inside y (l .loop .inv y) (omega arith))
 
 cast-to : tie.Need-cast-to Inv-loop μ-loop
 cast-to c =
     let l = c .before .before .before .before .before in
-    let y = l .before .before .before .before .before .before .before .pre in
+    let y = start l .pre in
     omega (arith, next-small y (l .loop .inv y) (omega arith))
 
 mul-to : tie.Need-mul-to Inv-loop μ-loop
 mul-to c =
     let l = c .before .before .before .before .before in
-    let y = l .before .before .before .before .before .before .before .pre in
+    let y = start l .pre in
     omega (arith, part-inside y (l .loop .inv y) (omega arith))
 
 add-to : tie.Need-add-to Inv-loop μ-loop
 add-to c =
     let l = c .before .before .before .before .before in
-    let y = l .before .before .before .before .before .before .before .pre in
+    let y = start l .pre in
     omega (arith, part-inside y (l .loop .inv y) (omega arith))
 
 mul-loop-mark : tie.Need-mul-loop-mark Inv-loop μ-loop
 mul-loop-mark c =
     let l = c .before .before .before .before .before in
-    let y = l .before .before .before .before .before .before .before .pre in
+    let y = start l .pre in
     omega (arith, part-inside y (l .loop .inv y) (omega arith))
 
 sub-loop-mark : tie.Need-sub-loop-mark Inv-loop μ-loop
 sub-loop-mark c =
     let l = c .before .before .before .before .before in
-    let y = l .before .before .before .before .before .before .before .pre in
+    let y = start l .pre in
     omega (arith, part-inside y (l .loop .inv y) (omega arith))
 
 part-loop-mark-start : tie.Need-part-loop-mark-start Inv-loop μ-loop
 part-loop-mark-start c =
     let l = c .before .before .before .before .before in
-    let y = l .before .before .before .before .before .before .before .pre in
+    let y = start l .pre in
     omega (arith, part-inside y (l .loop .inv y) (omega arith))
 
 part-loop-mark-end : tie.Need-part-loop-mark-end Inv-loop μ-loop
 part-loop-mark-end c =
     let l = c .before .before .before .before .before in
-    let y = l .before .before .before .before .before .before .before .pre in
+    let y = start l .pre in
     omega (arith, part-inside y (l .loop .inv y) (omega arith))
 
 loop-mark-requires : tie.Need-loop-mark-requires Inv-loop μ-loop
-loop-mark-requires c κs = c .before .before .before .before .before .before .before .before .before .before .before .before .before .pre .adds .two
+loop-mark-requires c κs = start (c .before .before .before .before .before .before) .pre .adds .two
 
 add-lay-line : tie.Need-add-lay-line Inv-loop μ-loop
 add-lay-line c =
     let l = c .before .before .before .before .before .before .before in
-    let y = l .before .before .before .before .before .before .before .pre in
+    let y = start l .pre in
     omega (arith, y .table-fits, l .loop .inv y .fewer)
 
 add-lay-line-2 : tie.Need-add-lay-line-2 Inv-loop μ-loop
 add-lay-line-2 c =
     let l = c .before .before .before .before .before .before .before in
-    let y = l .before .before .before .before .before .before .before .pre in
+    let y = start l .pre in
     omega (arith, y .members-few, l .loop .inv y .fewer)
 
 lay-line-requires : tie.Need-lay-line-requires Inv-loop μ-loop
 lay-line-requires c κs =
-    let l = c .before .before .before .before .before .before .before .before .before .before in
-    let y = l .before .before .before .before .before .before .before .pre in
-    resting-room y (l .loop .inv y) (omega arith) (sym (c .before .before .before .before .before .before .is-plain .ensures) ∙ not-true _ (c .before .before .before .before .before .if1 .taken))
+    let l = c .before .before .before .before .before .before .before .before .before .before .before in
+    let y = start l .pre in
+    resting-room y (l .loop .inv y) (omega arith) (sym (c .before .before .before .before .before .before .before .is-plain .ensures) ∙ not-true _ (c .before .before .before .before .before .before .if1 .taken))
 
 add-r : tie.Need-add-r Inv-loop μ-loop
 add-r c =
-    let l = c .before .before .before .before .before .before .before .before .before .before .before .before .before .before .before .before .before in
-    let y = l .before .before .before .before .before .before .before .pre in
+    let l = c .before .before .before .before .before .before .before .before .before .before .before .before .before .before .before .before .before .before .before .before in
+    let y = start l .pre in
     omega (arith, y .members-few, l .loop .inv y .fewer)
 
 add-first : tie.Need-add-first Inv-loop μ-loop
 add-first c =
     let l = c .before .before .before .before .before in
-    let y = l .before .before .before .before .before .before .before .pre in
+    let y = start l .pre in
     omega (arith, next-small y (l .loop .inv y) (omega arith))
 
 add-k : tie.Need-add-k Inv-loop μ-loop
@@ -133,24 +137,27 @@ loop-again c =
     let tested = sym (c .before .is-plain .ensures) in
     λ y.
     ⊎-elim
-    (λ t. resting-passes y (l .loop .inv y) (omega arith) (tested ∙ not-true _ (t .0 .taken)) (t .2 .ensures) (t .6 .ensures) (t .13) (t .14) (t .15) (t .16))
-    (λ t. resting-plain y (l .loop .inv y) (omega arith) (tested ∙ not-false _ (t .0 .left)) (t .1) (t .2) (t .3) (t .4))
+    (λ t. resting-passes y (l .loop .inv y) (omega arith) (tested ∙ not-true _ (t .0 .taken)) (t .2 .ensures) (t .7 .ensures) (t .16) (t .17) (t .18) (t .19) (t .20))
+    (λ t. resting-plain y (l .loop .inv y) (omega arith) (tested ∙ not-false _ (t .0 .left)) (t .1) (t .2) (t .3) (t .4) (t .5))
     (c .if1 .came)
 
 add-result : tie.Need-add-result Inv-loop μ-loop
 add-result c =
     let l = c .before in
-    let y = l .before .before .before .before .before .before .before .pre in
+    let y = start l .pre in
     omega (arith, y .table-fits, l .loop .inv y .fewer)
 
 same-length : tie.Need-same-length Inv-loop μ-loop
-same-length c = c .before .loop .inv (c .before .before .before .before .before .before .before .before .pre) .table-size
+same-length c = c .before .loop .inv (start (c .before) .pre) .table-size
 
 same-length-2 : tie.Need-same-length-2 Inv-loop μ-loop
-same-length-2 c = c .before .loop .inv (c .before .before .before .before .before .before .before .before .pre) .members-size
+same-length-2 c = c .before .loop .inv (start (c .before) .pre) .members-size
 
 same-length-3 : tie.Need-same-length-3 Inv-loop μ-loop
-same-length-3 c = c .before .loop .inv (c .before .before .before .before .before .before .before .before .pre) .marks-size
+same-length-3 c = c .before .loop .inv (start (c .before) .pre) .marks-size
+
+same-length-4 : tie.Need-same-length-4 Inv-loop μ-loop
+same-length-4 c = c .before .loop .inv (start (c .before) .pre) .listing-size
 
 returns : tie.Need-returns Inv-loop μ-loop
 returns c = λ y. resting-done y (c .before .loop .inv y) (omega arith)
@@ -188,4 +195,5 @@ lay-rest-spec =
     same-length
     same-length-2
     same-length-3
+    same-length-4
     returns)

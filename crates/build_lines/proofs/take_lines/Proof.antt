@@ -3,7 +3,7 @@ use Prim.Native.Nat.{_-_, _≤_}
 use mathlib.Core.Path.{sym, _∙_}
 use mathlib.Core.Logic.{⊎-elim}
 use native.Mathlib.Omega.{arith}
-use lib.ListN.{getD}
+use lib.ListN.{getD, length-set}
 use Rattle.build_lines.proofs.Taking.{Taking, taking-start, taking-plain, taking-other, taking-done}
 use Rattle.build_lines.proofs.take_lines.Statement.{statement}
 use Rattle.build_lines.proofs.take_lines.Tie as tie
@@ -58,6 +58,30 @@ mul-w-2 c = omega arith
 slice-write-w : tie.Need-slice-write-w Inv-loop μ-loop
 slice-write-w c = omega arith
 
+mul-w-3 : tie.Need-mul-w-3 Inv-loop μ-loop
+mul-w-3 c = omega arith
+
+add-w-2 : tie.Need-add-w-2 Inv-loop μ-loop
+add-w-2 c = omega arith
+
+mul-w-4 : tie.Need-mul-w-4 Inv-loop μ-loop
+mul-w-4 c = omega arith
+
+slice-write-w-2 : tie.Need-slice-write-w-2 Inv-loop μ-loop
+slice-write-w-2 c = simp length-set (omega arith)
+
+mul-w-5 : tie.Need-mul-w-5 Inv-loop μ-loop
+mul-w-5 c = omega arith
+
+add-w-3 : tie.Need-add-w-3 Inv-loop μ-loop
+add-w-3 c = omega arith
+
+mul-w-6 : tie.Need-mul-w-6 Inv-loop μ-loop
+mul-w-6 c = omega arith
+
+slice-write-w-3 : tie.Need-slice-write-w-3 Inv-loop μ-loop
+slice-write-w-3 c = simp length-set (omega arith)
+
 add-m : tie.Need-add-m Inv-loop μ-loop
 add-m c = omega arith
 
@@ -111,6 +135,14 @@ take-lines-spec =
     add-w
     mul-w-2
     slice-write-w
+    mul-w-3
+    add-w-2
+    mul-w-4
+    slice-write-w-2
+    mul-w-5
+    add-w-3
+    mul-w-6
+    slice-write-w-3
     add-m
     cast-first
     add-first

@@ -1,16 +1,15 @@
--- Between two entries the members and marks of those before stand at the front (`Listing`).
+-- Between two entries the members, marks and listing of those before stand at the front (`Listing`).
 use Rattle.chain_merging.proofs.list_pieces.Statement.{statement}
 use Rattle.chain_merging.proofs.list_pieces.Tie as tie
-use Prim.Native.Nat.{ℕ, _+_, _-_, _*_, _≤_}
+use Prim.Native.Nat.{ℕ, _+_, _-_, _%_, _≤_}
 use mathlib.Core.Path.{_≡_}
 use native.Mathlib.Omega.{arith}
 use lib.ListN.{length, getD}
 use Rattle.rules.specs.Walking.{pieceOf}
 use Rattle.rules.specs.Refusals.{pieceSize}
 use Rattle.chain_pieces.specs.Held.{recordOf}
-use Rattle.chain_merging.specs.Emit.{PiecesListable}
-use Rattle.chain_merging.proofs.Listing.{Listing, listing-start, listing-done, listing-record, listing-part, listing-fits, listing-step}
-use Rattle.chain_pieces.specs.Map.{memberBlock}
+use Rattle.chain_merging.specs.Emit.{Listable, PiecesListable}
+use Rattle.chain_merging.proofs.Listing.{Listing, listing-start, listing-done, listing-record, listing-listable, listing-step}
 
 abbrev Inv-loop : tie.InvT-loop
 Inv-loop w₀ n old entries m r₀ k₀ w r k = (y : PiecesListable w₀ n old entries m) → Listing w₀ n old entries m y w r k
@@ -25,7 +24,7 @@ listing : (l : tie.At-loop Inv-loop μ-loop)
     → let a = start l .args in Listing (a .w .now) (a .n) (a .old) (a .entries) (a .m) (start l .pre) (l .loop .w) (l .loop .r) (l .loop .k)
 listing l = l .loop .inv (start l .pre)
 
--- in a turn: the record of the piece that is entered, its members, and the room for them
+-- in a turn: the record of the piece that is entered, its lines, and the room for them
 module _ (i : tie.In-loop Inv-loop μ-loop) where
   abbrev l : tie.At-loop Inv-loop μ-loop
   l = i .before
@@ -42,11 +41,12 @@ module _ (i : tie.In-loop Inv-loop μ-loop) where
     listing l .size,
   )
 
-  in-part : a .args .old + a .args .n * memberBlock + getD (l .loop .w) at 0 + getD (l .loop .w) (at + 1) 0 ≤ length (l .loop .w)
-  in-part = listing-part (a .args .w .now) (a .args .n) (a .args .old) (a .args .entries) (a .args .m) (a .pre) (l .loop .w) (l .loop .r) (l .loop .k) (listing l) (i .loop-test .taken)
+  in-part : Listable (l .loop .w) (a .args .n) (a .args .old + getD (l .loop .w) at 0) (l .loop .r)
+      (getD (l .loop .w) (at + 1) 0) (getD (l .loop .w) (a .args .entries + l .loop .k) 0 % 2)
+  in-part = listing-listable (a .args .w .now) (a .args .n) (a .args .old) (a .args .entries) (a .args .m) (a .pre) (l .loop .w) (l .loop .r) (l .loop .k) (listing l) (i .loop-test .taken)
 
   fits : l .loop .r + getD (l .loop .w) (at + 1) 0 ≤ a .args .n
-  fits = listing-fits (a .args .w .now) (a .args .n) (a .args .old) (a .args .entries) (a .args .m) (a .pre) (l .loop .w) (l .loop .r) (l .loop .k) (listing l) (i .loop-test .taken)
+  fits = in-part .fits
 
 loop-holds : tie.Need-loop-holds Inv-loop μ-loop
 loop-holds c = let a = c .before .args in λ y. listing-start (a .w .now) (a .n) (a .old) (a .entries) (a .m) y
@@ -76,37 +76,19 @@ slice-read-count : tie.Need-slice-read-count Inv-loop μ-loop
 slice-read-count c = omega (arith, in-record (c .before .before))
 
 mul-from : tie.Need-mul-from Inv-loop μ-loop
-mul-from c = omega (arith, in-part (c .before .before))
-
-add-from : tie.Need-add-from Inv-loop μ-loop
-add-from c = omega (arith, in-part (c .before .before))
-
-mul-from-2 : tie.Need-mul-from-2 Inv-loop μ-loop
-mul-from-2 c = omega (arith, in-record (c .before .before))
+mul-from c = omega (arith, in-record (c .before .before))
 
 slice-read-from : tie.Need-slice-read-from Inv-loop μ-loop
 slice-read-from c = omega (arith, in-record (c .before .before .before))
 
-add-from-2 : tie.Need-add-from-2 Inv-loop μ-loop
-add-from-2 c = omega (arith, in-part (c .before .before .before), in-record (c .before .before .before))
-
-mul-list-members : tie.Need-mul-list-members Inv-loop μ-loop
-mul-list-members c = omega (arith, fits (c .before .before .before .before))
-
-add-list-members : tie.Need-add-list-members Inv-loop μ-loop
-add-list-members c = omega (arith, fits (c .before .before .before .before))
-
-mul-list-members-2 : tie.Need-mul-list-members-2 Inv-loop μ-loop
-mul-list-members-2 c = omega (arith, fits (c .before .before .before .before))
-
-add-list-members-2 : tie.Need-add-list-members-2 Inv-loop μ-loop
-add-list-members-2 c = omega (arith, fits (c .before .before .before .before))
+add-from : tie.Need-add-from Inv-loop μ-loop
+add-from c = omega (arith, in-part (c .before .before .before) .inside, in-record (c .before .before .before))
 
 list-members-requires : tie.Need-list-members-requires Inv-loop μ-loop
-list-members-requires c κs = (let i = c .before .before .before .before in (omega (arith, fits i, in-part i, start (i .before) .pre .front), in-part i, omega (arith, fits i, in-part i, start (i .before) .pre .front)))
+list-members-requires c κs = in-part (c .before .before .before .before)
 
 add-r : tie.Need-add-r Inv-loop μ-loop
-add-r c = let i = c .before .before .before .before .before .before .before in omega (arith, fits i, in-part i)
+add-r c = let i = c .before .before .before .before .before .before .before in omega (arith, fits i, in-part i .inside)
 
 add-k : tie.Need-add-k Inv-loop μ-loop
 add-k c = let i = c .before .before .before .before .before .before .before in omega (arith, i .loop-test .taken, start (i .before) .pre .inside)
@@ -120,7 +102,7 @@ loop-again c =
     let l = i .before in
     let a = start l .args in
     λ y. listing-step (a .w .now) (a .n) (a .old) (a .entries) (a .m) y (l .loop .w) (l .loop .r) (l .loop .k) (l .loop .inv y) (i .loop-test .taken)
-    (c .before .before .list-members .ensures .copied) (c .before .before .list-members .last .0) (c .before .before .list-members .ensures .members) (c .before .before .list-members .ensures .marked)
+    (c .before .before .list-members .last .0) (c .before .before .list-members .ensures)
 
 same-length : tie.Need-same-length Inv-loop μ-loop
 same-length c = listing (c .before) .size
@@ -147,14 +129,8 @@ list-pieces-spec =
     mul-count
     slice-read-count
     mul-from
-    add-from
-    mul-from-2
     slice-read-from
-    add-from-2
-    mul-list-members
-    add-list-members
-    mul-list-members-2
-    add-list-members-2
+    add-from
     list-members-requires
     add-r
     add-k

@@ -27,6 +27,7 @@ pub fn built(call: &BuildCall, chains: &[Piece]) -> Built {
         built.table.push(record);
         built.members.extend(chain.members.iter().map(|&line| line as u32));
         built.marks.extend(&chain.marks);
+        built.listing.extend(chain.listing.iter().map(|&line| line as u32));
     }
     built
 }

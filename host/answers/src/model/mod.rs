@@ -30,8 +30,10 @@ pub struct Coordinate {
 pub struct Piece {
     /// The lines in the order in which they were appended.
     pub members: Vec<usize>,
-    /// Per member 1 where the last round entered the piece that held it at end 1.
+    /// Per member 1 where it was turned in an odd number of rounds.
     pub marks: Vec<u8>,
+    /// The same lines in the order in which the coordinates pass them.
+    pub listing: Vec<usize>,
     /// The coordinates.
     pub run: Vec<Coordinate>,
     /// The group of all its lines.
@@ -77,6 +79,7 @@ fn lines(call: &BuildCall) -> (Vec<Piece>, Vec<Piece>) {
     let piece = |(line, first): (usize, usize)| Piece {
         members: vec![line],
         marks: vec![0],
+        listing: vec![line],
         run: run(call, line, first),
         group: call.groups[line],
     };
@@ -113,12 +116,17 @@ fn round(call: &BuildCall, pieces: Vec<Piece>, key: KeyOf) -> Vec<Piece> {
 /// The piece of a walk, which is given by the ends at which it enters its pieces.
 fn merge(pieces: &[Piece], walk: &[usize]) -> Piece {
     let head = &pieces[walk[0] / 2];
-    let mut merged = Piece { members: vec![], marks: vec![], run: vec![], group: head.group };
+    let (members, marks, listing) = (vec![], vec![], vec![]);
+    let mut merged = Piece { members, marks, listing, run: vec![], group: head.group };
     for &entry in walk {
-        let piece = &pieces[entry / 2];
+        let (piece, turned) = (&pieces[entry / 2], entry % 2 == 1);
         merged.members.extend(&piece.members);
-        merged.marks.extend(piece.members.iter().map(|_| (entry % 2) as u8));
-        append(&mut merged.run, &piece.run, entry % 2 == 1);
+        merged.marks.extend(piece.marks.iter().map(|&mark| mark ^ u8::from(turned)));
+        match turned {
+            true => merged.listing.extend(piece.listing.iter().rev()),
+            false => merged.listing.extend(&piece.listing),
+        }
+        append(&mut merged.run, &piece.run, turned);
     }
     if walk.len() == 1 {
         merged.run = head.run.clone();

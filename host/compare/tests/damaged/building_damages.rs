@@ -7,19 +7,19 @@ use answers::BuildCall;
 use compare::building::BuildRooms;
 
 /// A building call with the shortages of its rooms.
-pub type LentLines = Lent<BuildCall, 6>;
+pub type LentLines = Lent<BuildCall, 7>;
 
-type Damage = crate::Damage<BuildCall, 6>;
+type Damage = crate::Damage<BuildCall, 7>;
 
 fn damage(refusal: i64, name: &str, apply: impl Fn(&mut BuildCall) + 'static) -> Damage {
     crate::damage(refusal, name, apply)
 }
 
 /// The lengths of the rooms that are lent: short ones where there are too many lines.
-pub fn lengths(lent: &LentLines) -> [usize; 6] {
+pub fn lengths(lent: &LentLines) -> [usize; 7] {
     match lent.call.lines() {
         0..=4_096 => lent.left(BuildRooms::lengths(&lent.call)),
-        _ => [500; 6],
+        _ => [500; 7],
     }
 }
 
@@ -69,7 +69,15 @@ pub fn damages() -> Vec<Damage> {
     all.extend(places());
     all.extend(settings());
     all.extend(origins());
-    all.extend(short_rooms(["table", "members", "marks", "merged", "spare", "workspace"]));
+    all.extend(short_rooms([
+        "table",
+        "members",
+        "marks",
+        "listing",
+        "merged",
+        "spare",
+        "workspace",
+    ]));
     all
 }
 

@@ -236,6 +236,57 @@ pub fn unturned(call: &BuildCall) -> Built {
     built
 }
 
+/// The chains by round one alone, each with the marks that it has there.
+fn pieces(call: &BuildCall) -> Built {
+    right(&BuildCall { tolerance: 0, ..call.clone() })
+}
+
+/// The mark of a line.
+fn mark_of(built: &Built, line: u32) -> u8 {
+    let place = built.members.iter().position(|&member| member == line);
+    place.map_or(0, |place| built.marks[place])
+}
+
+/// Marks by round two alone, where it runs: what it turned, whatever round one did.
+pub fn marks_of_round_two(call: &BuildCall) -> Built {
+    let (mut built, before) = (right(call), pieces(call));
+    if snaps(call) {
+        for (mark, &line) in built.marks.iter_mut().zip(&built.members) {
+            *mark ^= mark_of(&before, line);
+        }
+    }
+    built
+}
+
+/// Marks by round one alone.
+pub fn marks_of_round_one(call: &BuildCall) -> Built {
+    let (built, before) = (right(call), pieces(call));
+    let marks = built.members.iter().map(|&line| mark_of(&before, line)).collect();
+    Built { marks, ..built }
+}
+
+/// Marks in the listing's order.
+pub fn marks_in_listing_order(call: &BuildCall) -> Built {
+    let built = right(call);
+    let marks = built.listing.iter().map(|&line| mark_of(&built, line)).collect();
+    Built { marks, ..built }
+}
+
+/// The members in the listing's place.
+pub fn members_for_listing(call: &BuildCall) -> Built {
+    let built = right(call);
+    Built { listing: built.members.clone(), ..built }
+}
+
+/// A listing from the other end of each chain.
+pub fn listing_backwards(call: &BuildCall) -> Built {
+    let mut built = right(call);
+    for record in &built.table {
+        built.listing[record[0] as usize..(record[0] + record[1]) as usize].reverse();
+    }
+    built
+}
+
 /// Does round one and skips round two.
 pub fn exact_alone(call: &BuildCall) -> Built {
     right(&BuildCall { tolerance: 0, ..call.clone() })

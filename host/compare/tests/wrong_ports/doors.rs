@@ -66,6 +66,7 @@ impl Door for Pretended {
         write(rooms.table.lent(), &built.table.concat());
         write(rooms.members.lent(), &built.members);
         write(rooms.marks.lent(), &built.marks);
+        write(rooms.listing.lent(), &built.listing);
         write(rooms.merged.lent(), &merged);
         rooms.spare.lent()[..call.coordinates.len()].fill(0.0);
         rooms.workspace.lent()[..192 * call.lines()].fill(0);

@@ -4,6 +4,7 @@ mod answers_of;
 mod building;
 mod doors;
 mod extras;
+mod listings;
 mod origins;
 mod pairing;
 mod rooms;

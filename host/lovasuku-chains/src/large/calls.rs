@@ -1,13 +1,12 @@
 //! The calls of one batch.
 //!
-//! The members of a chain stand in the order in which its pieces were appended, and a piece that
-//! round two walked backwards keeps its own order. So the way of a chain through its lines takes
-//! the pieces of round one, which a call without a tolerance gives.
+//! Which joints the tolerance made is told by the pieces of round one, which a call without a
+//! tolerance gives: two lines that follow each other and are of two pieces were joined by it.
 
 use super::joints::{end_counts, joints, EndCounts, Step};
 use super::{at, Chain, Fault, Line};
 use crate::size::POINT;
-use crate::{self as library, Dimension, LinesBuf, Rooms, Settings};
+use crate::{self as library, Dimension, LinesBuf, PathLine, Rooms, Settings};
 
 /// Lends batches to the library, one after another, in the same rooms.
 #[derive(Debug)]
@@ -16,9 +15,6 @@ pub struct Caller {
     rooms: Rooms,
     lent: LinesBuf,
 }
-
-/// A piece of round one: its lines in the order of its points, each with its turned mark.
-type Piece = Vec<(u32, bool)>;
 
 impl Caller {
     /// A caller for batches of one input, of lines of a dimension.
@@ -29,20 +25,11 @@ impl Caller {
     /// The chains of a batch, with the positions of the whole input.
     pub fn build(&mut self, lines: &[Line], batch: &[u32]) -> Result<Vec<Chain>, Fault> {
         self.lend(lines, batch);
-        let pieces = match self.settings.tolerance > 0.0 {
-            true => Some(self.pieces()?),
-            false => None,
-        };
+        let pieces = self.pieces()?;
         let counts = end_counts(batch.iter().map(|&line| at(lines, line)));
         let chains = self.rooms.build(self.lent.lines(), self.settings)?;
-        let chain = |chain: library::Chain| {
-            let way = match &pieces {
-                Some(pieces) => pieces.way(&chain)?,
-                None => way_of_round_one(&chain),
-            };
-            Ok(owned(lines, batch, &chain, &way, &counts))
-        };
-        chains.iter().map(chain).collect()
+        let owned = |chain| owned(lines, batch, &chain, &pieces, &counts);
+        Ok(chains.iter().map(owned).collect())
     }
 
     fn lend(&mut self, lines: &[Line], batch: &[u32]) {
@@ -55,57 +42,23 @@ impl Caller {
         }
     }
 
-    /// The pieces of round one.
-    fn pieces(&mut self) -> Result<Pieces, Fault> {
-        let settings = self.settings.with_tolerance(0.0);
-        let chains = self.rooms.build(self.lent.lines(), settings)?;
-        let mut pieces = Pieces { all: Vec::new(), of_line: vec![0; self.lent.len()] };
-        for chain in &chains {
-            for &line in chain.members() {
-                if let Some(piece) = pieces.of_line.get_mut(line as usize) {
-                    *piece = pieces.all.len();
+    /// The piece of round one that holds each line. Without a tolerance a chain is one piece, and
+    /// nothing has to be asked.
+    fn pieces(&mut self) -> Result<Vec<usize>, Fault> {
+        let mut pieces = vec![0; self.lent.len()];
+        if self.settings.tolerance > 0.0 {
+            let settings = self.settings.with_tolerance(0.0);
+            let chains = self.rooms.build(self.lent.lines(), settings)?;
+            for (number, chain) in chains.iter().enumerate() {
+                for &line in chain.members() {
+                    if let Some(piece) = pieces.get_mut(line as usize) {
+                        *piece = number;
+                    }
                 }
             }
-            pieces.all.push(chain.members().iter().copied().zip(chain.turned()).collect());
         }
         Ok(pieces)
     }
-}
-
-/// The pieces of round one, and which of them holds a line.
-struct Pieces {
-    all: Vec<Piece>,
-    of_line: Vec<usize>,
-}
-
-impl Pieces {
-    /// The way of a chain: its pieces in their order, each forward or, if turned, backward.
-    fn way(&self, chain: &library::Chain) -> Result<Vec<Step>, Fault> {
-        let mut way = Vec::with_capacity(chain.members().len());
-        while let Some(&first) = chain.members().get(way.len()) {
-            let number = self.of_line.get(first as usize).copied().unwrap_or_default();
-            let piece = self.all.get(number).ok_or(Fault::Parted)?;
-            let members = chain.members().iter().skip(way.len());
-            let whole = piece.iter().map(|(line, _)| line).eq(members.take(piece.len()));
-            if piece.is_empty() || !whole {
-                return Err(Fault::Parted);
-            }
-            let turned = chain.marks().get(way.len()) == Some(&1);
-            let step =
-                |&(line, back): &(u32, bool)| Step { line, back: back != turned, piece: number };
-            match turned {
-                true => way.extend(piece.iter().rev().map(step)),
-                false => way.extend(piece.iter().map(step)),
-            }
-        }
-        Ok(way)
-    }
-}
-
-/// The way of a chain that round one made.
-fn way_of_round_one(chain: &library::Chain) -> Vec<Step> {
-    let steps = chain.members().iter().zip(chain.turned());
-    steps.map(|(&line, back)| Step { line, back, piece: 0 }).collect()
 }
 
 /// The chain with the positions of the whole input, and with its joints.
@@ -113,15 +66,19 @@ fn owned(
     lines: &[Line],
     batch: &[u32],
     chain: &library::Chain,
-    way: &[Step],
+    pieces: &[usize],
     counts: &EndCounts,
 ) -> Chain {
     let position = |line: u32| batch.get(line as usize).copied().unwrap_or_default();
-    let way: Vec<Step> =
-        way.iter().map(|&step| Step { line: position(step.line), ..step }).collect();
+    let step = |PathLine { line, turned }: PathLine| Step {
+        line: position(line),
+        back: turned,
+        piece: pieces.get(line as usize).copied().unwrap_or_default(),
+    };
+    let way: Vec<Step> = chain.path().map(step).collect();
     Chain {
         members: chain.members().iter().map(|&line| position(line)).collect(),
-        turned: chain.turned().collect(),
+        path: way.iter().map(|step| PathLine { line: step.line, turned: step.back }).collect(),
         points: chain.is_merged().then(|| chain.points().collect()),
         extras: extras(chain),
         is_loop: chain.is_loop(),

@@ -30,7 +30,7 @@ mod components;
 mod gaps;
 mod joints;
 
-use crate::{Dimension, Refusal, Settings};
+use crate::{Dimension, PathLine, Refusal, Settings};
 pub use batches::{batches, Batch, Capacity, TooLarge};
 pub use calls::Caller;
 pub use gaps::{gaps, Gap, Why};
@@ -75,8 +75,8 @@ impl<'a> Line<'a> {
 pub struct Chain {
     /// The positions of its lines, in the library's order.
     pub members: Vec<u32>,
-    /// The library's turned mark of each member.
-    pub turned: Vec<bool>,
+    /// The same lines in the order in which its points pass them, each with the way it was drawn.
+    pub path: Vec<PathLine>,
     /// Its points, or nothing where it is one line, untouched.
     pub points: Option<Vec<Point>>,
     /// The extras of its points, as many for each as the dimension has; none where it is one line.
@@ -95,8 +95,6 @@ pub enum Fault {
     TooLarge(TooLarge),
     /// The library refused a call.
     Refused(Refusal),
-    /// The library has parted a piece of round one, which the rules rule out.
-    Parted,
 }
 
 impl fmt::Display for Fault {
@@ -104,7 +102,6 @@ impl fmt::Display for Fault {
         match self {
             Fault::TooLarge(large) => large.fmt(f),
             Fault::Refused(refusal) => refusal.fmt(f),
-            Fault::Parted => f.write_str("the library has parted a piece of round one"),
         }
     }
 }

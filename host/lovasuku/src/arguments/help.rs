@@ -12,9 +12,9 @@ Join the lines of a delivery into chains.
 
 IN is GeoJSON: a FeatureCollection, or features one after another. LineStrings are joined where
 their ends meet: a way that passes over a junction must be split there, since only ends are looked
-at. OUT has one feature a chain, with the properties members (ids, or positions), turned, count,
-loop (whether it ends where it begins), and those that all its members share; its id is its
-position. Every number is written so that it is read back the same, bit for bit. Features, parts and
+at. OUT has one feature a chain, with the properties members (ids, or positions), path (the members
+in the order of travel, and whether each was turned: drawn against it), count, loop (whether it ends
+where it begins), and those that all its members share; its id is its position. Every number is written so that it is read back the same, bit for bit. Features, parts and
 chains are counted from 0.";
 
 pub const JOIN_EXAMPLES: &str = "\
@@ -23,6 +23,8 @@ Examples:
       joins what meets exactly, and draws the chains
   lovasuku join roads.geojson -o chains.geojson --tolerance 2 --bridges bridges.geojson
       closes gaps within cells of 2 units too, and lists every segment made that way
+  lovasuku join roads.geojson -o chains.geojson --map map.svg --arrows
+      shows on the map which way each line was drawn, as property path tells
   lovasuku join tile.geojson -o chains.geojson --tolerance 2 --origin -1024,0
       the same with cells counted from a corner that this tile and its neighbours share
   lovasuku join roads.geojson -o chains.geojsonl --bend 40 --class surface --keep longest

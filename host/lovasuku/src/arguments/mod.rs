@@ -17,6 +17,8 @@ pub struct Request {
     pub output: PathBuf,
     pub map: Option<PathBuf>,
     pub bridges: Option<PathBuf>,
+    /// The map shows the way that each line was drawn.
+    pub arrows: bool,
     /// The format of outputs where their names do not decide.
     pub format: Option<Format>,
     pub settings: Settings,
@@ -97,6 +99,7 @@ fn of_join(matches: &ArgMatches) -> Result<Request, String> {
         output: path("output").unwrap_or_default(),
         map: path("map"),
         bridges: path("bridges"),
+        arrows: matches.get_flag("arrows"),
         format: text("format").and_then(|name| Format::of(&name)),
         settings: Settings {
             tolerance: number("tolerance").unwrap_or_default(),

@@ -40,7 +40,7 @@ pub fn manual() -> Command {
         )
 }
 
-fn outputs() -> [Arg; 5] {
+fn outputs() -> [Arg; 6] {
     [
         path("output")
             .short('o')
@@ -52,6 +52,9 @@ fn outputs() -> [Arg; 5] {
             .long("map")
             .value_name("FILE.svg")
             .help("Draw the input, the chains, the bridges and the gaps"),
+        flag("arrows")
+            .requires("map")
+            .help("Show on the map which way each line was drawn, along its chain or against it"),
         path("bridges").long("bridges").value_name("FILE").help(
             "Write each segment that the tolerance made, and each gap below it that stayed open",
         ),
@@ -140,7 +143,7 @@ fn properties() -> [Arg; 3] {
             .long_help(help::KEEP),
         named("prefix")
             .value_name("PREFIX")
-            .help("Begin the names members, turned, count, loop and parts with this"),
+            .help("Begin the names members, path, count, loop and parts with this"),
         named("units")
             .value_name("UNIT")
             .help("What the coordinates are in, as m, ft or degrees")

@@ -1,5 +1,6 @@
 //! The head of the page, the legend and the scale.
 
+use super::arrows::shape;
 use super::cells::are_drawn;
 use super::drawing::DIAMOND;
 use super::loops::ROUND;
@@ -37,6 +38,10 @@ pub fn legend(out: &mut String, sheet: &Sheet, page: &Page, colours: &[&str]) ->
     row(out, &mut y, INPUT, "line of the input, and its ends")?;
     row(out, &mut y, &stroke("chain", colours.first()), "chain of several lines")?;
     row(out, &mut y, &stroke("alone", colours.last()), "chain of one line")?;
+    if sheet.arrows {
+        arrow(out, &mut y, "along", "line drawn along its chain")?;
+        arrow(out, &mut y, "against", "line drawn against it: turned")?;
+    }
     if let Some(Cells { side, .. }) = sheet.cells.filter(|_| are_drawn(sheet, page)) {
         let unit = if sheet.measure.degrees { "degrees" } else { &sheet.measure.unit };
         row(out, &mut y, CELLS, &format!("cells of the tolerance, {side} {unit}"))?;
@@ -63,6 +68,12 @@ pub fn legend(out: &mut String, sheet: &Sheet, page: &Page, colours: &[&str]) ->
     y += 18.0;
     bridges(out, sheet, page, &mut y)?;
     chains(out, sheet, page, colours, y)
+}
+
+/// A row for an arrow of a class.
+fn arrow(out: &mut String, y: &mut f64, class: &str, words: &str) -> Result {
+    let way = shape([21.0, 0.0], [1.0, 0.0], 1.0);
+    row(out, y, &format!("<path class=\"arrow {class}\" d=\"{way}\"/>"), words)
 }
 
 const CELLS: &str =

@@ -1,5 +1,6 @@
 //! The map: an SVG of the input, the chains, the junctions, the loops and the bridges.
 
+mod arrows;
 mod bridging;
 mod cells;
 mod colours;
@@ -29,6 +30,8 @@ pub struct Sheet<'a> {
     pub settings: &'a str,
     /// The cells that ends met in, where there is a tolerance.
     pub cells: Option<Cells>,
+    /// Whether the way is shown that each line was drawn.
+    pub arrows: bool,
     pub delivery: &'a Delivery<'a>,
     pub measure: &'a Measure,
     pub chains: &'a [Chain],
@@ -50,6 +53,9 @@ text{font:14px system-ui,'Segoe UI',Helvetica,Arial,sans-serif;fill:#2b2b2b}\
 .input path{fill:none;stroke:#555;stroke-linejoin:round}\
 .input,.ends{pointer-events:none}\
 .ends circle{fill:#fff;stroke:#555;stroke-width:1}\
+.arrow{stroke:#333;stroke-width:1;stroke-linejoin:round;pointer-events:none}\
+.along{fill:#333}\
+.against{fill:#fff}\
 .junctions path{fill:#fff;stroke:#222;stroke-width:1.7;stroke-linejoin:round}\
 .loops circle{fill:#fff;fill-opacity:.85;stroke:none}\
 .loops path{fill:none;stroke:#00707a;stroke-width:2.2;stroke-linecap:round;stroke-linejoin:round}\
@@ -127,6 +133,7 @@ fn draw(out: &mut String, sheet: &Sheet, detail: Detail) -> Result<(), Error> {
     cells::grid(out, sheet, &page)?;
     let colours = drawing::chains(out, sheet, &page)?;
     drawing::lines(out, sheet, &page)?;
+    arrows::arrows(out, sheet, &page)?;
     drawing::junctions(out, sheet, &page)?;
     loops::loops(out, sheet, &page)?;
     bridging::gaps(out, sheet, &page)?;

@@ -5,6 +5,7 @@ use crate::delivery::{Delivery, Geometry, Point};
 use crate::joining::Chain;
 use crate::measure::Measure;
 use crate::progress::Progress;
+use lovasuku_chains::PathLine;
 use rayon::prelude::*;
 
 /// How the features of chains are written.
@@ -15,6 +16,8 @@ pub struct Chains<'a> {
     pub keep: Keep,
     /// The names of the properties that every chain has.
     pub own: Vec<String>,
+    /// Lines may be parts of features.
+    pub parts: bool,
 }
 
 /// The features of chains, and how many of them have a member with a property of a chain's own name,
@@ -31,7 +34,7 @@ const PART: usize = 256;
 /// The names of the properties that every chain has, each behind the prefix. That of the parts is
 /// for lines that are parts of features.
 pub fn own_names(prefix: &str, parts: bool) -> Vec<String> {
-    let names = ["members", "turned", "count", "loop", "parts"];
+    let names = ["members", "path", "count", "loop", "parts"];
     let names = names.into_iter().filter(|&name| parts || name != "parts");
     names.map(|name| format!("{prefix}{name}")).collect()
 }
@@ -51,9 +54,23 @@ impl Chains<'_> {
         Written { features: all.into_iter().map(|(feature, _)| feature).collect(), clashes }
     }
 
+    /// A line of a path: its name, which part of its feature it is where lines are parts, and whether it
+    /// is turned.
+    fn step(&self, out: &mut Vec<u8>, PathLine { line, turned }: PathLine) {
+        out.extend(b"{\"line\":");
+        out.extend(self.delivery.name(line).bytes());
+        if self.parts {
+            out.extend(b",\"part\":");
+            value(out, &self.delivery.features[line as usize].part);
+        }
+        out.extend(b",\"turned\":");
+        value(out, &turned);
+        out.push(b'}');
+    }
+
     /// The feature of a chain, and whether a member has a property of a chain's own name.
     fn feature(&self, id: usize, chain: &Chain) -> (Vec<u8>, bool) {
-        let Chains { delivery, measure, keep, own } = self;
+        let Chains { delivery, measure, keep, own, .. } = self;
         let mut out = b"{\"type\":\"Feature\",\"id\":".to_vec();
         value(&mut out, &id);
         out.extend(b",\"properties\":{");
@@ -68,7 +85,7 @@ impl Chains<'_> {
                 0 => list(&mut out, &chain.members, |out, &line| {
                     out.extend(delivery.name(line).bytes())
                 }),
-                1 => list(&mut out, &chain.turned, value),
+                1 => list(&mut out, &chain.path, |out, step| self.step(out, *step)),
                 2 => value(&mut out, &chain.members.len()),
                 3 => value(&mut out, &chain.is_loop),
                 _ => list(&mut out, &chain.members, |out, line| value(out, &part(line))),
