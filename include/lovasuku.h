@@ -40,6 +40,12 @@ extern "C" {
 #define LOVASUKU_MOST_POINTS 65536
 #define LOVASUKU_MOST_ENDS 8192
 
+/* Two districts may share a call: the lines of groups below the border are the first's and the rest the second's. How
+ * much each may bring of the lines and coordinates that a call takes. */
+#define LOVASUKU_BORDER 0x80000000u
+#define LOVASUKU_MOST_DISTRICT_LINES 2048
+#define LOVASUKU_MOST_DISTRICT_POINTS 32768
+
 /* The greatest offset, in millimetres per metre run. */
 #define LOVASUKU_MOST_OFFSET 1000
 
@@ -81,6 +87,8 @@ enum lovasuku_refusal {
     LOVASUKU_MARK_ABOVE_ONE = 3,       /* A kind or a presence mark is above 1. */
     LOVASUKU_COUNTS_DO_NOT_ADD_UP = 4, /* The counts, by the numbers of a coordinate, do not add up to the length. */
     LOVASUKU_TOO_MANY_COORDINATES = 5, /* More than 65,536 coordinates. */
+    LOVASUKU_DISTRICT_OVER_LINES = 20, /* A district has more than 2,048 lines. */
+    LOVASUKU_DISTRICT_OVER_COORDINATES = 21, /* A district has more than 32,768 coordinates. */
     LOVASUKU_NO_PLACE = 15,            /* An x or a y is NaN or infinite. */
     LOVASUKU_BAD_LIMIT = 6,            /* The switch is above 1, or the limit is not a number from -1 to 1. */
     LOVASUKU_BAD_OFFSET = 22,          /* The offset that stands in the limit's place is above 1,000. */
@@ -137,13 +145,20 @@ enum lovasuku_reason {
  * place of the listing. Lines from 0,0 to 1.25,0, from 4.5,0 to 3.5,0 and from 3.5,0 to 1.75,0 with tolerance 1 are one
  * chain with members 0 1 2, marks 0 1 1 and listing 0 2 1.
  *
+ * Two districts may go through one call. The lines of groups below 2^31 are the first district's and all others the
+ * second's, and each may bring 2,048 lines and 32,768 coordinates, every line counted, so that 4,096 lines fit one call
+ * only as 2,048 and 2,048. What one district brings does not alter the other's chains: in two accepted calls with the
+ * same settings in which a district's lines are the same in the same order, its chains, named by the ranks of its own
+ * lines, come in the same order with the same members, marks, listing, coordinates and loops, however the other's lines
+ * differ or are mixed in. Positions, firsts and the number of chains may differ. A refusal is of the whole call.
+ *
  * Rooms: table 6n, members n, marks n, listing n, merged and spare 2c (3c or 4c with extras), workspace 192n.
  *
  * Refusals: 12 wkb_type is none of the four. 1 n is above 4,096. 2 groups or kinds are not n numbers. 3 a kind is
  * above 1. 4 the counts do not add up to the coordinates' length, by the numbers of a coordinate. 5 c is above 65,536.
- * 15 an x or a y of any line is NaN or infinite. 6 switch_on is above 1, or it is 1 and limit is NaN, below -1 or
- * above 1. 17 origin_x or origin_y is NaN or infinite, whatever the tolerance is. 7 a room is too short. No tolerance
- * is refused. */
+ * 20 a district, either of the two, has more than 2,048 lines. 21 a district has more than 32,768 coordinates. 15 an x
+ * or a y of any line is NaN or infinite. 6 switch_on is above 1, or it is 1 and limit is NaN, below -1 or above 1. 17
+ * origin_x or origin_y is NaN or infinite, whatever the tolerance is. 7 a room is too short. No tolerance is refused. */
 int64_t lovasuku_build(uint32_t wkb_type, const double *coordinates, size_t coordinates_length,
                        const uint32_t *counts, size_t counts_length,
                        const uint32_t *groups, size_t groups_length,

@@ -30,12 +30,19 @@ static void make_slices(void) {
     }
 }
 
+/* Few lines, or about as many as a district or a call may have. */
 static size_t next_lines(struct bytes *bytes) {
     uint8_t size = next_byte(bytes);
-    if (size == 0xff) {
-        return LOVASUKU_MOST_LINES + 1;
+    switch (size) {
+    case 0xff:
+        return LOVASUKU_MOST_LINES + next_below(bytes, 2);
+    case 0xfe:
+        return next_below(bytes, MEDIUM);
+    case 0xfd:
+        return LOVASUKU_MOST_DISTRICT_LINES + next_below(bytes, 2);
+    default:
+        return size % FEW;
     }
-    return size == 0xfe ? next_below(bytes, MEDIUM) : size % FEW;
 }
 
 /* The exponent's bits, which are all set in a NaN and in an infinity. */
@@ -51,8 +58,8 @@ static uint64_t next_coordinate(struct bytes *bytes, bool anything) {
     return is_nowhere(word) && !anything ? word ^ 0x0010000000000000 : word;
 }
 
-/* Writes the lines of the bytes, of coordinates of so many numbers, and beyond them a row of lines end to end. Extras are
- * any words. Gives the number of points. */
+/* Writes the lines of the bytes, of coordinates of so many numbers, and beyond them a row of lines end to end, as many of
+ * the first district as it may have, and then of the second. Extras are any words. Gives the number of points. */
 static size_t fill_lines(struct bytes *bytes, size_t n, size_t numbers, uint64_t *words, uint32_t *count,
                          uint32_t *group, uint8_t *kind) {
     static const uint8_t sizes[] = {2, 2, 2, 3, 3, 4, 1, 0};
@@ -62,7 +69,10 @@ static size_t fill_lines(struct bytes *bytes, size_t n, size_t numbers, uint64_t
         bool made = bytes->left > 0;
         uint8_t flags = next_byte(bytes);
         count[line] = sizes[flags % 8];
-        group[line] = flags >> 3 & 1;
+        group[line] = (flags >> 3 & 1) | (flags >> 4 & 1 ? LOVASUKU_BORDER : 0);
+        if (!made && line >= LOVASUKU_MOST_DISTRICT_LINES) {
+            group[line] |= LOVASUKU_BORDER;
+        }
         kind[line] = flags < 0xe0 ? 0 : flags < 0xff ? 1 : 2;
         for (size_t k = 0; k < count[line]; k++) {
             uint64_t *at = words + numbers * points;
@@ -89,7 +99,8 @@ static size_t damage_counts(struct bytes *bytes, size_t n, size_t numbers, size_
         count[next_below(bytes, n)] += next_below(bytes, 4) * 0x40000000u;
         count[next_below(bytes, n)] += next_below(bytes, 4) * 0x40000000u + next_below(bytes, 2);
     } else if (flags == 0xfe && next_byte(bytes) == 0xff) {
-        size_t wanted = LOVASUKU_MOST_POINTS + next_below(bytes, 2);
+        size_t most = next_byte(bytes) % 2 == 0 ? LOVASUKU_MOST_DISTRICT_POINTS : LOVASUKU_MOST_POINTS;
+        size_t wanted = most + next_below(bytes, 2);
         memset(words + numbers * points, 0, 8 * numbers * (wanted - points));
         count[n - 1] += (uint32_t)(wanted - points);
         return wanted;
@@ -138,9 +149,8 @@ static struct building next_building(struct bytes *bytes, struct lengths *length
     return call;
 }
 
-/* The rooms of a call; short ones where it has too many lines. */
-static void wanted_rooms(const struct building *call, size_t numbers, size_t *wanted) {
-    size_t n = call->n > LOVASUKU_MOST_LINES ? FEW : call->n;
+/* The rooms of a call of so many lines. */
+static void wanted_rooms(size_t n, size_t numbers, size_t *wanted) {
     const size_t lengths[ROOMS] = {LOVASUKU_RECORD * n, n, n, n, numbers, numbers, LOVASUKU_LINE_WORKSPACE * n};
     memcpy(wanted, lengths, sizeof lengths);
 }
@@ -160,6 +170,24 @@ static bool counts_add_up(const struct building *call, size_t numbers) {
         sum += ((const uint32_t *)counts.fill)[i];
     }
     return call->width * sum == numbers;
+}
+
+/* What a district brings: its lines, or its coordinates. */
+static uint64_t brought(const struct building *call, bool second, bool points) {
+    uint64_t sum = 0;
+    for (size_t i = 0; i < call->n; i++) {
+        bool of_second = ((const uint32_t *)groups.fill)[i] >= LOVASUKU_BORDER;
+        if (of_second == second) {
+            sum += points ? ((const uint32_t *)counts.fill)[i] : 1;
+        }
+    }
+    return sum;
+}
+
+/* True where either district brings more than its share. */
+static bool over_share(const struct building *call, bool points) {
+    uint64_t most = points ? LOVASUKU_MOST_DISTRICT_POINTS : LOVASUKU_MOST_DISTRICT_LINES;
+    return brought(call, false, points) > most || brought(call, true, points) > most;
 }
 
 /* True where an x or a y is no place. */
@@ -194,6 +222,12 @@ static int refusal(const struct building *call, const struct lengths *lengths) {
     if (lengths->numbers > call->width * LOVASUKU_MOST_POINTS) {
         return LOVASUKU_TOO_MANY_COORDINATES;
     }
+    if (over_share(call, false)) {
+        return LOVASUKU_DISTRICT_OVER_LINES;
+    }
+    if (over_share(call, true)) {
+        return LOVASUKU_DISTRICT_OVER_COORDINATES;
+    }
     if (any_coordinate_nowhere(call, lengths->numbers)) {
         return LOVASUKU_NO_PLACE;
     }
@@ -203,7 +237,7 @@ static int refusal(const struct building *call, const struct lengths *lengths) {
     if (!isfinite(call->origin_x) || !isfinite(call->origin_y)) {
         return LOVASUKU_BAD_ORIGIN;
     }
-    wanted_rooms(call, lengths->numbers, wanted);
+    wanted_rooms(call->n, lengths->numbers, wanted);
     for (int room = 0; room < ROOMS; room++) {
         if (lengths->rooms[room] < wanted[room]) {
             return LOVASUKU_ROOM_TOO_SHORT;
@@ -324,7 +358,8 @@ void fuzz_build(struct bytes *bytes) {
     make_slices();
     struct lengths lengths;
     struct building call = next_building(bytes, &lengths);
-    wanted_rooms(&call, lengths.numbers, lengths.rooms);
+    /* Of many lines a call gets short rooms, which it may refuse. */
+    wanted_rooms(call.n > MEDIUM ? FEW : call.n, lengths.numbers, lengths.rooms);
     for (int room = 0; room < ROOMS; room++) {
         lengths.rooms[room] = next_length(bytes, lengths.rooms[room]);
     }

@@ -20,6 +20,7 @@ use Rattle.point_numbers.proofs.Points.{at-x, at-y, points-exact, points-from, 
 use Rattle.point_numbers.proofs.Widths.{width-two}
 use Rattle.rules.specs.Layout.{Lines}
 use Rattle.rules.specs.Types.{widthOf, noType}
+use Rattle.rules.specs.Districts.{overLines, overPoints}
 use Rattle.build_refusals.specs.Admitted.{Admitted}
 use Rattle.rules.specs.Refusals.{Rooms, anyAbove, nowhere, anyNowhere, originBad, firstOf, refusalOf, mostLines, mostPoints, lineRoom, recordSize}
 use Rattle.build_refusals.specs.Tests.{wildOf, switchBad, roomShort}
@@ -160,10 +161,16 @@ tests t l s o =
     ∷ (3, anyAbove 1 (l .kinds))
     ∷ (4, not (eqb (c * widthOf t) numbers))
     ∷ (5, ltb mostPoints c)
+    ∷ (20, overLines (l .groups))
+    ∷ (21, overPoints (l .counts) (l .groups))
     ∷ (15, anyNowhere (points (widthOf t) (l .coordinates)))
     ∷ (6, switchBad (s .switch) (s .limit))
     ∷ (17, originBad (s .«origin_x») (s .«origin_y»))
-    ∷ (7, roomShort n numbers (length (o .table)) (length (o .members)) (length (o .marks)) (length (o .listing)) (length (o .merged)) (length (o .spare)) (length (o .workspace)))
+    ∷ (
+      7,
+      roomShort n numbers (length (o .table)) (length (o .members)) (length (o .marks)) (length (o .listing))
+          (length (o .merged)) (length (o .spare)) (length (o .workspace)),
+    )
     ∷ []
 
 -- a test that doesn't hold is passed, and the first that holds gives its number
@@ -191,6 +198,25 @@ rung {r} {k} {b} {l} e f = record { is = e .is ∙ passed k b l f }
 
 pub halt : {r k : ℕ} {b : Bool} {l : List (ℕ × Bool)} → Left r ((k, b) ∷ l) → b ≡ true → k ≡ r
 halt {r} {k} {b} {l} e f = sym (e .is ∙ stopped k b l f)
+
+-- two rungs by the number of the first that holds
+pub rungs : {r k i j : ℕ} {a b : Bool} {l : List (ℕ × Bool)} → Left r ((suc i, a) ∷ (suc j, b) ∷ l) → k ≡ firstOf ((suc i, a) ∷ (suc j, b) ∷ []) → k ≡ 0 → Left r l
+unfolding firstOf
+rungs {r} {k} {i} {j} {a} {b} {l} e f z = go a b (e .is) (sym z ∙ f)
+  where
+    go : (a b : Bool) → r ≡ firstOf ((suc i, a) ∷ (suc j, b) ∷ l) → 0 ≡ firstOf ((suc i, a) ∷ (suc j, b) ∷ []) → Left r l
+    go true b e f = absurd (omega arith)
+    go false true e f = absurd (omega arith)
+    go false false e f = record { is = e }
+
+pub halts : {r k i j : ℕ} {a b : Bool} {l : List (ℕ × Bool)} → Left r ((i, a) ∷ (j, b) ∷ l) → k ≡ firstOf ((i, a) ∷ (j, b) ∷ []) → (k ≡ 0 → ⊥) → k ≡ r
+unfolding firstOf
+halts {r} {k} {i} {j} {a} {b} {l} e f n = go a b (e .is) f
+  where
+    go : (a b : Bool) → r ≡ firstOf ((i, a) ∷ (j, b) ∷ l) → k ≡ firstOf ((i, a) ∷ (j, b) ∷ []) → k ≡ r
+    go true b e f = f ∙ sym e
+    go false true e f = f ∙ sym e
+    go false false e f = absurd (n f)
 
 pub top : {r : ℕ} → Left r [] → 0 ≡ r
 unfolding firstOf
@@ -233,6 +259,10 @@ or-off : (a b : Bool) → a || b ≡ false → (a ≡ false) × (b ≡ false)
 or-off true b e = absurd (true≢false e)
 or-off false b e = (refl, e)
 
+-- where the tables don't differ, the groups are as many as the lines
+pub same-groups : (g n : ℕ) (b : Bool) {r : Bool} → r ≡ (not (eqb g n) || b) → r ≡ false → g ≡ n
+same-groups g n b e f = eqb-true g n (not-false _ (or-off (not (eqb g n)) b (sym e ∙ f) .0))
+
 pub admitted : (t : ℕ) (l : Lines) (s : Settings) (o : Rooms) → refusalOf t l s o ≡ 0 → Admitted t l s o
 unfolding roomShort
 admitted t l s o z =
@@ -248,8 +278,10 @@ admitted t l s o z =
     let t₇ = off (t₆ .1) in
     let t₈ = off (t₇ .1) in
     let t₉ = off (t₈ .1) in
+    let t₁₀ = off (t₉ .1) in
+    let t₁₁ = off (t₁₀ .1) in
     let both = or-off (not (eqb (length (l .groups)) n)) (not (eqb (length (l .kinds)) n)) (t₂ .0) in
-    let r₁ = or-off (ltb (length (o .table)) (n * recordSize)) _ (t₉ .0) in
+    let r₁ = or-off (ltb (length (o .table)) (n * recordSize)) _ (t₁₁ .0) in
     let r₂ = or-off (ltb (length (o .members)) n) _ (r₁ .1) in
     let r₃ = or-off (ltb (length (o .marks)) n) _ (r₂ .1) in
     let r₄ = or-off (ltb (length (o .listing)) n) _ (r₃ .1) in
@@ -262,9 +294,11 @@ admitted t l s o z =
       kinds-long = eqb-true (length (l .kinds)) n (not-false _ (both .1));
       adds = eqb-true (total (l .counts) * widthOf t) numbers (not-false _ (t₄ .0));
       small = ltb-false 65536 (total (l .counts)) (t₅ .0);
-      places = t₆ .0;
-      switched = t₇ .0;
-      cornered = t₈ .0;
+      lines-shared = t₆ .0;
+      points-shared = t₇ .0;
+      places = t₈ .0;
+      switched = t₉ .0;
+      cornered = t₁₀ .0;
       table-long = ltb-false (length (o .table)) (n * recordSize) (r₁ .0);
       members-long = ltb-false (length (o .members)) n (r₂ .0);
       marks-long = ltb-false (length (o .marks)) n (r₃ .0);

@@ -8,6 +8,7 @@ use Rattle.rules.specs.Lists.{total}
 use Rattle.rules.specs.Plane.{points}
 use Rattle.rules.specs.Layout.{Lines}
 use Rattle.rules.specs.Types.{widthOf}
+use Rattle.rules.specs.Districts.{overLines, overPoints}
 use Rattle.rules.specs.Refusals.{Rooms, anyNowhere, originBad, mostLines, mostPoints, recordSize, lineRoom}
 use Rattle.build_refusals.specs.Tests.{switchBad}
 
@@ -18,6 +19,8 @@ pub record Admitted (t : ℕ) (l : Lines) (s : Settings) (o : Rooms) : Type 0 wh
   pub kinds-long : length (l .kinds) ≡ length (l .counts)
   pub adds : total (l .counts) * widthOf t ≡ length (l .coordinates)
   pub small : total (l .counts) ≤ mostPoints
+  pub lines-shared : overLines (l .groups) ≡ false
+  pub points-shared : overPoints (l .counts) (l .groups) ≡ false
   pub places : anyNowhere (points (widthOf t) (l .coordinates)) ≡ false
   pub switched : switchBad (s .switch) (s .limit) ≡ false
   pub cornered : originBad (s .«origin_x») (s .«origin_y») ≡ false

@@ -211,6 +211,10 @@ pub fn refusal(
     if (MOST_POINTS as u64) < c {
         return 5;
     }
+    let share = build_shares::share_refusal(counts, groups, c);
+    if share != 0 {
+        return share;
+    }
     if any_nowhere(coordinates, width) {
         return 15;
     }

@@ -37,7 +37,8 @@ module _ (f : ℕ → ℕ) (stay : (k : ℕ) → eqb k 6 ≡ false → k ≡ f k
   building : (s t : List (ℕ × Bool)) (ox oy : Float) (type : ℕ) (l : Lines) (o : Rooms)
       → ((rest : List (ℕ × Bool)) → Turned f rest rest → Turned f (s ++ rest) (t ++ rest))
       → refusalWith s ox oy type l o ≡ f (refusalWith t ox oy type l o)
-  building s t ox oy type l o middle = more refl (more refl (more refl (more refl (more refl (more refl (more refl (middle _ (more refl (more refl none))))))))) .is
+  building s t ox oy type l o middle =
+      more refl (more refl (more refl (more refl (more refl (more refl (more refl (more refl (more refl (middle _ (more refl (more refl none))))))))))) .is
 
   pairing : (s t : ℕ × Bool) (alone : Bool) (i : LentEnds)
       → ((rest : List (ℕ × Bool)) → Turned f rest rest → Turned f (s ∷ rest) (t ∷ rest))

@@ -2,3 +2,4 @@ mod Numbers
 pub mod Ladders
 pub mod Calls
 pub mod Demand
+pub mod Districts

@@ -10,6 +10,7 @@ use Rattle.rules.specs.Types.{widthOf}
 use Rattle.rules.specs.Refusals.{firstOf, anyAbove, originBad, nowhere, anyNowhere, moreThanTwice, anyWild, Rooms, LentEnds}
 use Rattle.rules.specs.Calls.{unless, answerOf}
 use Rattle.rules.specs.Offset.{offsetRoot, offsetLimit, offsetRefusalOf, offsetAsked, limitFor, buildOffsetRefusalOf, pairOffsetRefusalOf, endsFor}
+use Rattle.rules.proofs.Computing.{the-shares}
 use Rattle.rules.proofs.Given.{+0, +1, not-a-number}
 
 -- everything that is run through
@@ -31,7 +32,7 @@ limits = (refl, refl, refl, refl, refl, refl, refl)
 -- ---- building
 
 unfoldable building : Unit {0}
-unfolding buildOffsetRefusalOf widthOf firstOf anyAbove originBad nowhere anyNowhere total reads points ofBits
+unfolding buildOffsetRefusalOf widthOf firstOf anyAbove originBad nowhere anyNowhere total reads points ofBits the-shares
 building = tt
 
 -- n lines of one coordinate each, whose numbers are x; a room of m numbers each

@@ -10,6 +10,15 @@ pub fn stride_of(wkb_type: u32) -> Option<usize> {
     TYPES.iter().position(|&known| known == wkb_type).map(|place| [2, 3, 3, 4][place])
 }
 
+/// The first group of the second district: those below are the first's.
+pub const BORDER: u32 = 1 << 31;
+
+/// The most lines of a district.
+pub const MOST_DISTRICT_LINES: usize = 2_048;
+
+/// The most coordinates of a district.
+pub const MOST_DISTRICT_POINTS: usize = 32_768;
+
 /// A building call. Coordinates, tolerance, origin and limit are the 64 bits of their floats.
 #[derive(Clone, Debug, PartialEq, Eq)]
 pub struct BuildCall {
@@ -19,7 +28,8 @@ pub struct BuildCall {
     pub coordinates: Vec<u64>,
     /// Coordinates per line.
     pub counts: Vec<u32>,
-    /// One group per line; lines of different groups never meet.
+    /// One group per line; lines of different groups never meet. Those below [`BORDER`] are the first
+    /// district's, the others the second's.
     pub groups: Vec<u32>,
     /// One kind per line: 0 plain, 1 pass through unjoined.
     pub kinds: Vec<u8>,
@@ -115,13 +125,48 @@ impl BuildCall {
         self.origin.iter().any(|&bits| !f64::from_bits(bits).is_finite())
     }
 
-    /// The refusal of the model's that applies, if one does: a type that is none of the four, a
-    /// coordinate that is no place, or an origin that is none.
+    /// The district of a line: 0 the first, 1 the second.
+    pub fn district(&self, line: usize) -> usize {
+        usize::from(self.groups[line] >= BORDER)
+    }
+
+    /// The lines that each district brings.
+    pub fn lines_brought(&self) -> [usize; 2] {
+        self.brought(|_| 1)
+    }
+
+    /// The coordinates that each district brings.
+    pub fn points_brought(&self) -> [usize; 2] {
+        self.brought(|line| self.counts[line] as usize)
+    }
+
+    fn brought(&self, of: impl Fn(usize) -> usize) -> [usize; 2] {
+        let mut sums = [0; 2];
+        (0..self.lines()).for_each(|line| sums[self.district(line)] += of(line));
+        sums
+    }
+
+    /// The refusal of a district that brings more than its share, if one does: of its lines, and where
+    /// neither has too many, of its coordinates.
+    pub fn over_share(&self) -> Option<Refusal> {
+        if self.lines_brought().iter().any(|&lines| lines > MOST_DISTRICT_LINES) {
+            Some(DISTRICT_OVER_LINES)
+        } else if self.points_brought().iter().any(|&points| points > MOST_DISTRICT_POINTS) {
+            Some(DISTRICT_OVER_COORDINATES)
+        } else {
+            None
+        }
+    }
+
+    /// The refusal of the model's that applies, if one does: a type that is none of the four, a district
+    /// over its share, a coordinate that is no place, or an origin that is none.
     pub fn refusal(&self) -> Option<Refusal> {
         match stride_of(self.wkb_type) {
             None => Some(NO_TYPE),
-            Some(_) if self.nowhere() => Some(NO_PLACE),
-            Some(_) => self.adrift().then_some(BAD_ORIGIN),
+            Some(_) => self.over_share().or_else(|| match self.nowhere() {
+                true => Some(NO_PLACE),
+                false => self.adrift().then_some(BAD_ORIGIN),
+            }),
         }
     }
 
@@ -255,6 +300,12 @@ pub struct Refusal(pub u32);
 
 /// The refusal of a type that is none of the four.
 pub const NO_TYPE: Refusal = Refusal(12);
+
+/// The refusal of a district that brings more lines than its share.
+pub const DISTRICT_OVER_LINES: Refusal = Refusal(20);
+
+/// The refusal of a district that brings more coordinates than its share.
+pub const DISTRICT_OVER_COORDINATES: Refusal = Refusal(21);
 
 /// The refusal of a coordinate that is no place.
 pub const NO_PLACE: Refusal = Refusal(15);

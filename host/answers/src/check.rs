@@ -17,7 +17,7 @@ fn in_range(limit: u64) -> bool {
     (-1.0..=1.0).contains(&f64::from_bits(limit))
 }
 
-/// No refusal applies to the building call but that of coordinates that are no place.
+/// No refusal applies to the building call but those of coordinates and of an origin that are no place.
 pub fn build_call(call: &BuildCall) -> Checked {
     let n = call.lines();
     let points: usize = call.counts.iter().map(|&count| count as usize).sum();
@@ -27,6 +27,7 @@ pub fn build_call(call: &BuildCall) -> Checked {
     ensure(call.kinds.iter().all(|&kind| kind <= 1), "a kind is above 1")?;
     ensure(call.stride() * points == call.coordinates.len(), "the counts do not add up")?;
     ensure(points <= 65536, "there are more than 65,536 coordinates")?;
+    ensure(call.over_share().is_none(), "a district has more than its share")?;
     ensure(call.switch <= 1, "the switch is above 1")?;
     ensure(call.switch == 0 || in_range(call.limit), "the limit is out of range")
 }

@@ -3,7 +3,9 @@
 use answers::model::plane::{cell, direction};
 use answers::model::Model;
 use answers::{BuildCall, Built, Pair, PairingCall, Port, Route};
-use answers::{BAD_ORIGIN, NO_PLACE, NO_TYPE, TYPES};
+use answers::{
+    BAD_ORIGIN, BORDER, DISTRICT_OVER_COORDINATES, DISTRICT_OVER_LINES, NO_PLACE, NO_TYPE, TYPES,
+};
 
 type Line = [(f64, f64)];
 
@@ -227,6 +229,33 @@ fn an_origin_that_is_no_place_is_refused() {
             assert_eq!(Model.build(&call), Err(NO_PLACE));
         }
     }
+}
+
+#[test]
+fn a_district_over_its_share_is_refused() {
+    for group in [0, BORDER - 1, BORDER, u32::MAX] {
+        let mut call = BuildCall { origin: [u64::MAX; 2], ..BuildCall::default() };
+        call.push(&[[u64::MAX; 2]; 32_768], group, 1);
+        (1..2_048).for_each(|_| call.push(&[], group, 0));
+        assert_eq!(Model.build(&call), Err(NO_PLACE));
+        let mut points = call.clone();
+        (points.counts[1], points.coordinates) = (1, vec![u64::MAX; 2 * 32_769]);
+        assert_eq!(Model.build(&points), Err(DISTRICT_OVER_COORDINATES));
+        call.push(&[], group ^ BORDER, 0);
+        assert_eq!(Model.build(&call), Err(NO_PLACE));
+        points.push(&[], group, 0);
+        assert_eq!(Model.build(&points), Err(DISTRICT_OVER_LINES));
+    }
+}
+
+#[test]
+fn lines_of_two_districts_never_meet() {
+    let mut call = BuildCall { tolerance: 1f64.to_bits(), ..BuildCall::default() };
+    let lines: [&Line; 2] = [&[(0.0, 0.0), (1.0, 0.0)], &[(1.0, 0.0), (2.0, 0.0)]];
+    lines.iter().for_each(|line| call.push_plain(line));
+    assert_eq!(Model.build(&call).map(|built| built.table.len()), Ok(1));
+    call.groups[1] = BORDER;
+    assert_eq!(Model.build(&call).map(|built| built.table.len()), Ok(2));
 }
 
 /// A call of a type without lines.

@@ -28,7 +28,7 @@ fn once(mut words: impl Iterator<Item = String>) -> Option<usize> {
     let (name, lines, mode) = (words.next()?, words.next()?.parse().ok()?, words.next()?);
     let workload = WORKLOADS.iter().find(|workload| workload.name == name)?;
     let mode = MODES.iter().find(|one| one.name == mode)?;
-    let call = (workload.make)(lines).call(mode);
+    let call = workload.network(lines).call(mode);
     let coordinates: Vec<f64> = call.coordinates.iter().map(|&bits| f64::from_bits(bits)).collect();
     let lent = Lines {
         dimension: Dimension::Xy,

@@ -145,7 +145,7 @@ impl Report<'_> {
             let ((name, lines), mode) = (named(high), &MODES[high.2]);
             let workload = WORKLOADS.iter().find(|workload| workload.name == high.0);
             let flat =
-                workload.map(|workload| (workload.make)(lines).call(mode)).unwrap_or_default();
+                workload.map(|workload| workload.network(lines).call(mode)).unwrap_or_default();
             let of = |&(_, wkb_type): &(&str, u32)| match wkb_type {
                 2 => flat.clone(),
                 _ => with_extras(&mut Random::new(7), &flat, wkb_type),
@@ -196,7 +196,7 @@ impl Report<'_> {
     }
 
     fn building_row(&mut self, workload: &Workload, lines: usize) -> Result<(), String> {
-        let network = (workload.make)(lines);
+        let network = workload.network(lines);
         let points = network.lines.coordinates.len() / 2;
         let mut cells = vec![workload.name.to_string(), whole(lines), whole(points)];
         let mut beside = Vec::new();

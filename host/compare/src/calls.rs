@@ -1,11 +1,14 @@
 //! The calls of a run: every style of the recorded answers and arbitrary bits, with points put into
-//! some of the lines, with cells counted from an origin, and with heights and measures in some calls.
+//! some of the lines, with cells counted from an origin, with lines of two districts, and with heights and
+//! measures in some calls.
 //! The seed and the number of a call determine it.
 
 use answers::random::Random;
-use answers::styles::{heights, junctions, origins, pairing, wild, Style, BUILDING, PAIRING};
+use answers::styles::{
+    districts, heights, junctions, origins, pairing, wild, Style, BUILDING, PAIRING,
+};
 use answers::{offset, BuildCall, PairingCall, WhyCall, TYPES};
-use lovasuku_chains::size::{MOST_ENDS, MOST_LINES, MOST_POINTS};
+use lovasuku_chains::size::{MOST_DISTRICT_POINTS, MOST_ENDS, MOST_LINES, MOST_POINTS};
 
 /// A call of either sort.
 #[derive(Clone, Debug)]
@@ -36,6 +39,12 @@ const LOST: usize = 16;
 
 /// One building call in so many has an origin, beside those whose style has.
 const ORIGINS: usize = 3;
+
+/// One building call in so many has lines of two districts; of those of real size all but one in so many.
+const DIVIDED: usize = 3;
+
+/// One building call in so many of those that are not of real size has a district at the edge of its share.
+const CROWDED: usize = 64;
 
 /// One call in so many has the limit of an offset.
 const OFFSETS: usize = 4;
@@ -76,30 +85,42 @@ pub fn numbered(seed: u64, number: u64) -> Numbered {
         };
         return Numbered { style, call, rooms };
     }
+    let (style, call) = building(&mut random, real, &mut Random::new(!rooms));
+    Numbered { style, call: Call::Build(call), rooms }
+}
+
+/// A building call with the name of its style. Districts are of a chance of their own.
+fn building(random: &mut Random, real: bool, apart: &mut Random) -> (&'static str, BuildCall) {
     let styles: Vec<Style<BuildCall>> = BUILDING.into_iter().chain(ADDED).collect();
     let (style, make) = random.pick(&styles);
-    let size = size(&mut random, real, MOST_LINES);
-    let call = make(&mut random, size);
+    let size = size(random, real, MOST_LINES);
+    let mut call = make(random, size);
+    if apart.one_in(DIVIDED) != real {
+        call = districts::divided(apart, call);
+    }
     let more = match real {
         true => random.pick(&[0, MOST_POINTS]),
-        false => random.pick(&[0, 0, 0, 0, 0, 12]),
+        false => random.pick(&[0, 0, 0, 0, 0, 24]),
     };
-    let mut call = stretched(&mut random, call, more);
+    call = stretched(random, call, more);
+    if !real && apart.one_in(CROWDED) {
+        call = districts::crowded(apart, call);
+    }
     if random.one_in(LOST) {
-        lose(&mut random, &mut call);
+        lose(random, &mut call);
     }
     if random.one_in(ORIGINS) {
-        call = origins::with_origin(&mut random, &call);
+        call = origins::with_origin(random, &call);
     }
     if random.one_in(HIGH) {
         let wkb_type = random.pick(&TYPES[1..]);
-        call = heights::with_extras(&mut random, &call, wkb_type);
+        call = heights::with_extras(random, &call, wkb_type);
     }
     if random.one_in(UNTYPED) {
         call.wkb_type = random.pick(&NO_TYPES);
     }
-    bend(&mut random, &mut call.limit);
-    Numbered { style, call: Call::Build(call), rooms }
+    bend(random, &mut call.limit);
+    (style, call)
 }
 
 /// Makes the limit that of an offset, once in so many calls: often the least or the greatest.
@@ -167,24 +188,27 @@ fn size(random: &mut Random, real: bool, most: usize) -> usize {
     }
 }
 
-/// The call with up to so many points put into its lines, as long as a call may have them.
+/// The call with up to so many points put into its lines, half of them in each district's, as long as a
+/// district may have them.
 fn stretched(random: &mut Random, call: BuildCall, more: usize) -> BuildCall {
-    let mut left = more.min(MOST_POINTS.saturating_sub(call.coordinates.len() / 2));
-    if left == 0 {
+    if more == 0 {
         return call;
     }
+    let room = |points| (more / 2).min(MOST_DISTRICT_POINTS.saturating_sub(points));
+    let (mut left, mut lines) = (call.points_brought().map(room), call.lines_brought());
     let BuildCall { tolerance, origin, switch, limit, .. } = call;
     let mut longer = BuildCall { tolerance, origin, switch, limit, ..BuildCall::default() };
     for (line, first) in call.firsts().into_iter().enumerate() {
         let mut points = call.points(line, first);
-        let lines_left = call.lines() - line;
-        let share = if lines_left == 1 { left } else { random.below(1 + 2 * left / lines_left) };
+        let (left, lines) = (&mut left[call.district(line)], &mut lines[call.district(line)]);
+        let share = if *lines == 1 { *left } else { random.below(1 + 2 * *left / *lines) };
         if points.len() > 1 {
             let place = 1 + random.below(points.len() - 1);
             let run: Vec<_> = (0..share).map(|_| inner(random, points[place])).collect();
             points.splice(place..place, run);
-            left -= share;
+            *left -= share;
         }
+        *lines -= 1;
         longer.push(&points, call.groups[line], call.kinds[line]);
     }
     longer

@@ -27,7 +27,8 @@ impl Judge {
         }
     }
 
-    /// The answer to a building call, or the refusal of a coordinate or an origin that is no place.
+    /// The answer to a building call, or the refusal of a type that is none, of a district over its share, or
+    /// of a coordinate or an origin that is no place.
     pub fn build(self, call: &BuildCall) -> Result<Built, Refusal> {
         match self {
             Judge::Oracle(mut oracle) => oracle.build(call),

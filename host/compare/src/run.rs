@@ -45,6 +45,10 @@ pub struct Tally {
     pub offsets: u64,
     /// The building calls with an origin other than 0,0.
     pub origins: u64,
+    /// The building calls with lines of two districts.
+    pub districts: u64,
+    /// Those with a district over its share.
+    pub over_share: u64,
     /// The building calls by their types; those that are none of the four stand under 0.
     pub types: BTreeMap<u32, u64>,
     /// The most lines, points and ends of a call.
@@ -58,7 +62,9 @@ impl Tally {
                 let known = stride_of(call.wkb_type).map_or(0, |_| call.wkb_type);
                 *self.types.entry(known).or_default() += 1;
                 self.origins += u64::from(call.origin != [0; 2]);
-                let points = call.coordinates.len() / call.stride();
+                self.districts += u64::from(call.lines_brought().iter().all(|&lines| lines > 0));
+                self.over_share += u64::from(call.over_share().is_some());
+                let points = call.points_brought().iter().sum();
                 (&mut self.building, [call.lines(), points, 0], Some(call.limit))
             }
             Call::Pairs(call) => (&mut self.pairing, [0, 0, call.ends()], Some(call.limit)),
@@ -89,6 +95,8 @@ impl Tally {
         }
         self.offsets += other.offsets;
         self.origins += other.origins;
+        self.districts += other.districts;
+        self.over_share += other.over_share;
         for (wkb_type, calls) in other.types {
             *self.types.entry(wkb_type).or_default() += calls;
         }
@@ -115,7 +123,9 @@ impl fmt::Display for Tally {
             _ => format!("{wkb_type} {calls}"),
         });
         write!(f, "types: {}", types.collect::<Vec<_>>().join(", "))?;
-        writeln!(f, "; {} with an origin", self.origins)?;
+        write!(f, "; {} with an origin", self.origins)?;
+        write!(f, ", {} with two districts", self.districts)?;
+        writeln!(f, ", {} with one over its share", self.over_share)?;
         write!(f, "pairing, up to {ends} ends: {}", list(&self.pairing))?;
         writeln!(f, "; {} of all with an offset in the limit's place too", self.offsets)?;
         writeln!(f, "two ends asked about: {}", list(&self.why))?;

@@ -34,7 +34,10 @@ pub struct Lines<'a> {
     pub coordinates: &'a [f64],
     /// The number of coordinates of each line.
     pub counts: &'a [u32],
-    /// The group of each line. Lines of different groups are never joined.
+    /// The group of each line. Lines of different groups are never joined. Those below
+    /// [`BORDER`](crate::size::BORDER) are the first district's and the others the second's, and each district
+    /// may bring [`MOST_DISTRICT_LINES`](crate::size::MOST_DISTRICT_LINES) and
+    /// [`MOST_DISTRICT_POINTS`](crate::size::MOST_DISTRICT_POINTS).
     pub groups: &'a [u32],
     /// The kind of each line: [`PLAIN`] or [`PASSING`].
     pub kinds: &'a [u8],

@@ -65,7 +65,8 @@ impl From<Chain<'_>> for OwnedChain {
 ///
 /// # Errors
 ///
-/// [`Refusal::TooMany`], [`Refusal::TooManyCoordinates`] and [`Refusal::NoPlace`].
+/// [`Refusal::TooMany`], [`Refusal::TooManyCoordinates`], [`Refusal::DistrictOverLines`],
+/// [`Refusal::DistrictOverCoordinates`] and [`Refusal::NoPlace`].
 ///
 /// ```
 /// use lovasuku_chains::{build_chains, LineInput};

@@ -31,6 +31,10 @@ pub enum Refusal {
     CountsDoNotAddUp,
     /// 5: more than 65,536 coordinates.
     TooManyCoordinates,
+    /// 20: a district has more than 2,048 lines, of whichever kind.
+    DistrictOverLines,
+    /// 21: a district has more than 32,768 coordinates, of lines of whichever kind.
+    DistrictOverCoordinates,
     /// 15: an x or a y is NaN or infinite, of whichever line. Heights and measures are not looked at.
     NoPlace,
     /// 6: the limit is NaN, below -1 or above 1. At the [`door`](crate::door) also: the switch is
@@ -92,6 +96,8 @@ impl Refusal {
             15 => Refusal::NoPlace,
             16 => Refusal::UnknownOrder,
             17 => Refusal::BadOrigin,
+            20 => Refusal::DistrictOverLines,
+            21 => Refusal::DistrictOverCoordinates,
             22 => Refusal::BadOffset,
             25 => Refusal::MixedTypes,
             26 => Refusal::NoTwoEnds,
@@ -107,6 +113,8 @@ impl Refusal {
             Refusal::MarkAboveOne => 3,
             Refusal::CountsDoNotAddUp => 4,
             Refusal::TooManyCoordinates => 5,
+            Refusal::DistrictOverLines => 20,
+            Refusal::DistrictOverCoordinates => 21,
             Refusal::NoPlace => 15,
             Refusal::BadLimit => 6,
             Refusal::BadOffset => 22,
@@ -134,6 +142,8 @@ impl Refusal {
             Refusal::MarkAboveOne => "a kind or a presence mark is neither 0 nor 1",
             Refusal::CountsDoNotAddUp => "the counts do not add up to the coordinates",
             Refusal::TooManyCoordinates => "there are more than 65,536 coordinates",
+            Refusal::DistrictOverLines => "a district has more than 2,048 lines",
+            Refusal::DistrictOverCoordinates => "a district has more than 32,768 coordinates",
             Refusal::NoPlace => "an x or a y is not finite, so that it is no place",
             Refusal::BadLimit => "the limit is not a number from -1 to 1",
             Refusal::BadOffset => "the offset is above 1,000 millimetres per metre run",
@@ -175,7 +185,7 @@ mod tests {
         for number in 1..=30 {
             let refusal = Refusal::of_number(number);
             assert_eq!(refusal.number(), number);
-            let known = number <= 17 || [22, 25, 26].contains(&number);
+            let known = number <= 17 || [20, 21, 22, 25, 26].contains(&number);
             assert_eq!(!known, matches!(refusal, Refusal::Unknown(_)));
         }
     }

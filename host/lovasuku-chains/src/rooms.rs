@@ -81,11 +81,32 @@ impl Rooms {
     /// looked at and ride along with their points. The chains borrow from the lines and from these
     /// rooms.
     ///
+    /// Two districts may share a call, by the top bit of their groups, and what one brings does not
+    /// alter the other's chains:
+    ///
+    /// ```
+    /// use lovasuku_chains::size::BORDER;
+    /// use lovasuku_chains::{LinesBuf, Rooms, Settings};
+    ///
+    /// # fn main() -> Result<(), lovasuku_chains::Refusal> {
+    /// let mut lines = LinesBuf::default();
+    /// lines.push([[0.0, 0.0], [1.0, 0.0]], 7);
+    /// lines.push([[1.0, 0.0], [1.0, 5.0]], BORDER | 7);
+    /// lines.push([[1.0, 0.0], [2.0, 0.0]], 7);
+    /// let mut rooms = Rooms::default();
+    /// let chains = rooms.build(lines.lines(), Settings::default())?;
+    /// let members: Vec<&[u32]> = chains.iter().map(|chain| chain.members()).collect();
+    /// assert_eq!(members, [&[0, 2][..], &[1]]);
+    /// # Ok(())
+    /// # }
+    /// ```
+    ///
     /// # Errors
     ///
     /// The first of these that applies: [`Refusal::TooMany`], [`Refusal::TablesDiffer`],
     /// [`Refusal::MarkAboveOne`], [`Refusal::CountsDoNotAddUp`], [`Refusal::TooManyCoordinates`],
-    /// [`Refusal::NoPlace`], [`Refusal::BadLimit`], [`Refusal::BadOrigin`].
+    /// [`Refusal::DistrictOverLines`], [`Refusal::DistrictOverCoordinates`], [`Refusal::NoPlace`],
+    /// [`Refusal::BadLimit`], [`Refusal::BadOrigin`].
     pub fn build<'a>(
         &'a mut self,
         lines: Lines<'a>,

@@ -6,6 +6,16 @@ pub const MOST_LINES: usize = 4_096;
 /// The most coordinates of a building call.
 pub const MOST_POINTS: usize = 65_536;
 
+/// The first group of the second district. Two districts may share a building call: lines of groups below
+/// this are the first's and all others the second's.
+pub const BORDER: u32 = 1 << 31;
+
+/// The most lines that a district may bring to a building call.
+pub const MOST_DISTRICT_LINES: usize = 2_048;
+
+/// The most coordinates that a district may bring to a building call.
+pub const MOST_DISTRICT_POINTS: usize = 32_768;
+
 /// The most ends of a pairing call.
 pub const MOST_ENDS: usize = 8_192;
 

@@ -2,7 +2,9 @@
 //! every refusal by its name.
 
 use lovasuku_chains::large::{join, Capacity, Fault, Line};
-use lovasuku_chains::size::{MOST_ENDS, MOST_LINES, MOST_POINTS};
+use lovasuku_chains::size::{
+    BORDER, MOST_DISTRICT_LINES, MOST_DISTRICT_POINTS, MOST_ENDS, MOST_LINES, MOST_POINTS,
+};
 use lovasuku_chains::{
     build_chains, chain_coordinates, chain_question, door, Chains, Dimension, Ends, LineInput,
     Lines, LinesBuf, OwnedChain, Reason, Refusal, Rooms, Route, Settings,
@@ -124,10 +126,16 @@ fn rooms_lent_again_give_the_same() {
     assert!(many.is_empty() && owned(&mut used, &many).is_empty());
 }
 
+/// The last group of the first district and the first of the second, in turn.
+fn either_district(line: usize) -> u32 {
+    [BORDER - 1, BORDER][line % 2]
+}
+
 #[test]
 fn the_largest_call_is_accepted_and_one_more_is_not() {
     let counts = vec![16; MOST_LINES];
-    let (groups, kinds) = (vec![0; MOST_LINES + 1], vec![0; MOST_LINES + 1]);
+    let groups: Vec<u32> = (0..=MOST_LINES).map(either_district).collect();
+    let kinds = vec![0; MOST_LINES + 1];
     let coordinates: Vec<f64> = (0..2 * MOST_POINTS).map(|k| k as f64).collect();
     let lines = Lines {
         dimension: Dimension::Xy,
@@ -146,6 +154,37 @@ fn the_largest_call_is_accepted_and_one_more_is_not() {
     let long =
         Lines { coordinates: &coordinates, counts: &counts, groups: &[0], kinds: &[0], ..lines };
     assert_eq!(rooms.build(long, Settings::default()).err(), Some(Refusal::TooManyCoordinates));
+}
+
+#[test]
+fn a_district_has_its_share_and_no_more() {
+    let mut rooms = Rooms::default();
+    let mut answer =
+        |lines: Lines| rooms.build(lines, Settings::default()).map(|built| built.len());
+    let kinds = vec![1; MOST_LINES];
+    let counts = vec![0; MOST_LINES];
+    for group in [0, BORDER - 1, BORDER, u32::MAX] {
+        let groups = vec![group; MOST_LINES];
+        let empty = |n: usize| Lines {
+            counts: &counts[..n],
+            groups: &groups[..n],
+            kinds: &kinds[..n],
+            ..Lines::default()
+        };
+        assert_eq!(answer(empty(MOST_DISTRICT_LINES)), Ok(MOST_DISTRICT_LINES));
+        let over = Err(Refusal::DistrictOverLines);
+        assert_eq!([MOST_DISTRICT_LINES + 1, MOST_LINES].map(|n| answer(empty(n))), [over, over]);
+        let coordinates = vec![0.0; 2 * MOST_POINTS];
+        let long = |points: usize| (&coordinates[..2 * points], [points as u32]);
+        let (most, counts) = long(MOST_DISTRICT_POINTS);
+        let line = Lines { groups: &[group], ..one_line(most, &counts) };
+        assert_eq!(answer(line), Ok(1));
+        for points in [MOST_DISTRICT_POINTS + 1, MOST_POINTS] {
+            let (more, counts) = long(points);
+            let line = Lines { groups: &[group], ..one_line(more, &counts) };
+            assert_eq!(answer(line), Err(Refusal::DistrictOverCoordinates));
+        }
+    }
 }
 
 #[test]
@@ -192,6 +231,14 @@ fn the_first_refusal_that_applies_is_given() {
     let mut lost = [0.0; 140_000];
     lost[3] = f64::NAN;
     assert_eq!(refused(Lines { coordinates: &lost, counts: &[70_000], ..wrong }), Some(5));
+    let share = Lines { coordinates: &lost[..80_000], counts: &[40_000], ..wrong };
+    assert_eq!(refused(share), Some(21));
+    let counts: Vec<u32> = (0..2_049).map(|line| if line == 0 { 40_000 } else { 0 }).collect();
+    let (groups, kinds) = ([9; 2_049], [0; 2_049]);
+    assert_eq!(
+        refused(Lines { counts: &counts, groups: &groups, kinds: &kinds, ..share }),
+        Some(20)
+    );
     assert_eq!(refused(Lines { coordinates: &lost[..4], ..wrong }), Some(15));
     assert_eq!(refused(Lines { coordinates: &[0.0; 4], ..wrong }), Some(6));
 }

@@ -1,6 +1,7 @@
 //! Heights and measures by the safe calls: they ride along, decide nothing, and keep every bit.
 
 use lovasuku_chains::large::{join, Capacity, Line};
+use lovasuku_chains::size::BORDER;
 use lovasuku_chains::{
     chain_coordinates, chain_question, read_wkb, ByteOrder, Dimension, LinesBuf, Refusal, Rooms,
     Settings, WkbBuf, WkbRooms,
@@ -81,8 +82,17 @@ fn refusals_count_the_numbers_of_the_dimension() {
     };
     let refused = rooms.build(long, Settings::default()).err();
     assert_eq!(refused, Some(Refusal::TooManyCoordinates));
-    let most = lovasuku_chains::Lines { coordinates: &coordinates[3..], counts: &[65_536], ..long };
+    let most = lovasuku_chains::Lines {
+        coordinates: &coordinates[3..],
+        counts: &[32_768, 32_768],
+        groups: &[0, BORDER],
+        kinds: &[0, 0],
+        ..long
+    };
     assert!(rooms.build(most, Settings::default()).is_ok());
+    let shared = lovasuku_chains::Lines { groups: &[0, 0], ..most };
+    let refused = rooms.build(shared, Settings::default()).err();
+    assert_eq!(refused, Some(Refusal::DistrictOverCoordinates));
     let (merged, table) = ([0.0; 6], [0, 2, 1, 0, 2, 0]);
     for dimension in Dimension::ALL {
         let fits = dimension.stride() < 4;

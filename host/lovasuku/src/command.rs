@@ -24,7 +24,8 @@ pub fn run(request: &Request) -> Result<String> {
     let input = || name_of_input(request, |path| path.display().to_string());
     let text = delivery::text(&request.input).with_context(input)?;
     let delivery = &delivery::read(&text, &request.reading, &progress).with_context(input)?;
-    let classes = &Classes::of(delivery, request.class.as_deref()).with_context(input)?;
+    let classes = &Classes::of(delivery, request.class.as_deref(), request.district.as_ref())
+        .with_context(input)?;
     let measure = &Measure::of(delivery, request.units.as_deref());
     let lines = lines(delivery, classes);
     let dimension = if delivery.has_heights() { Dimension::Xyz } else { Dimension::Xy };
@@ -79,7 +80,7 @@ fn tally(
 fn named(delivery: &Delivery, classes: &Classes, fault: Fault) -> Error {
     match &fault {
         Fault::TooLarge(large) => anyhow!(
-            "{}: from feature {} on, {large}; a lower tolerance or --class may part them",
+            "{}: from feature {} on, {large}; a lower tolerance, --class or --district may part them",
             classes.name(large.group),
             delivery.name(large.first)
         ),

@@ -5,6 +5,7 @@ pub mod arguments;
 mod classes;
 pub mod command;
 pub mod delivery;
+pub mod districts;
 pub mod joining;
 pub mod manual;
 mod map;

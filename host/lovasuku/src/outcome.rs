@@ -151,6 +151,9 @@ fn settings_in_words(request: &Request, measure: &Measure) -> String {
     if let Some(name) = &request.class {
         words += &format!(" · classes by {name}");
     }
+    if let Some(district) = &request.district {
+        words += &format!(" · second district by {district}");
+    }
     if measure.degrees {
         words += " · metres on the sphere";
     }

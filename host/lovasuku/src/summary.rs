@@ -64,6 +64,10 @@ impl Summary<'_> {
         if let Some(name) = &self.request.class {
             words += &format!(", in {} by {name:?}", count(self.classes.values.len(), "class"));
         }
+        if let Some(district) = &self.request.district {
+            let second = parted(self.classes.of_second_district());
+            words += &format!(", {second} of the second district by {:?}", district.to_string());
+        }
         words
     }
 

@@ -31,40 +31,41 @@ fn many_roads() {
 }
 
 #[test]
-fn a_call_holds_4096_lines() {
-    assert_eq!(features(&joined(&roads(1, 4_096), &[])).len(), 1);
-    let run = run(&["join", "-", "-o", "-"], &roads(1, 4_097));
+fn a_call_holds_2048_lines_of_a_district() {
+    assert_eq!(features(&joined(&roads(1, 2_048), &[])).len(), 1);
+    assert_eq!(features(&joined(&roads(2, 2_048), &[])).len(), 2);
+    let run = run(&["join", "-", "-o", "-"], &roads(1, 2_049));
     assert_eq!((run.status, &run.out[..]), (1, ""));
     let wanted =
-        "lovasuku: standard input: all lines: from feature 0 on, 4097 lines with 8194 points that meet, \
-                  from 0 0 to 4097 0, are more than one call holds (4096 lines, 65536 points); \
-                  a lower tolerance or --class may part them\n";
+        "lovasuku: standard input: all lines: from feature 0 on, 2049 lines with 4098 points that meet, \
+                  from 0 0 to 2049 0, are more than one call holds of a district (2048 lines, 32768 points); \
+                  a lower tolerance, --class or --district may part them\n";
     assert_eq!(run.err, wanted);
 }
 
 #[test]
 fn a_component_that_no_call_holds_is_named_by_its_class() {
     let text =
-        roads(2, 4_097).replace("\"geometry\"", "\"properties\":{\"kind\":\"spur\"},\"geometry\"");
+        roads(2, 2_049).replace("\"geometry\"", "\"properties\":{\"kind\":\"spur\"},\"geometry\"");
     let first = feature("LineString", "[[9,9],[9,8]]");
     let run = run(&["join", "-", "-o", "-", "--class", "kind"], &format!("{first}\n{text}"));
     assert_eq!((run.status, &run.out[..]), (1, ""));
     assert!(
         run.err
-            .starts_with("lovasuku: standard input: class \"spur\": from feature 1 on, 4097 lines"),
+            .starts_with("lovasuku: standard input: class \"spur\": from feature 1 on, 2049 lines"),
         "{}",
         run.err
     );
 }
 
 #[test]
-fn a_call_holds_65536_points() {
-    let positions: Vec<String> = (0..40_000).map(|x| format!("[{x},0]")).collect();
+fn a_call_holds_32768_points_of_a_district() {
+    let positions: Vec<String> = (0..20_000).map(|x| format!("[{x},0]")).collect();
     let line = |from: &str| feature("LineString", &format!("[{from},{}]", positions.join(",")));
     let apart = format!("{}\n{}", line("[-1,1]"), line("[-1,2]").replace(",0]", ",7]"));
     assert_eq!(features(&joined(&apart, &[])).len(), 2);
     let meeting = format!("{}\n{}", line("[-1,1]"), line("[-1,1]"));
     let run = run(&["join", "-", "-o", "-"], &meeting);
     assert_eq!(run.status, 1);
-    assert!(run.err.contains("2 lines with 80002 points that meet"), "{}", run.err);
+    assert!(run.err.contains("2 lines with 40002 points that meet"), "{}", run.err);
 }

@@ -174,11 +174,11 @@ fn a_coast_of_many_points_stays_small() {
             let radius = 1000.0 + step as f64 * 0.02 + 37.0 * k as f64;
             format!("[{:.3},{:.3}]", radius * angle.cos(), radius * angle.sin())
         };
-        let points: Vec<String> = (0..40_000).map(point).collect();
+        let points: Vec<String> = (0..30_000).map(point).collect();
         feature("LineString", &format!("[{}]", points.join(",")))
     };
-    let text: Vec<String> = (0..12).map(spiral).collect();
+    let text: Vec<String> = (0..16).map(spiral).collect();
     let svg = map(&text.join("\n"), &[]);
     assert!((100_000..3_000_000).contains(&svg.len()), "{}", svg.len());
-    assert_eq!(times(&svg, "<title>chain "), 12);
+    assert_eq!(times(&svg, "<title>chain "), 16);
 }

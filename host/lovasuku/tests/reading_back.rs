@@ -63,7 +63,7 @@ fn lone_lines_bit_for_bit() {
 fn a_long_chain_bit_for_bit() {
     let mut numbers = Numbers(2);
     let points: Vec<[f64; 2]> =
-        (0..3_001).map(|_| [numbers.finite(), numbers.surveyed()]).collect();
+        (0..2_001).map(|_| [numbers.finite(), numbers.surveyed()]).collect();
     let text: Vec<String> = points.windows(2).map(line).collect();
     let out = joined(&text.join("\n"), &[]);
     assert_eq!(features(&out).len(), 1);

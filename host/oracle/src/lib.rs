@@ -94,8 +94,8 @@ impl Oracle {
 }
 
 /// The edited original as something that answers calls. The marks, the listing and the extras, which it does not
-/// know, are the model's, and so are the refusals of types that are none and of coordinates and
-/// origins that are no place.
+/// know, are the model's, and so are the refusals of types that are none, of districts over their shares,
+/// and of coordinates and origins that are no place.
 impl Port for Oracle {
     fn build(&mut self, call: &BuildCall) -> Result<Built, Refusal> {
         let Built { marks, listing, merged, .. } = Model.build(call)?;

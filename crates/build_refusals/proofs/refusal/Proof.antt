@@ -10,7 +10,7 @@ use native.Mathlib.Omega.{arith}
 use borrow.Author.Tests.{lt-ltb, le-ltb, eq-eqb, ne-eqb}
 use Rattle.rules.specs.Layout.{Lines, lent}
 use Rattle.rules.specs.Refusals.{Rooms, rooms, refusalOf}
-use Rattle.build_refusals.proofs.Laws.{tests, Left, opened, rung, halt, top, typed, sums, many, placed, has-two, product-short}
+use Rattle.build_refusals.proofs.Laws.{tests, Left, opened, rung, halt, rungs, halts, top, typed, sums, many, placed, has-two, product-short, same-groups}
 
 abbrev start : tie.Else1 → tie.Start
 start c = c .before .before .before .before .before .before .before .before .before .before .before .before .before
@@ -20,7 +20,8 @@ lines-of s = lent (now (s .args .coordinates)) (now (s .args .counts)) (now (s .
 
 abbrev rooms-of : tie.Start → Rooms
 rooms-of s =
-    rooms (now (s .args .table)) (now (s .args .members)) (now (s .args .marks)) (now (s .args .listing)) (now (s .args .merged)) (now (s .args .spare)) (now (s .args .workspace))
+    rooms (now (s .args .table)) (now (s .args .members)) (now (s .args .marks)) (now (s .args .listing)) (now (s .args .merged)) (now (s .args .spare))
+    (now (s .args .workspace))
 
 -- after k tests that don't hold, the refusal is that of the others
 abbrev After : ℕ → tie.Start → Type 0
@@ -48,14 +49,17 @@ left5 c = rung (left4 (c .before .before)) (sums _ _ _ _ _ (c .before .total .en
 left6 : (c : tie.Else6) → After 6 (start (c .before .before .before .before .before .before .before .before))
 left6 c = rung (left5 (c .before)) (many _ _ _ (c .before .before .total .ensures .0) (le-ltb _ _ (c .if6 .left)))
 
-left7 : (c : tie.Else7) → After 7 (start (c .before .before .before .before .before .before .before .before .before .before))
-left7 c = rung (left6 (c .before .before)) (placed _ _ _ (c .before .before .before .before .before .before .before .before .before .before .before .width-of .ensures .0) (c .before .any-nowhere .ensures) (c .if7 .left))
+left7 : (c : tie.Else7) → After 8 (start (c .before .before .before .before .before .before .before .before .before .before))
+left7 c = rungs (left6 (c .before .before)) (c .before .share-refusal .ensures) (c .if7 .left)
 
-left8 : (c : tie.Else8) → After 8 (start (c .before .before .before .before .before .before .before .before .before .before .before .before))
-left8 c = rung (left7 (c .before .before)) (sym (c .before .switch-bad .ensures) ∙ c .if8 .left)
+left8 : (c : tie.Else8) → After 9 (start (c .before .before .before .before .before .before .before .before .before .before .before .before))
+left8 c = rung (left7 (c .before .before)) (placed _ _ _ (c .before .before .before .before .before .before .before .before .before .before .before .before .before .width-of .ensures .0) (c .before .any-nowhere .ensures) (c .if8 .left))
 
-left9 : (c : tie.Else9) → After 9 (start (c .before .before .before .before .before .before .before .before .before .before .before .before .before .before))
-left9 c = rung (left8 (c .before .before)) (sym (c .before .origin-bad .ensures) ∙ c .if9 .left)
+left9 : (c : tie.Else9) → After 10 (start (c .before .before .before .before .before .before .before .before .before .before .before .before .before .before))
+left9 c = rung (left8 (c .before .before)) (sym (c .before .switch-bad .ensures) ∙ c .if9 .left)
+
+left10 : (c : tie.Else10) → After 11 (start (c .before .before .before .before .before .before .before .before .before .before .before .before .before .before .before .before))
+left10 c = rung (left9 (c .before .before)) (sym (c .before .origin-bad .ensures) ∙ c .if10 .left)
 
 width-of-requires : tie.Need-width-of-requires
 width-of-requires c κs = search needs
@@ -90,33 +94,39 @@ returns-5 c = halt (left4 (c .before .before)) (sums _ _ _ _ _ (c .before .total
 returns-6 : tie.Need-returns-6
 returns-6 c = halt (left5 (c .before)) (many _ _ _ (c .before .before .total .ensures .0) (lt-ltb _ _ (c .if6 .taken)))
 
-any-nowhere-requires : tie.Need-any-nowhere-requires
-any-nowhere-requires c κs =
-    (has-two _ _ (c .before .before .before .before .before .before .before .before .before .width-of .ensures .0) (c .before .before .before .before .before .before .before .before .if1 .left), record { number = c .before .before .total .result; long = sym (c .before .if5 .left) })
+share-refusal-requires : tie.Need-share-refusal-requires
+share-refusal-requires c κs = (c .before .before .before .before .before .before .before .if2 .left, same-groups _ _ _ (c .before .before .before .before .before .before .tables-differ .ensures) (c .before .before .before .before .before .if3 .left), c .before .before .total .ensures .0)
 
 returns-7 : tie.Need-returns-7
-returns-7 c = halt (left6 (c .before .before)) (placed _ _ _ (c .before .before .before .before .before .before .before .before .before .before .before .width-of .ensures .0) (c .before .any-nowhere .ensures) (c .if7 .taken))
+returns-7 c = halts (left6 (c .before .before)) (c .before .share-refusal .ensures) (c .if7 .taken)
+
+any-nowhere-requires : tie.Need-any-nowhere-requires
+any-nowhere-requires c κs =
+    (has-two _ _ (c .before .before .before .before .before .before .before .before .before .before .before .width-of .ensures .0) (c .before .before .before .before .before .before .before .before .before .before .if1 .left), record { number = c .before .before .before .before .total .result; long = sym (c .before .before .before .if5 .left) })
+
+returns-8 : tie.Need-returns-8
+returns-8 c = halt (left7 (c .before .before)) (placed _ _ _ (c .before .before .before .before .before .before .before .before .before .before .before .before .before .width-of .ensures .0) (c .before .any-nowhere .ensures) (c .if8 .taken))
 
 switch-bad-requires : tie.Need-switch-bad-requires
 switch-bad-requires c κs = search needs
 
-returns-8 : tie.Need-returns-8
-returns-8 c = halt (left7 (c .before .before)) (sym (c .before .switch-bad .ensures) ∙ c .if8 .taken)
+returns-9 : tie.Need-returns-9
+returns-9 c = halt (left8 (c .before .before)) (sym (c .before .switch-bad .ensures) ∙ c .if9 .taken)
 
 origin-bad-requires : tie.Need-origin-bad-requires
 origin-bad-requires c κs = search needs
 
-returns-9 : tie.Need-returns-9
-returns-9 c = halt (left8 (c .before .before)) (sym (c .before .origin-bad .ensures) ∙ c .if9 .taken)
+returns-10 : tie.Need-returns-10
+returns-10 c = halt (left9 (c .before .before)) (sym (c .before .origin-bad .ensures) ∙ c .if10 .taken)
 
 room-short-requires : tie.Need-room-short-requires
 room-short-requires c κs = search needs
 
-returns-10 : tie.Need-returns-10
-returns-10 c = halt (left9 (c .before .before)) (sym (c .before .room-short .ensures) ∙ c .if10 .taken)
-
 returns-11 : tie.Need-returns-11
-returns-11 c = top (rung (left9 (c .before .before)) (sym (c .before .room-short .ensures) ∙ c .if10 .left))
+returns-11 c = halt (left10 (c .before .before)) (sym (c .before .room-short .ensures) ∙ c .if11 .taken)
+
+returns-12 : tie.Need-returns-12
+returns-12 c = top (rung (left10 (c .before .before)) (sym (c .before .room-short .ensures) ∙ c .if11 .left))
 
 pub refusal-spec : {M : Type 1} → statement M
 refusal-spec =
@@ -133,12 +143,14 @@ refusal-spec =
     mul-if5
     returns-5
     returns-6
-    any-nowhere-requires
+    share-refusal-requires
     returns-7
-    switch-bad-requires
+    any-nowhere-requires
     returns-8
-    origin-bad-requires
+    switch-bad-requires
     returns-9
-    room-short-requires
+    origin-bad-requires
     returns-10
-    returns-11)
+    room-short-requires
+    returns-11
+    returns-12)

@@ -1,14 +1,15 @@
 //! The building workloads. A name and a size determine the lines, on every machine alike.
 
+pub mod districts;
 pub mod networks;
 pub mod roads;
 pub mod stars;
 
-use answers::BuildCall;
+use answers::{BuildCall, MOST_DISTRICT_LINES};
 
 /// Lines, with the settings under which they are built.
 pub struct Network {
-    /// The lines; all plain and of one group, since GEOS knows neither kinds nor groups.
+    /// The lines; all plain and of one group in a district, since GEOS knows neither kinds nor groups.
     pub lines: BuildCall,
     /// A tolerance at which round two has nodes to join.
     pub coarse: f64,
@@ -20,13 +21,25 @@ pub struct Network {
 pub struct Workload {
     pub name: &'static str,
     pub sizes: &'static [usize],
-    pub make: fn(usize) -> Network,
+    make: fn(usize) -> Network,
+}
+
+impl Workload {
+    /// The network of so many lines: of one district, or, where one may not have so many, half of them of
+    /// each.
+    pub fn network(&self, lines: usize) -> Network {
+        match lines > MOST_DISTRICT_LINES {
+            true => districts::two((self.make)(lines / 2)),
+            false => (self.make)(lines),
+        }
+    }
 }
 
 /// Bends of up to 60 degrees.
 pub const USUAL_LIMIT: f64 = -0.5;
 
-const GROWTH: &[usize] = &[256, 1_024, 4_096];
+/// The most lines of a district stand before those of two.
+const GROWTH: &[usize] = &[256, 1_024, 2_048, 4_096];
 
 /// All workloads, in the order of the table.
 pub const WORKLOADS: [Workload; 10] = [

@@ -1,13 +1,10 @@
 //! Lines end to end: a road in order, a road in random order, few lines of many points.
 
-use super::{Network, USUAL_LIMIT};
+use super::{districts, Network, USUAL_LIMIT};
 use answers::random::Random;
-use answers::BuildCall;
+use answers::{BuildCall, MOST_DISTRICT_POINTS};
 
 type Line = Vec<(f64, f64)>;
-
-/// The most coordinates that a call takes.
-const MOST_POINTS: usize = 65_536;
 
 /// Lines of so many points end to end, from left to right.
 fn row(lines: usize, points: usize) -> Vec<Line> {
@@ -44,9 +41,11 @@ pub fn shuffled(lines: usize) -> Network {
     network(&row)
 }
 
-/// As many points as a call takes in a few lines end to end, every other one drawn backwards.
+/// As many points as a call takes in a few lines, half of them of each district, end to end, every other
+/// one drawn backwards.
 pub fn long_lines(lines: usize) -> Network {
-    let mut row = row(lines, MOST_POINTS / lines);
+    let own = lines / 2;
+    let mut row = row(own, MOST_DISTRICT_POINTS / own);
     row.iter_mut().step_by(2).for_each(|line| line.reverse());
-    network(&row)
+    districts::two(network(&row))
 }

@@ -3,7 +3,7 @@
 use crate::{short_rooms, shorter, Lent, NO_LIMITS, NO_PLACES};
 use answers::random::Random;
 use answers::styles::heights::with_extras;
-use answers::BuildCall;
+use answers::{BuildCall, BORDER};
 use compare::building::BuildRooms;
 
 /// A building call with the shortages of its rooms.
@@ -45,18 +45,26 @@ pub fn accepted() -> Vec<(&'static str, BuildCall)> {
         ("kinds of 1, switch 1, limit 1", edge),
         ("largest, heights and measures", high(&largest(), 3002)),
         ("largest", largest()),
+        ("a whole share of the first district", shares(2_048, [0, BORDER - 1])),
+        ("a whole share of the second district", shares(2_048, [BORDER, u32::MAX])),
     ]
 }
 
 /// How many of these calls are small.
 pub const SMALL: usize = 4;
 
-/// 4,096 lines of 65,536 coordinates in all, switch 1, limit -1.
+/// 4,096 lines of 65,536 coordinates in all, in turn of the last group of the first district and of the
+/// first of the second, switch 1, limit -1.
 fn largest() -> BuildCall {
+    shares(4_096, [BORDER - 1, BORDER])
+}
+
+/// So many lines of 16 coordinates, of two groups in turn, switch 1, limit -1.
+fn shares(lines: u64, groups: [u32; 2]) -> BuildCall {
     let mut call = BuildCall { switch: 1, limit: (-1f64).to_bits(), ..BuildCall::default() };
-    for line in 0..4_096u64 {
+    for line in 0..lines {
         let points: Vec<_> = (0..16).map(|k| [line << 32 | k, k]).collect();
-        call.push(&points, 7, (line % 2) as u8);
+        call.push(&points, groups[(line % 2) as usize], (line / 2 % 2) as u8);
     }
     call
 }
@@ -66,6 +74,7 @@ pub fn damages() -> Vec<Damage> {
     let mut all = types();
     all.extend(numbers());
     all.extend(counts());
+    all.extend(districts());
     all.extend(places());
     all.extend(settings());
     all.extend(origins());
@@ -154,6 +163,51 @@ fn counts() -> Vec<Damage> {
             call.counts[0] += 200_000;
         }),
     ]
+}
+
+/// Refusals 20 and 21: a district with more lines, or coordinates, than its share.
+fn districts() -> Vec<Damage> {
+    let mut all = Vec::new();
+    for (district, name) in ["first", "second"].into_iter().enumerate() {
+        for (more, by) in [(1, "one"), (1_000, "a thousand")] {
+            let lines = format!("{name} district over its lines by {by}");
+            all.push(damage(20, &lines, move |call| crowd(call, district, 2_048 + more)));
+            let points = format!("{name} district over its coordinates by {by}");
+            all.push(damage(21, &points, move |call| lengthen(call, district, 32_768 + more)));
+        }
+    }
+    all
+}
+
+/// Gives a district so many lines: of no coordinates as long as a call may have more, and then of the
+/// other's.
+fn crowd(call: &mut BuildCall, district: usize, lines: usize) {
+    let group = [BORDER - 1, BORDER][district];
+    let need = lines - call.lines_brought()[district];
+    let more = need.min(4_096 - call.lines());
+    (0..more).for_each(|_| call.push(&[], group, 1));
+    let others = call.groups.iter_mut().filter(|group| usize::from(**group >= BORDER) != district);
+    others.take(need - more).for_each(|other| *other = group);
+}
+
+/// Gives a district so many coordinates, in its first line or, where it has none, in the call's: further
+/// ones as long as a call may have more, and then the other's.
+fn lengthen(call: &mut BuildCall, district: usize, points: usize) {
+    let own = (0..call.lines()).find(|&line| call.district(line) == district);
+    let long = own.unwrap_or(0);
+    call.groups[long] = own.map_or([BORDER - 1, BORDER][district], |own| call.groups[own]);
+    let need = points - call.points_brought()[district];
+    let all = call.coordinates.len() / call.stride() + need;
+    call.coordinates.resize(call.stride() * all.min(65_536), 0);
+    call.counts[long] += need as u32;
+    let mut over = all.saturating_sub(65_536) as u32;
+    for line in (0..call.lines()).rev() {
+        if call.district(line) != district {
+            let less = over.min(call.counts[line]);
+            call.counts[line] -= less;
+            over -= less;
+        }
+    }
 }
 
 /// Refusal 15: an x or a y that is no place's, of the first coordinate and of the last. In the

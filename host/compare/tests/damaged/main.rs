@@ -83,17 +83,12 @@ pub fn short_rooms<C, const ROOMS: usize>(names: [&str; ROOMS]) -> Vec<Damage<C,
 }
 
 /// The refusals of building in the order of checking.
-pub const IN_ORDER: [i64; 10] = [12, 1, 2, 3, 4, 5, 15, 6, 17, 7];
+pub const IN_ORDER: [i64; 12] = [12, 1, 2, 3, 4, 5, 20, 21, 15, 6, 17, 7];
 
-/// The place of a refusal in the order of checking: 12 stands first, 15 between 5 and 6, and 17
-/// between 6 and 7.
+/// The place of a refusal in the order of checking, of which building has the beginning.
 fn place(refusal: i64) -> i64 {
-    match refusal {
-        12 => 0,
-        15 => 11,
-        17 => 13,
-        _ => 2 * refusal,
-    }
+    let place = IN_ORDER.iter().position(|&each| each == refusal);
+    place.map_or(IN_ORDER.len() as i64 + refusal, |place| place as i64)
 }
 
 /// The call with the damages, the first refusal's last, so that no other undoes it. Gives that

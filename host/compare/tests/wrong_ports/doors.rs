@@ -1,7 +1,7 @@
 //! The model behind a door, in whole or with something wrong.
 
 use crate::answers_of;
-use answers::{stride_of, BuildCall, Built, Pair, PairingCall, Route, WhyCall};
+use answers::{stride_of, BuildCall, Built, Pair, PairingCall, Refusal, Route, WhyCall};
 use compare::building::BuildRooms;
 use compare::pairing::PairRooms;
 use compare::Door;
@@ -10,6 +10,8 @@ use compare::Door;
 pub struct Pretended {
     /// Whether a type is one of the four.
     pub typed: fn(u32) -> bool,
+    /// The refusal of a building call with a district over its share.
+    pub over_share: fn(&BuildCall) -> Option<Refusal>,
     /// Whether a building call is refused for a coordinate that is no place.
     pub nowhere: fn(&BuildCall) -> bool,
     /// Whether it is refused for an origin that is no place.
@@ -34,6 +36,7 @@ impl Default for Pretended {
     fn default() -> Self {
         Pretended {
             typed: |wkb_type| stride_of(wkb_type).is_some(),
+            over_share: BuildCall::over_share,
             nowhere: BuildCall::nowhere,
             adrift: BuildCall::adrift,
             build: answers_of::right,
@@ -54,6 +57,9 @@ impl Door for Pretended {
         }
         if !(self.typed)(call.wkb_type) {
             return -12;
+        }
+        if let Some(Refusal(number)) = (self.over_share)(call) {
+            return -i64::from(number);
         }
         if (self.nowhere)(call) {
             return -15;

@@ -2,6 +2,7 @@
 
 mod answers_of;
 mod building;
+mod districts;
 mod doors;
 mod extras;
 mod listings;

@@ -2,7 +2,7 @@
 
 use super::components::components;
 use super::{at, Line, Point};
-use crate::size::{MOST_LINES, MOST_POINTS};
+use crate::size::{BORDER, MOST_DISTRICT_LINES, MOST_DISTRICT_POINTS};
 use crate::Settings;
 use std::error::Error;
 use std::fmt;
@@ -10,7 +10,7 @@ use std::fmt;
 /// The positions of the lines of one call. Those of one component ascend.
 pub type Batch = Vec<u32>;
 
-/// How much one call may be given.
+/// How much one call may be given of each district.
 #[derive(Clone, Copy, Debug, PartialEq)]
 pub struct Capacity {
     /// The most lines.
@@ -22,7 +22,7 @@ pub struct Capacity {
 impl Default for Capacity {
     /// What the library takes.
     fn default() -> Self {
-        Capacity { lines: MOST_LINES, points: MOST_POINTS }
+        Capacity { lines: MOST_DISTRICT_LINES, points: MOST_DISTRICT_POINTS }
     }
 }
 
@@ -43,7 +43,7 @@ pub struct TooLarge {
     pub first: u32,
     /// The lowest and the highest x and y of its ends.
     pub place: [Point; 2],
-    /// What a call may be given.
+    /// What a call may be given of its district.
     pub capacity: Capacity,
 }
 
@@ -53,7 +53,7 @@ impl fmt::Display for TooLarge {
         write!(
             f,
             "{} lines with {} points that meet, from {west} {south} to {east} {north}, are more \
-             than one call holds ({} lines, {} points)",
+             than one call holds of a district ({} lines, {} points)",
             self.lines, self.points, self.capacity.lines, self.capacity.points
         )
     }
@@ -68,20 +68,20 @@ pub fn batches(
     capacity: Capacity,
 ) -> Result<Vec<Batch>, TooLarge> {
     let all: Batch = (0..lines.len() as u32).collect();
-    if size(lines, &all).within(capacity) {
+    if Shares::of(lines, &all).within(capacity) {
         return Ok(vec![all]);
     }
     let full = Capacity { lines: capacity.lines / SPREAD, points: capacity.points / SPREAD };
-    let mut batches: Vec<(Batch, Capacity)> = Vec::new();
+    let mut batches: Vec<(Batch, Shares)> = Vec::new();
     for component in components(lines, settings) {
-        let more = size(lines, &component);
+        let more = Shares::of(lines, &component);
         if !more.within(capacity) {
             return Err(too_large(lines, &component, capacity));
         }
         match batches.last_mut() {
-            Some((batch, size)) if size.with(more).within(full) => {
+            Some((batch, shares)) if shares.with(more).within(full) => {
                 batch.extend(component);
-                *size = size.with(more);
+                *shares = shares.with(more);
             }
             _ => batches.push((component, more)),
         }
@@ -89,24 +89,37 @@ pub fn batches(
     Ok(batches.into_iter().map(|(batch, _)| batch).collect())
 }
 
-impl Capacity {
-    fn within(self, other: Capacity) -> bool {
-        self.lines <= other.lines && self.points <= other.points
+/// How much a call is given of the first district and of the second.
+#[derive(Clone, Copy)]
+struct Shares([Capacity; 2]);
+
+impl Shares {
+    /// What these lines bring.
+    fn of(lines: &[Line], positions: &[u32]) -> Self {
+        let mut shares = [Capacity { lines: 0, points: 0 }; 2];
+        for line in positions.iter().map(|&line| at(lines, line)) {
+            let share = &mut shares[usize::from(line.group >= BORDER)];
+            share.lines += 1;
+            share.points += line.points.map_or(0, <[Point]>::len);
+        }
+        Shares(shares)
     }
 
-    fn with(self, more: Capacity) -> Capacity {
-        Capacity { lines: self.lines + more.lines, points: self.points + more.points }
+    fn within(self, capacity: Capacity) -> bool {
+        self.0.iter().all(|share| share.lines <= capacity.lines && share.points <= capacity.points)
     }
-}
 
-/// How much a call of these lines would be given.
-fn size(lines: &[Line], positions: &[u32]) -> Capacity {
-    let points = |&line: &u32| at(lines, line).points.map_or(0, <[Point]>::len);
-    Capacity { lines: positions.len(), points: positions.iter().map(points).sum() }
+    fn with(self, more: Shares) -> Shares {
+        let sum = |k: usize| Capacity {
+            lines: self.0[k].lines + more.0[k].lines,
+            points: self.0[k].points + more.0[k].points,
+        };
+        Shares([sum(0), sum(1)])
+    }
 }
 
 fn too_large(lines: &[Line], component: &[u32], capacity: Capacity) -> TooLarge {
-    let size = size(lines, component);
+    let Shares([first_share, second_share]) = Shares::of(lines, component);
     let first = component.first().copied().unwrap_or_default();
     let mut place = [[f64::INFINITY; 2], [f64::NEG_INFINITY; 2]];
     let ends = component.iter().filter_map(|&line| at(lines, line).ends());
@@ -115,12 +128,14 @@ fn too_large(lines: &[Line], component: &[u32], capacity: Capacity) -> TooLarge 
         place[1] = [place[1][0].max(x), place[1][1].max(y)];
     }
     let group = at(lines, first).group;
-    TooLarge { group, lines: size.lines, points: size.points, first, place, capacity }
+    // A component is of one group, and so of one district.
+    let points = first_share.points + second_share.points;
+    TooLarge { group, lines: component.len(), points, first, place, capacity }
 }
 
 #[cfg(test)]
 mod tests {
-    use super::{batches, Capacity, Line, Settings};
+    use super::{batches, Capacity, Line, Settings, BORDER};
 
     /// Two lines that meet at each of so many places.
     fn twos(places: usize) -> Vec<[[f64; 2]; 2]> {
@@ -158,6 +173,22 @@ mod tests {
         assert!(cut.iter().all(|batch| batch.len() <= 6 && batch.len() % 2 == 0));
         all.sort_unstable();
         assert_eq!(all, (0..100).collect::<Vec<u32>>());
+    }
+
+    #[test]
+    fn a_batch_holds_as_much_of_either_district() {
+        let points = twos(8);
+        let capacity = Capacity { lines: 8, points: 99 };
+        let mut mixed = lines(&points);
+        mixed.iter_mut().skip(8).for_each(|line| line.group |= BORDER);
+        let settings = Settings::default();
+        assert_eq!(batches(&mixed, settings, capacity), Ok(vec![(0..16).collect()]));
+        // Of one district they are too many, and a batch has a quarter of what a call holds.
+        assert_eq!(batches(&lines(&points), settings, capacity).unwrap().len(), 8);
+        mixed[8].group ^= BORDER;
+        let cut = batches(&mixed, settings, capacity).unwrap();
+        assert!(cut.len() > 1 && cut.iter().all(|batch| batch.len() <= 4), "{cut:?}");
+        assert_eq!(Capacity::default(), Capacity { lines: 2_048, points: 32_768 });
     }
 
     #[test]

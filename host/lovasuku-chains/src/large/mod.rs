@@ -1,8 +1,9 @@
 //! Joining beyond one call: lines in, chains out, of any number.
 //!
-//! What fits one call is one call. A larger input is cut into batches of whole components, lines
-//! that share a key or a cell directly or over others. The library decides a component by the
-//! order of its own lines alone, so the chains of all batches, put in order, are those of one call.
+//! What fits one call is one call, which holds so much of each of two districts. A larger input is cut
+//! into batches of whole components, lines that share a key or a cell directly or over others. The library
+//! decides a component by the order of its own lines alone, so the chains of all batches, put in order,
+//! are those of one call. A component is of one district, and may be as large as a district's share.
 //!
 //! ```
 //! use lovasuku_chains::large::{join, Capacity, JointKind, Line};
@@ -49,7 +50,8 @@ pub struct Line<'a> {
     /// The extras of its points, as many for each as the dimension has; those that are not there are
     /// NaN.
     pub extras: &'a [f64],
-    /// The number of its class. Lines of different classes are never joined.
+    /// The number of its class. Lines of different classes are never joined. Classes below
+    /// [`BORDER`](crate::size::BORDER) are the first district's and the others the second's.
     pub group: u32,
 }
 
@@ -120,7 +122,8 @@ impl From<Refusal> for Fault {
     }
 }
 
-/// Joins lines of a dimension, one batch after another. No call gets more than the capacity.
+/// Joins lines of a dimension, one batch after another. No call gets more of a district than the
+/// capacity.
 pub fn join(
     dimension: Dimension,
     lines: &[Line],

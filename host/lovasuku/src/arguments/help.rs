@@ -29,6 +29,8 @@ Examples:
       the same with cells counted from a corner that this tile and its neighbours share
   lovasuku join roads.geojson -o chains.geojsonl --bend 40 --class surface --keep longest
       goes straight on at junctions, up to a bend of 40 degrees, within each class; a feature a line
+  lovasuku join roads.geojson -o chains.geojson --district municipality=Kolari
+      joins the roads of Kolari with one another, and all others with one another
   lovasuku join roads.geojson -o chains.geojson --offset 268
       goes straight on at junctions, up to 268 millimetres of offset per metre run, some 15 degrees
   ogr2ogr -f GeoJSON -lco RFC7946=NO -lco SIGNIFICANT_FIGURES=17 /vsistdout/ roads.gpkg |
@@ -69,6 +71,12 @@ pub const OFFSET: &str = "\
 The same by a bend as road crews state it: so many millimetres of offset per metre run, a whole number
 from 0, straight on, to 1000, which is 45 degrees. The limit that it stands for is worked out by the
 verified library and is the same double on every machine; the summary shows it with the degrees.";
+
+pub const DISTRICT: &str = "\
+Put the lines that have this value of a property into a second district: a number as it is written, or a
+text with or without its quotes. They go through the library beside the others and are never joined with
+them, whatever they meet, and neither district's chains depend on what the other brings. A call of the
+library holds 2,048 lines and 32,768 points of each.";
 
 pub const EXPLODE: &str = "\
 Join the parts of MultiLineStrings like lines of their own. A member is then named by its feature, and

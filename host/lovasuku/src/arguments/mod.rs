@@ -4,6 +4,7 @@ mod help;
 mod options;
 
 use crate::delivery::{Heights, Point, Reading};
+use crate::districts::District;
 use crate::writing::{apart, Format, Keep};
 use clap::error::ErrorKind;
 use clap::{ArgMatches, Command};
@@ -27,6 +28,8 @@ pub struct Request {
     /// The offset where the limit was given by one.
     pub offset: Option<Offset>,
     pub class: Option<String>,
+    /// The lines of the second district, which are never joined with others.
+    pub district: Option<District>,
     pub reading: Reading,
     pub keep: Keep,
     /// What the names of the properties begin with that every chain has.
@@ -109,6 +112,7 @@ fn of_join(matches: &ArgMatches) -> Result<Request, String> {
         bend,
         offset,
         class: text("class"),
+        district: matches.get_one::<District>("district").cloned(),
         reading: reading(matches),
         keep: text("keep").and_then(|name| Keep::of(&name)).unwrap_or_default(),
         prefix: text("prefix").unwrap_or_default(),

@@ -2,6 +2,7 @@
 
 use super::help;
 use crate::delivery::Point;
+use crate::districts::District;
 use crate::writing::{Format, Keep};
 use clap::{value_parser, Arg, ArgAction, Command};
 use lovasuku_chains::Offset;
@@ -69,7 +70,7 @@ fn outputs() -> [Arg; 6] {
     ]
 }
 
-fn settings() -> [Arg; 6] {
+fn settings() -> [Arg; 7] {
     [
         Arg::new("tolerance")
             .long("tolerance")
@@ -110,6 +111,11 @@ fn settings() -> [Arg; 6] {
         named("class")
             .value_name("PROPERTY")
             .help("Join only lines that have the same value of this property"),
+        named("district")
+            .value_name("PROPERTY=VALUE")
+            .value_parser(District::of)
+            .help("Put the lines with this value into a second district, never joined with the rest")
+            .long_help(help::DISTRICT),
     ]
 }
 

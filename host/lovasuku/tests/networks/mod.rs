@@ -38,7 +38,8 @@ pub fn network(seed: u64, lines: usize) -> Network {
 }
 
 fn line(chance: &mut Chance, side: u64) -> (Option<Vec<Point>>, u32) {
-    let group = chance.pick(&[0, 0, 0, 1, 2]);
+    // The last is of the second district.
+    let group = chance.pick(&[0, 0, 0, 1, 1 << 31]);
     let from = [chance.below(side), chance.below(side)];
     let steps = [[1, 0], [0, 1], [1, 1], [0, 0]];
     let step = chance.pick(&steps[..]);

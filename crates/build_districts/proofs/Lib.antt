@@ -1,0 +1,4 @@
+pub mod Calls
+pub mod Shares
+pub mod Door
+pub mod Examples

@@ -1,0 +1,1 @@
+// Laws of districts over building calls: proofs/ has them, and there is no code.

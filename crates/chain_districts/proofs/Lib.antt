@@ -1,0 +1,9 @@
+pub mod Renaming
+pub mod Places
+pub mod Along
+pub mod Fuel
+pub mod Partners
+pub mod Rounds
+pub mod Relabel
+pub mod Chains
+pub mod Ranks
