@@ -21,20 +21,20 @@ use Rattle.build_layout.proofs.Left.{pieces-all, members-all, left-low, left-si
 use Rattle.build_chains.specs.Building.{Buildable, partFrom, AllLeft}
 use Rattle.build_chains.proofs.Parts.{cleared-same}
 
-unless-refused : {A : Type 0} (k : ℕ) (a b : A) → (k ≡ 0 → ⊥) → a ≡ unless k a b
+pub unless-refused : {A : Type 0} (k : ℕ) (a b : A) → (k ≡ 0 → ⊥) → a ≡ unless k a b
 unfolding unless
 unless-refused zero a b d = absurd (d refl)
 unless-refused (suc k) a b d = refl
 
-unless-fine : {A : Type 0} (k : ℕ) (a b : A) → k ≡ 0 → b ≡ unless k a b
+pub unless-fine : {A : Type 0} (k : ℕ) (a b : A) → k ≡ 0 → b ≡ unless k a b
 unfolding unless
 unless-fine k a b z = sym (ap (λ (m : ℕ). unless m a b) z)
 
-refused-is : (refusal k result : ℕ) → k ≡ refusal → (k ≡ 0 → ⊥) → Refused k ≡ answerOf refusal result
+pub refused-is : (refusal k result : ℕ) → k ≡ refusal → (k ≡ 0 → ⊥) → Refused k ≡ answerOf refusal result
 unfolding answerOf
 refused-is refusal k result e d = unless-refused k (Refused k) (Accepted result) d ∙ ap (λ (m : ℕ). answerOf m result) e
 
-accepted-is : (refusal k result : ℕ) → k ≡ result → refusal ≡ 0 → Accepted k ≡ answerOf refusal result
+pub accepted-is : (refusal k result : ℕ) → k ≡ result → refusal ≡ 0 → Accepted k ≡ answerOf refusal result
 unfolding answerOf
 accepted-is refusal k result e z = ap Accepted e ∙ unless-fine refusal (Refused refusal) (Accepted result) z
 

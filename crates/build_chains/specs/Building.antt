@@ -13,7 +13,7 @@ use Rattle.rules.specs.Layout.{Lines, copy}
 use Rattle.rules.specs.Refusals.{mostLines, lineRoom, limitBad}
 use Rattle.build_refusals.specs.Tests.{switchBad}
 use Rattle.rules.specs.Calls.{written}
-use Rattle.chain_pieces.specs.Held.{linesOf, Held}
+use Rattle.chain_pieces.specs.Held.{linesOf, Held, Packed}
 use Rattle.chain_pieces.specs.Map.{takenBlock}
 use Rattle.chain_keys.specs.Tells.{OneGroup}
 use Rattle.build_lines.specs.Taken.{Adds}
@@ -28,7 +28,7 @@ partFrom n at workspace = take (n * lineRoom - at) (drop at workspace)
 -- the pieces ps of n lines stand in the workspace from `at` on, and what they copy in `out`; beyond its named length the workspace is as before
 pub record Left (width n : ℕ) (coordinates counts : List ℕ) (ps : List Piece) (at number : ℕ) (out′ out workspace′ workspace : List ℕ) : Type 0 where
   pub within : at ≤ n * lineRoom
-  pub held : Held width (partFrom n at workspace′) 0 n coordinates out′ counts ps
+  pub held : Packed width (partFrom n at workspace′) 0 n coordinates out′ counts ps
   pub number-is : number ≡ length ps
   pub copied-is : out′ ≡ written (flat width (flatMap copy ps)) out
   pub rest : drop (n * lineRoom) workspace′ ≡ drop (n * lineRoom) workspace

@@ -1,0 +1,5 @@
+pub mod Pieces
+pub mod Again
+pub mod First
+pub mod Finish
+pub mod Parted
