@@ -18,7 +18,7 @@ ghost use Rattle.point_numbers.specs.Width.{Whole};
 ghost use Rattle.build_refusals.specs.Tests.{wildOf, switchBad, roomShort};
 
 // The sum of the counts, of which there are at most 4,096.
-fn total(counts: &[u32]) -> u64
+pub fn total(counts: &[u32]) -> u64
     requires { ⌜ length (now counts) ≤ mostLines ⌝ }
     ensures { λ r. ⌜ (r ≡ total-of (now (counts .entry))) × (r < 17592186044416) ⌝ }
 {
@@ -77,7 +77,7 @@ fn any_nowhere_wide(numbers: &[u64], width: usize) -> bool
 }
 
 // Whether a coordinate is no place. Without extras every number is an x or a y.
-fn any_nowhere(numbers: &[u64], width: usize) -> bool
+pub fn any_nowhere(numbers: &[u64], width: usize) -> bool
     requires { ⌜ (2 ≤ width) × Whole width (now numbers) ⌝ }
     ensures { λ r. ⌜ r ≡ anyNowhere (points width (now (numbers .entry))) ⌝ }
 {
@@ -88,7 +88,7 @@ fn any_nowhere(numbers: &[u64], width: usize) -> bool
 }
 
 // Whether the groups or the kinds are not as many as the lines.
-fn tables_differ(n: usize, groups: usize, kinds: usize) -> bool
+pub fn tables_differ(n: usize, groups: usize, kinds: usize) -> bool
     ensures { λ r. ⌜ r ≡ not (eqb groups n) || not (eqb kinds n) ⌝ }
 {
     if groups != n {
@@ -123,7 +123,7 @@ fn switch_bad(switch: u8, limit: f64) -> bool
 }
 
 // Whether an origin is NaN or infinite.
-fn origin_bad(x: f64, y: f64) -> bool
+pub fn origin_bad(x: f64, y: f64) -> bool
     ensures { λ r. ⌜ r ≡ originBad x y ⌝ }
 {
     if float_order::is_finite(x) {

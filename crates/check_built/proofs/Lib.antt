@@ -1,0 +1,5 @@
+pub mod Cells
+pub mod Runs
+pub mod Pieces
+pub mod Walks
+pub mod Rounds
