@@ -2,16 +2,17 @@
 
 use crate::arguments::Request;
 use crate::classes::Classes;
-use crate::delivery::{self, Delivery, Geometry};
+use crate::delivery::{Delivery, Geometry};
 use crate::joining::{gaps, join, Capacity, Chain, Fault, Line};
 use crate::measure::Measure;
 use crate::outcome::{Outcome, Targets};
 use crate::progress::Progress;
+use crate::source::Source;
+use crate::store::About;
 use crate::summary::{of_degrees, Summary};
 use crate::tally::{length_of, Tally};
 use crate::writing;
 use anyhow::{anyhow, Context, Error, Result};
-use lovasuku_chains::Dimension;
 use std::path::Path;
 use std::time::Instant;
 
@@ -22,13 +23,14 @@ pub fn run(request: &Request) -> Result<String> {
     let progress = Progress::new(!request.quiet);
     let targets = Targets::of(request)?;
     let input = || name_of_input(request, |path| path.display().to_string());
-    let text = delivery::text(&request.input).with_context(input)?;
-    let delivery = &delivery::read(&text, &request.reading, &progress).with_context(input)?;
+    let (source, text) = Source::read(request, &progress).with_context(input)?;
+    let (delivery, layer) = source.delivery(&text, request, &progress).with_context(input)?;
+    let delivery = &delivery;
     let classes = &Classes::of(delivery, request.class.as_deref()).with_context(input)?;
-    let measure = &Measure::of(delivery, request.units.as_deref());
+    let unit = layer.as_ref().and_then(About::unit);
+    let measure = &Measure::of(delivery, request.units.as_deref().or(unit.as_deref()));
     let lines = lines(delivery, classes);
-    let dimension = if delivery.has_heights() { Dimension::Xyz } else { Dimension::Xy };
-    let chains = join(dimension, &lines, request.settings, Capacity::default(), &progress)
+    let chains = join(delivery.dimension, &lines, request.settings, Capacity::default(), &progress)
         .map_err(|fault| named(delivery, classes, fault))
         .with_context(input)?;
     let lengths: &Vec<f64> =

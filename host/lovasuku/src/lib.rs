@@ -12,6 +12,8 @@ mod measure;
 mod numbers;
 mod outcome;
 pub mod progress;
+mod source;
+mod store;
 mod summary;
 mod tally;
 mod writing;

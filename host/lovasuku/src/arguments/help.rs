@@ -83,6 +83,11 @@ x and y alone decide what is joined, and lengths are those of x and y; where lin
 in one x and y, one of their heights stays, that of the line that was laid first; a position without a
 height stays without one. A position of more than three numbers is a fault.";
 
+pub const SQL: &str = "\
+The rows that a query to IN gives, in its own SQL: PostGIS's for PG:, SQLite's for a GeoPackage, GDAL's for
+files. The order of the rows is that of the lines: which line a chain begins with depends on it, and a
+table of a database has none unless the query says ORDER BY.";
+
 pub const KEEP: &str = "\
 Which properties of its members a chain has, as they are written:
   shared   those that all members share

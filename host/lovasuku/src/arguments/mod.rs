@@ -4,6 +4,7 @@ mod help;
 mod options;
 
 use crate::delivery::{Heights, Point, Reading};
+use crate::store;
 use crate::writing::{apart, Format, Keep};
 use clap::error::ErrorKind;
 use clap::{ArgMatches, Command};
@@ -26,6 +27,8 @@ pub struct Request {
     pub offset: Option<Offset>,
     pub class: Option<String>,
     pub reading: Reading,
+    /// What is asked of a store.
+    pub store: store::Asked,
     pub keep: Keep,
     /// What the names of the properties begin with that every chain has.
     pub prefix: String,
@@ -107,6 +110,7 @@ fn of_join(matches: &ArgMatches) -> Result<Request, String> {
         offset,
         class: text("class"),
         reading: reading(matches),
+        store: store(matches),
         keep: text("keep").and_then(|name| Keep::of(&name)).unwrap_or_default(),
         prefix: text("prefix").unwrap_or_default(),
         units: text("units"),
@@ -122,5 +126,15 @@ fn reading(matches: &ArgMatches) -> Reading {
         drop_empty: matches.get_flag("drop-empty"),
         skip_other: matches.get_flag("skip-other"),
         id: matches.get_one::<String>("id").cloned(),
+    }
+}
+
+fn store(matches: &ArgMatches) -> store::Asked {
+    let text = |name: &str| matches.get_one::<String>(name).cloned();
+    store::Asked {
+        layer: text("layer"),
+        sql: text("sql"),
+        filter: text("where"),
+        geometry: text("geometry"),
     }
 }

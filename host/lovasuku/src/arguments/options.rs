@@ -13,10 +13,9 @@ pub fn join() -> Command {
         .long_about(help::JOIN)
         .after_help(help::JOIN_EXAMPLES)
         .arg(
-            path("input")
-                .value_name("IN")
-                .required(true)
-                .help("GeoJSON, or - for the standard input"),
+            path("input").value_name("IN").required(true).help(
+                "GeoJSON, - for the standard input, or what GDAL reads, as roads.gpkg or PG:...",
+            ),
         )
         .next_help_heading("Outputs")
         .args(outputs())
@@ -24,6 +23,8 @@ pub fn join() -> Command {
         .args(settings())
         .next_help_heading("Reading")
         .args(reading())
+        .next_help_heading("Stores")
+        .args(store())
         .next_help_heading("Properties and lengths")
         .args(properties())
 }
@@ -127,6 +128,21 @@ fn reading() -> [Arg; 5] {
         named("id")
             .value_name("PROPERTY")
             .help("Name lines by this property in place of their ids"),
+    ]
+}
+
+fn store() -> [Arg; 4] {
+    [
+        named("layer").value_name("NAME").help("The layer or table of IN, where it has several"),
+        named("sql")
+            .value_name("QUERY")
+            .conflicts_with_all(["layer", "where"])
+            .help("The rows that a query to IN gives, in its own SQL")
+            .long_help(help::SQL),
+        named("where").value_name("CONDITION").help("Only the rows for which this holds"),
+        named("geometry")
+            .value_name("COLUMN")
+            .help("The column of geometry, where a layer has several"),
     ]
 }
 

@@ -41,6 +41,15 @@ const FORMATS: [(&[u8], &str, By); 20] = [
     (b"MULTILINESTRING", "WKT", By::Gdal),
 ];
 
+/// What stands before the name of a file that GDAL reads, by the bytes that it begins with.
+pub fn by_gdal(start: &[u8]) -> Option<&'static str> {
+    match of(start)? {
+        (_, By::Gdal) => Some(""),
+        (_, By::GdalBehind(prefix)) => Some(prefix),
+        (_, By::Command(_)) => None,
+    }
+}
+
 /// What the bytes are and how they become GeoJSON, where they are of another format.
 pub fn told(bytes: &[u8], path: &Path) -> Option<String> {
     let (what, by) = of(bytes)?;

@@ -1,0 +1,19 @@
+//! GDAL, as it is used here: all that is unsafe lies in this folder, and what leaves it is safe.
+
+mod arrow;
+mod columns;
+mod dataset;
+mod declared;
+mod library;
+mod messages;
+mod reference;
+mod texts;
+mod types;
+
+pub use arrow::Batch;
+pub use columns::{Column, Format, Offsets, Unit, Value};
+pub use dataset::{listed, Dataset, Layer};
+pub use library::gdal;
+pub use messages::{failures, warnings};
+pub use reference::Reference;
+pub use types::{Field, FieldType};
