@@ -4,11 +4,11 @@ use crate::arguments::Request;
 use crate::classes::Classes;
 use crate::delivery::{Delivery, Geometry};
 use crate::joining::{gaps, join, Capacity, Chain, Fault, Line};
-use crate::measure::Measure;
+use crate::measure::{bounds, Measure};
 use crate::outcome::{Outcome, Targets};
 use crate::progress::Progress;
 use crate::source::Source;
-use crate::store::About;
+use crate::storing;
 use crate::summary::{of_degrees, Summary};
 use crate::tally::{length_of, Tally};
 use crate::writing;
@@ -27,7 +27,7 @@ pub fn run(request: &Request) -> Result<String> {
     let (delivery, layer) = source.delivery(&text, request, &progress).with_context(input)?;
     let delivery = &delivery;
     let classes = &Classes::of(delivery, request.class.as_deref()).with_context(input)?;
-    let unit = layer.as_ref().and_then(About::unit);
+    let unit = layer.as_ref().and_then(|layer| layer.unit(bounds(delivery)));
     let measure = &Measure::of(delivery, request.units.as_deref().or(unit.as_deref()));
     let lines = lines(delivery, classes);
     let chains = join(delivery.dimension, &lines, request.settings, Capacity::default(), &progress)
@@ -36,10 +36,18 @@ pub fn run(request: &Request) -> Result<String> {
     let lengths: &Vec<f64> =
         &chains.iter().map(|chain| length_of(delivery, measure, chain)).collect();
     let tally = &tally(request, delivery, &lines, &chains, lengths);
-    let outcome = Outcome { request, delivery, measure, chains: &chains, lengths, tally };
+    let (named, told) = match (&layer, targets.has_store()) {
+        (None, true) => storing::reference(delivery, measure),
+        _ => (None, None),
+    };
+    let reference = layer.as_ref().map_or(named.as_ref(), |layer| layer.reference.as_ref());
+    let layer = layer.as_ref();
+    let outcome =
+        Outcome { request, delivery, measure, chains: &chains, lengths, tally, layer, reference };
     let (outputs, mut warnings) = outcome.outputs(&targets, &progress);
+    warnings.extend(told);
     warnings.extend(of_degrees(measure, request.settings.tolerance));
-    writing::put(&outputs)?;
+    warnings.extend(writing::put(&outputs)?);
     progress.end();
     let summary = Summary { request, delivery, classes, measure, tally, warnings: &warnings };
     Ok(summary.text(from.elapsed()))

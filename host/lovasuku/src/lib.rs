@@ -14,6 +14,7 @@ mod outcome;
 pub mod progress;
 mod source;
 mod store;
+mod storing;
 mod summary;
 mod tally;
 mod writing;

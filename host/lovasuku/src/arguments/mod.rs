@@ -20,6 +20,10 @@ pub struct Request {
     pub bridges: Option<PathBuf>,
     /// The format of outputs where their names do not decide.
     pub format: Option<Format>,
+    /// The driver of GDAL's for outputs, where one was named.
+    pub driver: Option<String>,
+    /// The name of the layer of the chains in a database.
+    pub into: Option<String>,
     pub settings: Settings,
     /// The bend in degrees where the limit was given by one.
     pub bend: Option<f64>,
@@ -101,6 +105,8 @@ fn of_join(matches: &ArgMatches) -> Result<Request, String> {
         map: path("map"),
         bridges: path("bridges"),
         format: text("format").and_then(|name| Format::of(&name)),
+        driver: text("format").filter(|name| Format::of(name).is_none()),
+        into: text("into"),
         settings: Settings {
             tolerance: number("tolerance").unwrap_or_default(),
             origin: matches.get_one::<Point>("origin").copied().unwrap_or_default(),

@@ -2,7 +2,7 @@
 
 use super::help;
 use crate::delivery::Point;
-use crate::writing::{Format, Keep};
+use crate::writing::Keep;
 use clap::{value_parser, Arg, ArgAction, Command};
 use lovasuku_chains::Offset;
 use std::path::PathBuf;
@@ -48,7 +48,7 @@ fn outputs() -> [Arg; 5] {
             .long("output")
             .value_name("OUT")
             .required(true)
-            .help("The chains as GeoJSON, or - for the standard output"),
+            .help("The chains as GeoJSON, - for the standard output, or a store, as chains.gpkg or PG:..."),
         path("map")
             .long("map")
             .value_name("FILE.svg")
@@ -60,7 +60,6 @@ fn outputs() -> [Arg; 5] {
             .short('f')
             .long("format")
             .value_name("FORMAT")
-            .value_parser(Format::NAMES.map(|(name, _)| name))
             .help("The format of OUT and --bridges, which else goes by their names")
             .long_help(help::FORMAT),
         flag("quiet").short('q').help("Show no progress, no summary and no warnings"),
@@ -131,7 +130,7 @@ fn reading() -> [Arg; 5] {
     ]
 }
 
-fn store() -> [Arg; 4] {
+fn store() -> [Arg; 5] {
     [
         named("layer").value_name("NAME").help("The layer or table of IN, where it has several"),
         named("sql")
@@ -143,6 +142,10 @@ fn store() -> [Arg; 4] {
         named("geometry")
             .value_name("COLUMN")
             .help("The column of geometry, where a layer has several"),
+        named("into")
+            .value_name("TABLE")
+            .default_value("chains")
+            .help("The table that the chains are put into, where OUT is a database"),
     ]
 }
 

@@ -18,6 +18,7 @@ pub use positions::Run;
 use rayon::prelude::*;
 pub use sorting::LeftOut;
 use sorting::Sorted;
+use std::borrow::Cow;
 pub use text::text;
 
 /// A point: x and y.
@@ -62,6 +63,16 @@ impl<'a> Delivery<'a> {
             Geometry::Lines(parts) => parts.iter().any(high),
             Geometry::Other(_) => false,
         })
+    }
+
+    /// The heights among the extras of points, one for each point, or none where they have none.
+    pub fn heights<'e>(&self, extras: &'e [f64]) -> Cow<'e, [f64]> {
+        let stride = self.dimension.extras().max(1);
+        match self.dimension {
+            Dimension::Xy | Dimension::Xyz => extras.into(),
+            Dimension::Xym => Cow::default(),
+            Dimension::Xyzm => extras.iter().step_by(stride).copied().collect(),
+        }
     }
 
     /// The member `crs` of the collection as it is written.

@@ -7,7 +7,7 @@ use super::gdal::{
 use super::geometry::{shapes, Shape};
 use super::properties::{object, Property};
 use crate::delivery::object::Object;
-use crate::delivery::{gather, named, Delivery, Feature, Geometry, Heights, Reading, Run};
+use crate::delivery::{gather, named, Delivery, Feature, Geometry, Heights, Point, Reading, Run};
 use crate::progress::Progress;
 use anyhow::{anyhow, bail, Context, Result};
 use lovasuku_chains::{Dimension, WkbRooms};
@@ -41,12 +41,14 @@ pub struct About {
 }
 
 impl About {
-    /// The unit of its coordinates, where they have a reference system.
-    pub fn unit(&self) -> Option<String> {
-        self.reference.as_ref().map(Reference::unit).map(|unit| match &unit[..] {
-            "metre" | "meter" | "Metre" | "Meter" => "m".into(),
-            _ => unit,
-        })
+    /// The unit of its coordinates, where they have a reference system and are not beyond it.
+    pub fn unit(&self, [[west, south], [east, north]]: [Point; 2]) -> Option<String> {
+        let degrees = west >= -180.0 && east <= 180.0 && south >= -90.0 && north <= 90.0;
+        match &self.reference.as_ref()?.unit()[..] {
+            "degrees" if !degrees => None,
+            "metre" | "meter" | "Metre" | "Meter" => Some("m".into()),
+            unit => Some(unit.to_owned()),
+        }
     }
 }
 
@@ -84,6 +86,9 @@ pub fn read(
         layer.filter(condition).with_context(|| format!("--where {condition:?}"))?;
     }
     progress.begin("reading", layer.rows().unwrap_or(0));
+    if let (Some(condition), Some(fault)) = (&asked.filter, failures()) {
+        return Err(fault).with_context(|| format!("--where {condition:?}"));
+    }
     let (geometry, reference) = geometry(&layer, asked.geometry.as_deref())?;
     let about = About { layer: layer.name(), geometry, fields: layer.fields(), reference };
     text.clear();

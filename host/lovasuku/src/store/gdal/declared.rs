@@ -65,6 +65,7 @@ functions! {
     GDALDatasetTestCapability(Handle, Text) -> c_int;
     GDALDatasetStartTransaction(Handle, c_int) -> c_int;
     GDALDatasetCommitTransaction(Handle) -> c_int;
+    GDALDatasetRollbackTransaction(Handle) -> c_int;
 
     OGR_L_GetName(Handle) -> Text;
     OGR_L_GetLayerDefn(Handle) -> Handle;

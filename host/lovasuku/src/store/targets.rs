@@ -1,0 +1,95 @@
+//! Which outputs are stores, and what must be so before one is written.
+
+use super::gdal::{listed, Dataset, Driver};
+use anyhow::{ensure, Context, Result};
+use std::path::Path;
+
+/// The endings of names, and the drivers of GDAL's that they ask for.
+const ENDINGS: [(&str, &str); 3] =
+    [("gpkg", "GPKG"), ("fgb", "FlatGeobuf"), ("shp", "ESRI Shapefile")];
+
+/// What the names of databases begin with, and their driver.
+const CONNECTIONS: [&str; 2] = ["PG:", "PostgreSQL:"];
+const DATABASE: &str = "PostgreSQL";
+
+/// The most bytes of a text in formats that have a bound.
+const LONGEST: [(&str, usize); 1] = [("ESRI Shapefile", 254)];
+
+/// The endings of the files beside a Shapefile, which are of it alone.
+const BESIDE_SHAPEFILE: [&str; 9] = ["shx", "dbf", "prj", "cpg", "qix", "sbn", "sbx", "idm", "ind"];
+
+/// True for the name of a database.
+pub fn is_database(name: &str) -> bool {
+    CONNECTIONS.iter().any(|start| name.starts_with(start))
+}
+
+/// True for the name of a database, or of a place that GDAL alone knows.
+pub fn is_connection(name: &str) -> bool {
+    is_database(name) || name.starts_with("/vsi")
+}
+
+/// The name of the driver that an output goes by, where it is a store: the one that was asked for, or
+/// that of its name.
+pub fn driver_name(path: &Path, asked: Option<&str>) -> Option<String> {
+    let ending = path.extension().and_then(|ending| ending.to_str()).unwrap_or_default();
+    let by_ending = ENDINGS.iter().find(|(each, _)| each.eq_ignore_ascii_case(ending));
+    match asked {
+        Some(name) => Some(name.to_owned()),
+        None if path.to_str().map_or(false, is_database) => Some(DATABASE.into()),
+        None => by_ending.map(|(_, driver)| (*driver).to_owned()),
+    }
+}
+
+/// A store that is to be written.
+#[derive(Clone)]
+pub struct Store {
+    pub driver: Driver,
+    /// The name of the layer.
+    pub layer: String,
+    /// The most bytes of a text, where there is a bound.
+    pub longest: Option<usize>,
+    /// The endings of files beside it that are of it alone.
+    pub beside: &'static [&'static str],
+}
+
+impl Store {
+    /// The store of a path, by a driver's name. Its layer has the name of the file, or the given one in
+    /// a database.
+    pub fn of(path: &Path, driver: &str, layer: &str) -> Result<Self> {
+        let stem = path.file_stem().and_then(|stem| stem.to_str()).unwrap_or(layer);
+        let database = path.to_str().map_or(false, is_database);
+        let longest = LONGEST.iter().find(|(name, _)| *name == driver);
+        if !database {
+            may_be_replaced(path)?;
+        }
+        Ok(Store {
+            driver: Driver::of(driver)?,
+            layer: if database { layer } else { stem }.to_owned(),
+            longest: longest.map(|(_, bytes)| *bytes),
+            beside: if driver == "ESRI Shapefile" { &BESIDE_SHAPEFILE } else { &[] },
+        })
+    }
+}
+
+/// What stands beside a file of SQLite's that is open elsewhere, or was when a computer failed.
+const OPEN: [&str; 2] = ["-wal", "-journal"];
+
+/// Tests that a file that is there has no layers that would be lost with it, and is not open elsewhere.
+fn may_be_replaced(path: &Path) -> Result<()> {
+    let name = path.to_str().context("its name is not UTF-8")?;
+    for ending in OPEN {
+        let beside = format!("{name}{ending}");
+        ensure!(!Path::new(&beside).exists(), "it is open elsewhere: there is {beside}");
+    }
+    if path.is_file() {
+        let layers = Dataset::open(name, false).map(|dataset| dataset.layers()).unwrap_or_default();
+        super::gdal::failures();
+        super::gdal::warnings();
+        ensure!(
+            layers.len() < 2,
+            "it has the layers {}, which would be lost with it",
+            listed(&layers)
+        );
+    }
+    Ok(())
+}

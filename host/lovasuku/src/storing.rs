@@ -1,0 +1,150 @@
+//! Chains and bridges as layers of stores.
+
+use crate::arguments::Request;
+use crate::delivery::object::Object;
+use crate::delivery::{Delivery, Feature as Read, Geometry, Heights};
+use crate::joining::Chain;
+use crate::measure::Measure;
+use crate::outcome::Outcome;
+use crate::progress::Progress;
+use crate::store::{driver_name, is_database, Drawn, Feature, Reference, Sheet, Store};
+use crate::writing::{Content, Target};
+use anyhow::{ensure, Context, Result};
+use lovasuku_chains::Dimension;
+use rayon::prelude::*;
+
+/// The name, behind the prefix, of the field that tells which chain a feature is.
+const CHAIN: &str = "chain";
+
+/// The store that an output is, if it is one, with the name that its layer has in a database.
+pub fn store(request: &Request, target: &Target, layer: &str) -> Result<Option<Store>> {
+    let fault = || format!("{} cannot be written", target.path.display());
+    let driver = match driver_name(&target.path, request.driver.as_deref()) {
+        Some(driver) if request.format.is_none() => driver,
+        _ => return Ok(None),
+    };
+    let of = || {
+        ensure!(target.takes_stores(), "a store is written to a file or into a database");
+        Store::of(&target.path, &driver, layer)
+    };
+    of().with_context(fault).map(Some)
+}
+
+/// The reference system of GeoJSON, where GDAL knows it, or what there is to warn of.
+pub fn reference(delivery: &Delivery, measure: &Measure) -> (Option<Reference>, Option<String>) {
+    let crs = delivery.crs().and_then(|crs| serde_json::from_str(crs).ok());
+    let name = crs.and_then(|crs: serde_json::Value| {
+        crs.pointer("/properties/name").and_then(|name| name.as_str().map(str::to_owned))
+    });
+    let known = match &name {
+        None if measure.degrees => Reference::of(DEGREES),
+        None => return (None, None),
+        Some(name) if name.contains("CRS84") => Reference::of(DEGREES),
+        Some(name) => Reference::of(name),
+    };
+    match known {
+        Ok(reference) => (Some(reference), None),
+        Err(fault) => {
+            let name = name.unwrap_or_default();
+            (None, Some(format!("the crs {name} is left out of stores: {fault:#}")))
+        }
+    }
+}
+
+/// Longitude and latitude, in this order: what GeoJSON has where it names nothing else.
+const DEGREES: &str = "EPSG:4326";
+
+/// The geometry of a chain: its points, or those of its only line as they were.
+fn drawn<'a>(delivery: &'a Delivery, chain: &'a Chain) -> Drawn<'a> {
+    let alone = chain.members.first().map(|&line| &delivery.features[line as usize].geometry);
+    match (&chain.points, alone) {
+        (Some(points), _) => Drawn::Line(points.into(), (&chain.extras).into()),
+        (None, Some(Geometry::Line(run))) => {
+            Drawn::Line((&run.points).into(), (&run.heights).into())
+        }
+        (None, Some(Geometry::Lines(parts))) => Drawn::Lines(parts),
+        (None, None | Some(Geometry::Other(_))) => Drawn::Lines(&[]),
+    }
+}
+
+impl Outcome<'_> {
+    /// The chains as a layer, each with the properties that GeoJSON has and with its id, which not all
+    /// formats keep.
+    pub fn stored_chains<'o>(
+        &'o self,
+        store: &'o Store,
+        warnings: &mut Vec<String>,
+        progress: &'o Progress,
+    ) -> Content<'o> {
+        progress.begin("writing", self.chains.len());
+        let (writer, name) = (self.writer(), format!("{}{CHAIN}", self.request.prefix));
+        let feature = |(id, chain): (usize, &'o Chain)| {
+            let (mut text, clash) = writer.properties(chain);
+            let clash =
+                clash || Object::of(&text_of(&text)).map_or(false, |all| all.get(&name).is_some());
+            text.pop();
+            text.extend(format!(",{}:{id}}}", serde_json::Value::from(&name[..])).bytes());
+            (Feature { properties: text_of(&text), drawn: drawn(self.delivery, chain) }, clash)
+        };
+        let all: Vec<(Feature, bool)> = self.chains.par_iter().enumerate().map(feature).collect();
+        let clashes = all.iter().filter(|(_, clash)| *clash).count();
+        warnings.extend(self.told_of_clashes(clashes));
+        let own: Vec<String> = [name].into_iter().chain(writer.own.iter().cloned()).collect();
+        let fields = self.layer.map_or(&[][..], |layer| &layer.fields);
+        let others = fields.iter().map(|field| &field.name).filter(|name| !own.contains(name));
+        let first = own.iter().chain(others).cloned().collect();
+        let features = all.into_iter().map(|(feature, _)| feature).collect();
+        self.content(store, "chain", features, first, self.delivery.dimension, progress)
+    }
+
+    /// The bridges and the gaps as a layer.
+    pub fn stored_bridges<'o>(&'o self, store: &'o Store, progress: &'o Progress) -> Content<'o> {
+        let feature = |text: Vec<u8>| {
+            let text = text_of(&text);
+            let read = Read::of(&text, Heights::Dropped).ok()?;
+            let properties = read.properties.unwrap_or("{}").to_owned();
+            match read.geometry {
+                Geometry::Line(run) => {
+                    let drawn = Drawn::Line(run.points.into(), run.heights.into());
+                    Some(Feature { properties, drawn })
+                }
+                Geometry::Lines(_) | Geometry::Other(_) => None,
+            }
+        };
+        let features = self.bridge_features().into_iter().filter_map(feature).collect();
+        self.content(store, "bridge", features, Vec::new(), Dimension::Xy, progress)
+    }
+
+    fn content<'o>(
+        &'o self,
+        store: &'o Store,
+        each: &'static str,
+        features: Vec<Feature<'o>>,
+        first: Vec<String>,
+        dimension: Dimension,
+        progress: &'o Progress,
+    ) -> Content<'o> {
+        let sheet = Sheet {
+            driver: store.driver,
+            name: &store.layer,
+            features,
+            each,
+            dimension,
+            reference: self.reference,
+            geometry: self.layer.map(|layer| &layer.geometry[..]).filter(|name| !name.is_empty()),
+            first,
+            input: self.layer.map_or(&[], |layer| &layer.fields),
+            longest: store.longest,
+        };
+        let write = move |name: &str| match is_database(name) {
+            true => sheet.insert(name, progress),
+            false => sheet.create(name, progress),
+        };
+        Content::Store { write: Box::new(write), beside: store.beside }
+    }
+}
+
+/// A text that was written by this command.
+fn text_of(bytes: &[u8]) -> String {
+    String::from_utf8_lossy(bytes).into_owned()
+}
