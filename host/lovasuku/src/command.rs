@@ -8,6 +8,7 @@ use crate::measure::{bounds, Measure};
 use crate::outcome::{Outcome, Targets};
 use crate::progress::Progress;
 use crate::source::Source;
+use crate::store;
 use crate::storing;
 use crate::summary::{of_degrees, Summary};
 use crate::tally::{length_of, Tally};
@@ -55,9 +56,10 @@ pub fn run(request: &Request) -> Result<String> {
 
 /// The name of the input, by its path unless it is the standard input.
 pub fn name_of_input(request: &Request, name: impl Fn(&Path) -> String) -> String {
-    match request.input == Path::new("-") {
-        true => "standard input".into(),
-        false => name(&request.input),
+    match request.input.to_str() {
+        Some("-") => "standard input".into(),
+        Some(connection) if store::is_database(connection) => store::shown(&request.input),
+        _ => name(&request.input),
     }
 }
 

@@ -10,11 +10,11 @@ use crate::measure::Measure;
 use crate::numbers::{count, short};
 use crate::progress::Progress;
 use crate::store::{About, Reference, Store};
-use crate::storing::store;
+use crate::storing::{lost_in_geojson, store};
 use crate::tally::Tally;
 use crate::writing::{own_names, Bridges, Chains, Content, Format, Output, Target};
 use anyhow::Result;
-use lovasuku_chains::{Dimension, Settings};
+use lovasuku_chains::Settings;
 use std::path::Path;
 
 /// Where the outputs go, and which of them are stores.
@@ -105,9 +105,7 @@ impl Outcome<'_> {
                 lost.join(", ")
             ));
         }
-        if matches!(self.delivery.dimension, Dimension::Xym | Dimension::Xyzm) {
-            warnings.push("GeoJSON has no place for measures: they are left out".into());
-        }
+        warnings.extend(lost_in_geojson(self.layer, self.delivery.dimension));
         format.put(&members, &written.features)
     }
 

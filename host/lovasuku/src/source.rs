@@ -4,7 +4,7 @@ use crate::arguments::Request;
 use crate::delivery::{self, formats, Delivery};
 use crate::progress::Progress;
 use crate::store::{self, About, Rows};
-use anyhow::{bail, Context, Result};
+use anyhow::{ensure, Context, Result};
 use std::fs::File;
 use std::io::Read;
 use std::path::Path;
@@ -24,16 +24,19 @@ impl Source {
     /// Reads the input of a request into a text: GeoJSON as it is, or the ids and properties of a
     /// layer.
     pub fn read(request: &Request, progress: &Progress) -> Result<(Self, String)> {
-        match store_of(request)? {
-            None => Ok((Source::Text, delivery::text(&request.input)?)),
-            Some(name) => {
-                let mut text = Vec::new();
-                let heights = request.reading.heights;
-                let rows = store::read(&name, &request.store, heights, &mut text, progress)?;
-                let text = String::from_utf8(text).context("its texts are not UTF-8")?;
-                Ok((Source::Layer(Box::new(rows)), text))
-            }
-        }
+        let (name, what) = match store_of(request)? {
+            None => return Ok((Source::Text, delivery::text(&request.input)?)),
+            Some(store) => store,
+        };
+        let mut text = Vec::new();
+        let heights = request.reading.heights;
+        let rows = store::read(&name, &request.store, heights, &mut text, progress);
+        let rows = match what {
+            Some(what) => rows.with_context(|| format!("it is {what}, which GDAL reads")),
+            None => rows,
+        };
+        let text = String::from_utf8(text).context("its texts are not UTF-8")?;
+        Ok((Source::Layer(Box::new(rows?)), text))
     }
 
     /// The delivery that the text is of, and what its layer is where it is one.
@@ -52,24 +55,28 @@ impl Source {
     }
 }
 
-/// The name by which GDAL knows the input, where it is to be read from a store.
-fn store_of(request: &Request) -> Result<Option<String>> {
+/// The name by which GDAL knows the input, where it is to be read from a store, and what it is, where its
+/// first bytes tell that.
+fn store_of(request: &Request) -> Result<Option<(String, Option<&'static str>)>> {
     let (path, asked) = (&request.input, !request.store.is_nothing());
     if path == Path::new("-") {
-        match asked {
-            true => bail!("--layer, --sql, --where and --geometry are for files and databases"),
-            false => return Ok(None),
-        }
+        ensure!(!asked, "--layer, --sql, --where and --geometry are for files and databases");
+        return Ok(None);
     }
     let name = path.to_str().context("its name is not UTF-8")?;
-    if store::is_connection(name) || path.is_dir() {
-        return Ok(Some(name.to_owned()));
+    if store::is_connection(name) {
+        return Ok(Some((name.to_owned(), None)));
+    }
+    if path.is_dir() {
+        return Ok(Some((name.to_owned(), Some("a folder"))));
     }
     let mut start = Vec::new();
-    if let Ok(file) = File::open(path) {
+    // A pipe is read once, and what is read from it here would be missed.
+    if let (true, Ok(file)) = (path.is_file(), File::open(path)) {
         file.take(START).read_to_end(&mut start).context("it cannot be read")?;
     }
-    Ok(formats::by_gdal(&start)
-        .map(|prefix| format!("{prefix}{name}"))
-        .or_else(|| asked.then(|| name.to_owned())))
+    Ok(match formats::by_gdal(&start) {
+        Some((what, prefix)) => Some((format!("{prefix}{name}"), Some(what))),
+        None => asked.then(|| (name.to_owned(), None)),
+    })
 }

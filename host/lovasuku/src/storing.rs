@@ -7,7 +7,9 @@ use crate::joining::Chain;
 use crate::measure::Measure;
 use crate::outcome::Outcome;
 use crate::progress::Progress;
-use crate::store::{driver_name, is_database, Drawn, Feature, Reference, Sheet, Store};
+use crate::store::{
+    driver_name, is_database, shown, About, Drawn, Feature, Reference, Sheet, Store,
+};
 use crate::writing::{Content, Target};
 use anyhow::{ensure, Context, Result};
 use lovasuku_chains::Dimension;
@@ -18,7 +20,7 @@ const CHAIN: &str = "chain";
 
 /// The store that an output is, if it is one, with the name that its layer has in a database.
 pub fn store(request: &Request, target: &Target, layer: &str) -> Result<Option<Store>> {
-    let fault = || format!("{} cannot be written", target.path.display());
+    let fault = || format!("{} cannot be written", shown(&target.path));
     let driver = match driver_name(&target.path, request.driver.as_deref()) {
         Some(driver) if request.format.is_none() => driver,
         _ => return Ok(None),
@@ -49,6 +51,23 @@ pub fn reference(delivery: &Delivery, measure: &Measure) -> (Option<Reference>, 
             (None, Some(format!("the crs {name} is left out of stores: {fault:#}")))
         }
     }
+}
+
+/// What there is to warn of where a layer becomes GeoJSON, which has no place for measures and names
+/// reference systems by their codes.
+pub fn lost_in_geojson(layer: Option<&About>, dimension: Dimension) -> Vec<String> {
+    let mut lost = Vec::new();
+    if matches!(dimension, Dimension::Xym | Dimension::Xyzm) {
+        lost.push("GeoJSON has no place for measures: they are left out".into());
+    }
+    let reference = layer.and_then(|layer| layer.reference.as_ref());
+    if let Some(reference) = reference.filter(|reference| reference.authority().is_none()) {
+        let name = reference.name();
+        lost.push(format!(
+            "the crs {name:?} has no code for GeoJSON to name it by: it is left out"
+        ));
+    }
+    lost
 }
 
 /// Longitude and latitude, in this order: what GeoJSON has where it names nothing else.
@@ -135,6 +154,7 @@ impl Outcome<'_> {
             first,
             input: self.layer.map_or(&[], |layer| &layer.fields),
             longest: store.longest,
+            options: store.options,
         };
         let write = move |name: &str| match is_database(name) {
             true => sheet.insert(name, progress),

@@ -145,7 +145,8 @@ fn store() -> [Arg; 5] {
         named("into")
             .value_name("TABLE")
             .default_value("chains")
-            .help("The table that the chains are put into, where OUT is a database"),
+            .help("The table that the chains are put into, where OUT is a database")
+            .long_help(help::INTO),
     ]
 }
 

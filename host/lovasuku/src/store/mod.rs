@@ -15,5 +15,5 @@ mod writing;
 
 pub use gdal::Reference;
 pub use reading::{read, About, Asked, Rows};
-pub use targets::{driver_name, is_connection, is_database, Store};
+pub use targets::{driver_name, is_connection, is_database, shown, Store};
 pub use writing::{Drawn, Feature, Sheet};

@@ -5,15 +5,18 @@ use anyhow::{ensure, Context, Result};
 use std::path::Path;
 
 /// The endings of names, and the drivers of GDAL's that they ask for.
-const ENDINGS: [(&str, &str); 3] =
-    [("gpkg", "GPKG"), ("fgb", "FlatGeobuf"), ("shp", "ESRI Shapefile")];
+const ENDINGS: [(&str, &str); 3] = [("gpkg", "GPKG"), ("fgb", "FlatGeobuf"), ("shp", SHAPEFILE)];
+const SHAPEFILE: &str = "ESRI Shapefile";
 
 /// What the names of databases begin with, and their driver.
 const CONNECTIONS: [&str; 2] = ["PG:", "PostgreSQL:"];
 const DATABASE: &str = "PostgreSQL";
 
-/// The most bytes of a text in formats that have a bound.
-const LONGEST: [(&str, usize); 1] = [("ESRI Shapefile", 254)];
+/// The most bytes of a text in a Shapefile.
+const SHAPEFILE_TEXT: usize = 254;
+
+/// How a Shapefile is made: with texts in UTF-8.
+const SHAPEFILE_OPTIONS: [&str; 1] = ["ENCODING=UTF-8"];
 
 /// The endings of the files beside a Shapefile, which are of it alone.
 const BESIDE_SHAPEFILE: [&str; 9] = ["shx", "dbf", "prj", "cpg", "qix", "sbn", "sbx", "idm", "ind"];
@@ -21,6 +24,15 @@ const BESIDE_SHAPEFILE: [&str; 9] = ["shx", "dbf", "prj", "cpg", "qix", "sbn", "
 /// True for the name of a database.
 pub fn is_database(name: &str) -> bool {
     CONNECTIONS.iter().any(|start| name.starts_with(start))
+}
+
+/// A path in words. Of the name of a database all is told but a password.
+pub fn shown(path: &Path) -> String {
+    let words = path.display().to_string();
+    match is_database(&words) {
+        true => words.split(' ').filter(|word| !word.starts_with("password=")).collect::<Vec<_>>().join(" "),
+        false => words,
+    }
 }
 
 /// True for the name of a database, or of a place that GDAL alone knows.
@@ -48,6 +60,8 @@ pub struct Store {
     pub layer: String,
     /// The most bytes of a text, where there is a bound.
     pub longest: Option<usize>,
+    /// How the layer is made, beyond its columns.
+    pub options: &'static [&'static str],
     /// The endings of files beside it that are of it alone.
     pub beside: &'static [&'static str],
 }
@@ -58,16 +72,21 @@ impl Store {
     pub fn of(path: &Path, driver: &str, layer: &str) -> Result<Self> {
         let stem = path.file_stem().and_then(|stem| stem.to_str()).unwrap_or(layer);
         let database = path.to_str().map_or(false, is_database);
-        let longest = LONGEST.iter().find(|(name, _)| *name == driver);
         if !database {
             may_be_replaced(path)?;
         }
-        Ok(Store {
+        let mut store = Store {
             driver: Driver::of(driver)?,
             layer: if database { layer } else { stem }.to_owned(),
-            longest: longest.map(|(_, bytes)| *bytes),
-            beside: if driver == "ESRI Shapefile" { &BESIDE_SHAPEFILE } else { &[] },
-        })
+            longest: None,
+            options: &[],
+            beside: &[],
+        };
+        if driver == SHAPEFILE {
+            store.longest = Some(SHAPEFILE_TEXT);
+            (store.options, store.beside) = (&SHAPEFILE_OPTIONS, &BESIDE_SHAPEFILE);
+        }
+        Ok(store)
     }
 }
 

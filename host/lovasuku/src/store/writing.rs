@@ -48,6 +48,8 @@ pub struct Sheet<'a> {
     pub input: &'a [Field],
     /// The most bytes of a text, where the format has a bound.
     pub longest: Option<usize>,
+    /// How the layer is made, beyond its columns.
+    pub options: &'static [&'static str],
 }
 
 /// How many features one core looks at or encodes at a time.
@@ -122,7 +124,7 @@ impl Sheet<'_> {
     fn options(&self, fields: &Fields) -> Vec<String> {
         let free =
             |name: &&str| !fields.fields.iter().any(|field| field.name.eq_ignore_ascii_case(name));
-        let mut options = Vec::new();
+        let mut options: Vec<String> = self.options.iter().map(|&option| option.into()).collect();
         if let Some(name) = ["fid", "ogc_fid", "lovasuku_fid"].into_iter().find(free) {
             options.extend(self.driver.takes("FID").then(|| format!("FID={name}")));
         }

@@ -2,6 +2,7 @@
 
 use super::parts::Parts;
 use super::places::Place;
+use crate::store::shown;
 use anyhow::{anyhow, bail, Context, Result};
 use std::fs::OpenOptions;
 use std::io::{self, Write};
@@ -85,7 +86,7 @@ fn stored(
 fn fault(path: &Path) -> String {
     match path == Path::new("-") {
         true => "the standard output cannot be written".into(),
-        false => format!("{} cannot be written", path.display()),
+        false => format!("{} cannot be written", shown(path)),
     }
 }
 

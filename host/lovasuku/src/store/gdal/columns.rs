@@ -133,14 +133,6 @@ pub enum Offsets<'b> {
 }
 
 impl Offsets<'_> {
-    /// How many there are.
-    pub fn len(self) -> usize {
-        match self {
-            Offsets::Narrow(all) => all.len(),
-            Offsets::Wide(all) => all.len(),
-        }
-    }
-
     /// Offset k as a place in the run, if it is one.
     pub fn place(self, k: usize) -> Option<usize> {
         match self {

@@ -74,15 +74,6 @@ impl Dataset {
         }
     }
 
-    /// The short name of its driver.
-    pub fn driver(&self) -> String {
-        // SAFETY: the dataset is open, and has a driver.
-        unsafe {
-            let driver = (self.gdal.GDALGetDatasetDriver)(self.handle.as_ptr());
-            text((self.gdal.GDALGetDriverShortName)(driver))
-        }
-    }
-
     /// Closes it, and tells what GDAL tells of that.
     pub fn close(self) -> Result<()> {
         drop(self);

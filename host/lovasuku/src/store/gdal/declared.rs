@@ -51,9 +51,7 @@ functions! {
 
     GDALOpenEx(Text, c_uint, Texts, Texts, Texts) -> Handle;
     GDALClose(Handle);
-    GDALGetDatasetDriver(Handle) -> Handle;
     GDALGetDriverByName(Text) -> Handle;
-    GDALGetDriverShortName(Handle) -> Text;
     GDALGetMetadataItem(Handle, Text, Text) -> Text;
     GDALCreate(Handle, Text, c_int, c_int, c_int, c_int, Texts) -> Handle;
     GDALDatasetGetLayerCount(Handle) -> c_int;

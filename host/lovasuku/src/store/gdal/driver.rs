@@ -58,8 +58,13 @@ impl Driver {
     }
 
     /// The type as it writes it: without what is told of it beyond that, where it does not write such.
+    /// That a text is JSON is listed by no driver of GDAL 3.6, and taken by those that list others.
     pub fn written(&self, kind: FieldType) -> FieldType {
-        let told = |sub: &str| self.lists("DMD_CREATIONFIELDDATASUBTYPES", sub);
+        let list = "DMD_CREATIONFIELDDATASUBTYPES";
+        let told = |sub: &str| match kind == FieldType::JSON {
+            true => self.item(list).is_some(),
+            false => self.lists(list, sub),
+        };
         match kind.sub_name().map_or(false, told) {
             true => kind,
             false => FieldType { sub: 0, ..kind },

@@ -38,7 +38,6 @@ impl FieldType {
     /// A text that is JSON.
     pub const JSON: FieldType = FieldType { number: 4, sub: 4 };
     pub const TEXTS: FieldType = FieldType { number: 5, sub: 0 };
-    pub const BYTES: FieldType = FieldType { number: 8, sub: 0 };
     pub const INTEGER64: FieldType = FieldType { number: 12, sub: 0 };
     pub const INTEGERS64: FieldType = FieldType { number: 13, sub: 0 };
 
