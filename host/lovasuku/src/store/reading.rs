@@ -2,7 +2,8 @@
 //! its geometry.
 
 use super::gdal::{
-    failures, listed, Batch, Column, Dataset, Field, FieldType, Format, Layer, Reference,
+    failures, listed, settle, warnings, Batch, Column, Dataset, Field, FieldType, Format, Layer,
+    Reference, Value,
 };
 use super::geometry::{shapes, Shape};
 use super::properties::{object, Property};
@@ -33,7 +34,6 @@ impl Asked {
 
 /// What a layer is, beside its rows.
 pub struct About {
-    pub layer: String,
     /// The name of its column of geometry; empty where it has none.
     pub geometry: String,
     pub fields: Vec<Field>,
@@ -90,12 +90,13 @@ pub fn read(
         return Err(fault).with_context(|| format!("--where {condition:?}"));
     }
     let (geometry, reference) = geometry(&layer, asked.geometry.as_deref())?;
-    let about = About { layer: layer.name(), geometry, fields: layer.fields(), reference };
-    text.clear();
-    text.extend(members(&about));
+    let about = About { geometry, fields: layer.fields(), reference };
+    let name = asked.sql.is_none().then(|| layer.name());
+    text.extend(members(name, about.reference.as_ref()));
     let members = text.len();
     let mut rows =
         Rows { about, members, cuts: Vec::new(), shapes: Vec::new(), dimension: Dimension::Xy };
+    settle();
     rows.fill(&mut layer, heights, text, progress)?;
     Ok(rows)
 }
@@ -133,10 +134,10 @@ fn geometry(layer: &Layer, asked: Option<&str>) -> Result<(String, Option<Refere
 }
 
 /// The members that a collection of GeoJSON has for a layer: its name and its reference system.
-fn members(about: &About) -> Vec<u8> {
+fn members(name: Option<String>, reference: Option<&Reference>) -> Vec<u8> {
     let mut members = serde_json::Map::new();
-    members.insert("name".into(), about.layer.clone().into());
-    if let Some((authority, code)) = about.reference.as_ref().and_then(Reference::authority) {
+    members.extend(name.map(|name| ("name".into(), name.into())));
+    if let Some((authority, code)) = reference.and_then(Reference::authority) {
         let name = match (&authority[..], &code[..]) {
             ("EPSG", "4326") => "urn:ogc:def:crs:OGC:1.3:CRS84".into(),
             _ => format!("urn:ogc:def:crs:{authority}::{code}"),
@@ -165,12 +166,9 @@ const UNNAMED_GEOMETRY: &str = "wkb_geometry";
 
 impl Columns {
     fn of(all: Vec<(String, Format)>, ids: &str, about: &About) -> Result<Self> {
-        let or = |name: &str, unnamed: &str| {
-            if name.is_empty() {
-                unnamed.to_owned()
-            } else {
-                name.to_owned()
-            }
+        let or = |name: &'_ str, unnamed: &'static str| match name {
+            "" => unnamed.to_owned(),
+            name => name.to_owned(),
         };
         let (ids, shapes) = (or(ids, UNNAMED_IDS), or(&about.geometry, UNNAMED_GEOMETRY));
         let (mut id, mut geometry, mut fields) = (None, None, Vec::new());
@@ -278,6 +276,7 @@ impl Rows {
         let mut delivery = gather(rows, reading, place)?;
         delivery.members = text.get(..members).and_then(Object::of).unwrap_or_default();
         delivery.dimension = dimension;
+        delivery.warnings.extend(warnings());
         Ok((delivery, about))
     }
 }
@@ -301,7 +300,7 @@ fn texts(ids: Option<Column>, properties: &[Property], rows: Range<usize>) -> Te
     let mut text = Vec::new();
     let cut = |row: usize| {
         let begin = text.len();
-        if let Some(super::gdal::Value::Whole(id)) = ids.map(|ids| ids.value(row)) {
+        if let Some(Value::Whole(id)) = ids.map(|ids| ids.value(row)) {
             // A list of bytes takes all that is written to it.
             write!(text, "{id}").unwrap_or_default();
         }

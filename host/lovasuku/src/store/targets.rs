@@ -1,6 +1,6 @@
 //! Which outputs are stores, and what must be so before one is written.
 
-use super::gdal::{listed, Dataset, Driver};
+use super::gdal::{failures, listed, warnings, Dataset, Driver};
 use anyhow::{ensure, Context, Result};
 use std::path::Path;
 
@@ -30,7 +30,11 @@ pub fn is_database(name: &str) -> bool {
 pub fn shown(path: &Path) -> String {
     let words = path.display().to_string();
     match is_database(&words) {
-        true => words.split(' ').filter(|word| !word.starts_with("password=")).collect::<Vec<_>>().join(" "),
+        true => words
+            .split(' ')
+            .filter(|word| !word.starts_with("password="))
+            .collect::<Vec<_>>()
+            .join(" "),
         false => words,
     }
 }
@@ -102,8 +106,9 @@ fn may_be_replaced(path: &Path) -> Result<()> {
     }
     if path.is_file() {
         let layers = Dataset::open(name, false).map(|dataset| dataset.layers()).unwrap_or_default();
-        super::gdal::failures();
-        super::gdal::warnings();
+        // What is no store of GDAL's is replaced as any file is, and nothing is told of it.
+        failures();
+        warnings();
         ensure!(
             layers.len() < 2,
             "it has the layers {}, which would be lost with it",

@@ -2,7 +2,9 @@
 //! of GeoJSON as fields.
 
 use super::fields::{Fields, Names};
-use super::gdal::{failures, warnings, Dataset, Driver, Field, Layer, Making, Reference, Row};
+use super::gdal::{
+    failures, settle, warnings, Dataset, Driver, Field, Layer, Making, Reference, Row,
+};
 use super::rows::{encoded, Encoded};
 use crate::delivery::object::Object;
 use crate::delivery::{Point, Run};
@@ -85,6 +87,7 @@ impl Sheet<'_> {
             options: &self.options(&fields),
             fields: &fields.fields,
         })?;
+        settle();
         let long = self.put(&mut layer, &fields, progress)?;
         drop(layer);
         transaction.commit()?;

@@ -60,6 +60,14 @@ pub fn failures() -> Option<Error> {
     (!failures.is_empty()).then(|| anyhow!("GDAL: {}", failures.join("; ")))
 }
 
+/// Takes failures of calls that succeeded all the same for warnings.
+pub fn settle() {
+    let mut told = told();
+    let failures = std::mem::take(&mut told.failures);
+    told.warnings.extend(failures);
+    told.warnings.dedup();
+}
+
 /// What GDAL tells of a call that failed.
 pub fn failure() -> Error {
     failures().unwrap_or_else(|| anyhow!("GDAL gives no reason"))

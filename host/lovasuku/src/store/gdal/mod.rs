@@ -17,6 +17,6 @@ pub use columns::{Column, Format, Offsets, Unit, Value};
 pub use dataset::{listed, Dataset, Layer};
 pub use driver::{Driver, Making};
 pub use features::{Datum, Row};
-pub use messages::{failures, warnings};
+pub use messages::{failures, settle, warnings};
 pub use reference::Reference;
 pub use types::{Field, FieldType};
