@@ -58,7 +58,8 @@ pub struct Rows {
     pub about: About,
     members: usize,
     cuts: Vec<Cut>,
-    shapes: Vec<Shape>,
+    /// The geometry of all rows, in parts of them.
+    shapes: Vec<Vec<Shape>>,
     dimension: Dimension,
 }
 
@@ -245,7 +246,7 @@ impl Rows {
             self.cuts.extend(cuts);
             self.dimension =
                 shapes.iter().flatten().fold(self.dimension, |all, (_, each)| with(all, *each));
-            self.shapes.extend(shapes);
+            self.shapes.push(shapes);
         }
         Ok(())
     }
@@ -266,8 +267,13 @@ impl Rows {
             let foreign = Object::default();
             named(Feature { position: 0, part: 0, id, properties, foreign, geometry }, reading)
         };
-        let rows: Vec<Result<Feature, String>> =
-            places.par_iter().copied().zip(shapes).map(row).collect();
+        // A part is taken when its turn comes, so that what it held is free for what follows.
+        let mut rest = &places[..];
+        let rows = shapes.into_iter().flat_map(|part| {
+            let (places, behind) = rest.split_at(part.len());
+            rest = behind;
+            places.par_iter().copied().zip(part).map(row).collect::<Vec<Result<Feature, String>>>()
+        });
         let place =
             |row: usize| match places.get(row).and_then(|(begin, cut)| cut.of(text, *begin).0) {
                 Some(id) => format!("feature {row} (id {id})"),

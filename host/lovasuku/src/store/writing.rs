@@ -142,32 +142,35 @@ impl Sheet<'_> {
     /// Puts all features into the layer, and tells how many texts were too long for it. They are encoded
     /// on all cores while others are written.
     fn put(&self, layer: &mut Layer, fields: &Fields, progress: &Progress) -> Result<usize> {
-        let (send, receive) = sync_channel::<Vec<Encoded>>(1);
+        let (send, receive) = sync_channel(1);
         let (features, dimension, longest) = (&self.features[..], self.dimension, self.longest);
         thread::scope(|scope| {
             scope.spawn(move || {
-                for window in features.chunks(PART * PARTS) {
-                    let parts = window.par_chunks(PART);
-                    let parts = parts.map(|part| encoded(part, dimension, fields, longest));
-                    // The one who writes has gone where a feature could not be written.
-                    if send.send(parts.collect()).is_err() {
-                        break;
-                    }
-                }
+                let part = |part: &[Feature]| encoded(part, dimension, fields, longest);
+                // The one who writes has gone where a feature could not be written.
+                let sent = |window: &[Feature]| {
+                    send.send(window.par_chunks(PART).map(part).collect::<Vec<Encoded>>()).is_ok()
+                };
+                features.chunks(PART * PARTS).all(sent)
             });
-            let (mut at, mut long) = (0, 0);
+            let (mut put, mut long) = (0, 0);
             for part in receive.into_iter().flatten() {
-                for (wkb, values) in part.rows() {
-                    let row = Row { id: at, wkb, values };
-                    let put = layer.put(&row).and_then(|()| failures().map_or(Ok(()), Err));
-                    put.with_context(|| format!("{} {at}", self.each))?;
-                    at += 1;
-                }
+                self.put_part(layer, &part, put)?;
                 progress.add(part.len());
-                long += part.long;
+                (put, long) = (put + part.len(), long + part.long);
             }
             Ok(long)
         })
+    }
+
+    /// Puts features into the layer, of which the first has a given id.
+    fn put_part(&self, layer: &mut Layer, part: &Encoded, first: usize) -> Result<()> {
+        for (id, (wkb, values)) in (first..).zip(part.rows()) {
+            let put = layer.put(&Row { id: id as i64, wkb, values });
+            put.and_then(|()| failures().map_or(Ok(()), Err))
+                .with_context(|| format!("{} {id}", self.each))?;
+        }
+        Ok(())
     }
 
     fn told_of(&self, long: usize) -> Option<String> {
