@@ -76,8 +76,9 @@ impl Store {
     pub fn of(path: &Path, driver: &str, layer: &str) -> Result<Self> {
         let stem = path.file_stem().and_then(|stem| stem.to_str()).unwrap_or(layer);
         let database = path.to_str().map_or(false, is_database);
-        if !database {
-            may_be_replaced(path)?;
+        match database {
+            true => may_be_added(path, layer)?,
+            false => may_be_replaced(path)?,
         }
         let mut store = Store {
             driver: Driver::of(driver)?,
@@ -92,6 +93,17 @@ impl Store {
         }
         Ok(store)
     }
+}
+
+/// Tests that a database is there, and has no table of a name.
+fn may_be_added(path: &Path, table: &str) -> Result<()> {
+    let name = path.to_str().context("its name is not UTF-8")?;
+    let tables = Dataset::open(name, true)?.layers();
+    ensure!(
+        !tables.iter().any(|each| each == table),
+        "it has a table {table:?} (--into TABLE names another)"
+    );
+    Ok(())
 }
 
 /// What stands beside a file of SQLite's that is open elsewhere, or was when a computer failed.
