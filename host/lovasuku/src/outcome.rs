@@ -94,8 +94,9 @@ impl Outcome<'_> {
     }
 
     fn chains(&self, warnings: &mut Vec<String>, progress: &Progress) -> Vec<u8> {
-        let written = self.writer().write(self.chains, progress);
-        warnings.extend(self.told_of_clashes(written.clashes));
+        let writer = self.writer();
+        let written = writer.write(self.chains, progress);
+        warnings.extend(told_of_clashes(written.clashes, &writer.own));
         let members = self.members();
         let format = Format::of_output(&self.request.output, self.request.format);
         let lost: Vec<&str> = members.iter().map(|(name, _)| name).collect();
@@ -114,18 +115,6 @@ impl Outcome<'_> {
         let Outcome { request, delivery, measure, .. } = *self;
         let own = own_names(&request.prefix, request.reading.explode);
         Chains { delivery, measure, keep: request.keep, own }
-    }
-
-    /// What is told of properties that chains have by themselves.
-    pub fn told_of_clashes(&self, clashes: usize) -> Option<String> {
-        (clashes > 0).then(|| {
-            format!(
-                "properties of the input named like one of {} are left out of {} (--prefix \
-                 PREFIX gives those of chains other names)",
-                self.writer().own.join(", "),
-                count(clashes, "chain")
-            )
-        })
     }
 
     /// The members of the input's collection. Its box is that of the chains only where nothing was
@@ -168,6 +157,18 @@ impl Outcome<'_> {
             tally: self.tally,
         })
     }
+}
+
+/// What is told of properties of the input that chains have by themselves.
+pub fn told_of_clashes(clashes: usize, own: &[String]) -> Option<String> {
+    (clashes > 0).then(|| {
+        format!(
+            "properties of the input named like one of {} are left out of {} (--prefix PREFIX \
+             gives those of chains other names)",
+            own.join(", "),
+            count(clashes, "chain")
+        )
+    })
 }
 
 /// The cells of a run, where it has a tolerance.

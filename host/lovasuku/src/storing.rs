@@ -5,7 +5,7 @@ use crate::delivery::object::Object;
 use crate::delivery::{Delivery, Feature as Read, Geometry, Heights};
 use crate::joining::Chain;
 use crate::measure::Measure;
-use crate::outcome::Outcome;
+use crate::outcome::{told_of_clashes, Outcome};
 use crate::progress::Progress;
 use crate::store::{
     driver_name, is_database, shown, About, Drawn, Feature, Reference, Sheet, Store,
@@ -86,6 +86,17 @@ fn drawn<'a>(delivery: &'a Delivery, chain: &'a Chain) -> Drawn<'a> {
     }
 }
 
+/// The properties of a chain with its id under a name, and whether they had that name before.
+fn with_id(mut properties: String, name: &str, id: usize) -> (String, bool) {
+    let entry = format!("{}:", serde_json::Value::from(name));
+    let has = |all: Object| all.get(name).is_some();
+    // What looks like the name may stand within a text, too.
+    let clash = properties.contains(&entry) && Object::of(&properties).map_or(false, has);
+    properties.pop();
+    properties += &format!(",{entry}{id}}}");
+    (properties, clash)
+}
+
 impl Outcome<'_> {
     /// The chains as a layer, each with the properties that GeoJSON has and with its id, which not all
     /// formats keep.
@@ -98,17 +109,14 @@ impl Outcome<'_> {
         progress.begin("writing", self.chains.len());
         let (writer, name) = (self.writer(), format!("{}{CHAIN}", self.request.prefix));
         let feature = |(id, chain): (usize, &'o Chain)| {
-            let (mut text, clash) = writer.properties(chain);
-            let clash =
-                clash || Object::of(&text_of(&text)).map_or(false, |all| all.get(&name).is_some());
-            text.pop();
-            text.extend(format!(",{}:{id}}}", serde_json::Value::from(&name[..])).bytes());
-            (Feature { properties: text_of(&text), drawn: drawn(self.delivery, chain) }, clash)
+            let (text, clash) = writer.properties(chain);
+            let (properties, more) = with_id(text_of(&text), &name, id);
+            (Feature { properties, drawn: drawn(self.delivery, chain) }, clash || more)
         };
         let all: Vec<(Feature, bool)> = self.chains.par_iter().enumerate().map(feature).collect();
         let clashes = all.iter().filter(|(_, clash)| *clash).count();
-        warnings.extend(self.told_of_clashes(clashes));
-        let own: Vec<String> = [name].into_iter().chain(writer.own.iter().cloned()).collect();
+        let own: Vec<String> = [name].into_iter().chain(writer.own).collect();
+        warnings.extend(told_of_clashes(clashes, &own));
         let fields = self.layer.map_or(&[][..], |layer| &layer.fields);
         let others = fields.iter().map(|field| &field.name).filter(|name| !own.contains(name));
         let first = own.iter().chain(others).cloned().collect();
