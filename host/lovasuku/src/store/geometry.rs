@@ -17,29 +17,35 @@ pub type Shape = Result<(Geometry, Dimension), String>;
 /// What is wrong with a coordinate that is not finite.
 const NO_PLACE: &str = "a number of its coordinates is NaN or infinite, so that it is no place";
 
-/// The geometry of some rows of a column of WKB.
-pub fn shapes(
-    column: Column,
-    rows: Range<usize>,
-    heights: Heights,
-    rooms: &mut WkbRooms,
-) -> Vec<Shape> {
-    let (run, offsets) = match column.run() {
-        None => return rows.map(|_| Err("its geometry is not a column of bytes".into())).collect(),
-        Some(parts) => parts,
-    };
+/// The WKB of rows in one run, and the offsets that cut it. A row that has none may have a mark for
+/// that in its column.
+#[derive(Clone, Copy)]
+pub struct Wkb<'b> {
+    pub run: &'b [u8],
+    pub offsets: Offsets<'b>,
+    pub column: Option<Column<'b>>,
+}
+
+impl<'b> Wkb<'b> {
+    /// The WKB of a row; nothing where it has none.
+    fn record(&self, row: usize) -> &'b [u8] {
+        let cut = self.offsets.place(row).zip(self.offsets.place(row + 1));
+        let null = self.column.map_or(false, |column| column.is_null(row));
+        cut.filter(|_| !null).and_then(|(from, to)| self.run.get(from..to)).unwrap_or_default()
+    }
+}
+
+/// The geometry of some rows.
+pub fn shapes(wkb: Wkb, rows: Range<usize>, heights: Heights, rooms: &mut WkbRooms) -> Vec<Shape> {
+    let Wkb { run, offsets, .. } = wkb;
     if let Ok(lines) = lines_alone(run, offsets, rows.clone(), rooms) {
         let dimension = lines.dimension();
         let shape = |run: Result<Run, String>| Ok((Geometry::Line(run?), dimension));
         return runs(lines, heights).map(shape).map(|shape| kept(shape, heights)).collect();
     }
-    let shape = |row: usize| match column.is_null(row) {
-        true => Ok((Geometry::Other("null".into()), Dimension::Xy)),
-        false => {
-            let cut = offsets.place(row).zip(offsets.place(row + 1));
-            let record = cut.and_then(|(from, to)| run.get(from..to)).unwrap_or_default();
-            kept(of_record(record, heights, rooms), heights)
-        }
+    let shape = |row: usize| match wkb.record(row) {
+        [] => Ok((Geometry::Other("null".into()), Dimension::Xy)),
+        record => kept(of_record(record, heights, rooms), heights),
     };
     rows.map(shape).collect()
 }

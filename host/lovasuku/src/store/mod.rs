@@ -4,6 +4,7 @@
 //! GDAL's library is looked for when a store is asked for. What comes from it are columns of values and
 //! of WKB, which the proved reader reads; what goes to it is WKB of the proved writer's.
 
+mod batches;
 mod fields;
 mod gdal;
 mod geometry;

@@ -1,31 +1,21 @@
 //! Fields as properties: the values of a row as an object of JSON. A field without a value is left out.
 
-use super::gdal::{Column, Unit, Value};
+use super::gdal::{Unit, Value};
 use std::io::Write;
 
-/// A field and its column in a batch.
-pub struct Property<'b> {
-    /// Its name as JSON, with a colon.
-    pub name: &'b str,
-    pub column: Column<'b>,
-    /// True where its texts are JSON.
-    pub json: bool,
-}
+/// A value of a field: the name as JSON with a colon, the value, and whether its texts are JSON.
+pub type Property<'b> = (&'b str, Value<'b>, bool);
 
 /// Writes the object of a row.
-pub fn object(out: &mut Vec<u8>, properties: &[Property], row: usize) {
+pub fn object<'b>(out: &mut Vec<u8>, properties: impl Iterator<Item = Property<'b>>) {
     out.push(b'{');
     let begin = out.len();
-    for Property { name, column, json } in properties {
-        let value = column.value(row);
-        if !is_told(&value) {
-            continue;
-        }
+    for (name, value, json) in properties.filter(|(_, value, _)| is_told(value)) {
         if out.len() > begin {
             out.push(b',');
         }
         out.extend(name.bytes());
-        write(out, &value, *json);
+        write(out, &value, json);
     }
     out.push(b'}');
 }
@@ -55,6 +45,7 @@ fn write(out: &mut Vec<u8>, value: &Value, json: bool) {
         Value::Date(days) => json_of(out, &date(i64::from(*days))),
         Value::Time(time, unit) => json_of(out, &time_of_day(*time, *unit)),
         Value::Moment(moment, unit, zone) => json_of(out, &moment_of(*moment, *unit, zone)),
+        Value::Told(words) => json_of(out, words),
         Value::Null => out.extend(b"null"),
         Value::List(values) => {
             out.push(b'[');

@@ -1,20 +1,15 @@
 //! A layer of a store as a delivery: its rows in batches, each with its id, its properties as JSON and
 //! its geometry.
 
-use super::gdal::{
-    failures, listed, settle, warnings, Batch, Column, Dataset, Field, FieldType, Format, Layer,
-    Reference, Value,
-};
-use super::geometry::{shapes, Shape};
-use super::properties::{object, Property};
+use super::batches::{by_features, by_stream, parts, Cut, Texts};
+use super::gdal::{failures, listed, settle, warnings, Dataset, Field, Layer, Reference};
+use super::geometry::{shapes, Shape, Wkb};
 use crate::delivery::object::Object;
 use crate::delivery::{gather, named, Delivery, Feature, Geometry, Heights, Point, Reading, Run};
 use crate::progress::Progress;
-use anyhow::{anyhow, bail, Context, Result};
+use anyhow::{bail, Context, Result};
 use lovasuku_chains::{Dimension, WkbRooms};
 use rayon::prelude::*;
-use std::io::Write;
-use std::ops::Range;
 
 /// What is asked of a store: a layer or a query, which of its rows, and which of its geometries.
 #[derive(Clone, Debug, Default, PartialEq)]
@@ -63,16 +58,6 @@ pub struct Rows {
     dimension: Dimension,
 }
 
-/// How long the texts of a row are.
-#[derive(Clone, Copy)]
-struct Cut {
-    id: u8,
-    properties: u32,
-}
-
-/// How many rows one core reads at a time.
-const PART: usize = 1024;
-
 /// Reads what is asked for from the store of a name. Ids and properties are put into the text.
 pub fn read(
     name: &str,
@@ -90,7 +75,7 @@ pub fn read(
     if let (Some(condition), Some(fault)) = (&asked.filter, failures()) {
         return Err(fault).with_context(|| format!("--where {condition:?}"));
     }
-    let (geometry, reference) = geometry(&layer, asked.geometry.as_deref())?;
+    let (column, geometry, reference) = geometry(&layer, asked.geometry.as_deref())?;
     let about = About { geometry, fields: layer.fields(), reference };
     let name = asked.sql.is_none().then(|| layer.name());
     text.extend(members(name, about.reference.as_ref()));
@@ -98,7 +83,7 @@ pub fn read(
     let mut rows =
         Rows { about, members, cuts: Vec::new(), shapes: Vec::new(), dimension: Dimension::Xy };
     settle();
-    rows.fill(&mut layer, heights, text, progress)?;
+    rows.fill(&mut layer, column, heights, text, progress)?;
     Ok(rows)
 }
 
@@ -117,21 +102,24 @@ fn layer<'d>(dataset: &'d Dataset, asked: &Asked) -> Result<Layer<'d>> {
     }
 }
 
-/// The column of geometry that is asked for, or the only one, with its reference system.
-fn geometry(layer: &Layer, asked: Option<&str>) -> Result<(String, Option<Reference>)> {
+/// The column of geometry that is asked for, or the only one: its number, its name and its reference
+/// system.
+fn geometry(layer: &Layer, asked: Option<&str>) -> Result<(usize, String, Option<Reference>)> {
     let mut all = layer.geometries();
     let names: Vec<String> = all.iter().map(|(name, _)| name.clone()).collect();
-    match (asked, all.len()) {
+    let k = match (asked, all.len()) {
         (Some(asked), _) => match names.iter().position(|name| name == asked) {
-            Some(k) => Ok(all.swap_remove(k)),
+            Some(k) => k,
             None => bail!("it has no geometry {asked:?}; it has {}", listed(&names)),
         },
         (None, 0) => bail!("its layer {:?} has no geometry", layer.name()),
-        (None, 1) => Ok(all.swap_remove(0)),
+        (None, 1) => 0,
         (None, count) => {
             bail!("it has {count} geometries, and --geometry names one: {}", listed(&names))
         }
-    }
+    };
+    let (name, reference) = all.swap_remove(k);
+    Ok((k, name, reference))
 }
 
 /// The members that a collection of GeoJSON has for a layer: its name and its reference system.
@@ -151,104 +139,42 @@ fn members(name: Option<String>, reference: Option<&Reference>) -> Vec<u8> {
     serde_json::to_vec(&members).unwrap_or_default()
 }
 
-/// Where the columns of a batch are what.
-struct Columns {
-    id: Option<(usize, Format)>,
-    geometry: (usize, Format),
-    /// The name of each field as JSON with a colon, and whether its texts are JSON.
-    fields: Vec<(usize, Format, String, bool)>,
-}
-
-/// The name that GDAL gives to a column of ids that has none.
-const UNNAMED_IDS: &str = "OGC_FID";
-
-/// The name that GDAL gives to a column of geometry that has none.
-const UNNAMED_GEOMETRY: &str = "wkb_geometry";
-
-impl Columns {
-    fn of(all: Vec<(String, Format)>, ids: &str, about: &About) -> Result<Self> {
-        let or = |name: &'_ str, unnamed: &'static str| match name {
-            "" => unnamed.to_owned(),
-            name => name.to_owned(),
-        };
-        let (ids, shapes) = (or(ids, UNNAMED_IDS), or(&about.geometry, UNNAMED_GEOMETRY));
-        let (mut id, mut geometry, mut fields) = (None, None, Vec::new());
-        for (k, (name, format)) in all.into_iter().enumerate() {
-            let field = about.fields.iter().find(|field| field.name == name);
-            match field {
-                None if name == shapes => geometry = Some((k, format)),
-                None if name == ids && format == Format::Int64 => id = Some((k, format)),
-                None => (),
-                Some(field) => {
-                    let json = field.kind == FieldType::JSON;
-                    let name = format!("{}:", serde_json::Value::from(&name[..]));
-                    fields.push((k, format, name, json));
-                }
-            }
-        }
-        let geometry = geometry.ok_or_else(|| anyhow!("its rows have no column {shapes:?}"))?;
-        Ok(Columns { id, geometry, fields })
-    }
-}
-
 impl Rows {
+    /// Reads all rows of a layer, whose geometry is in a column of a number.
     fn fill(
         &mut self,
         layer: &mut Layer,
+        column: usize,
         heights: Heights,
         text: &mut Vec<u8>,
         progress: &Progress,
     ) -> Result<()> {
-        let from = |row: usize| format!("from feature {row} on its rows cannot be read");
-        let ids = layer.id_column();
-        let mut stream = layer.stream(&[])?;
-        let columns = stream.columns().map_err(|fault| anyhow!(fault))?;
-        let columns = Columns::of(columns, &ids, &self.about)?;
-        loop {
-            let batch = stream.batch().map_err(|fault| anyhow!(fault));
-            let fault = failures();
-            let at = self.cuts.len();
-            match (batch, fault) {
-                (_, Some(fault)) | (Err(fault), None) => {
-                    return Err(fault).with_context(|| from(at))
-                }
-                (Ok(None), None) => return Ok(()),
-                (Ok(Some(batch)), None) => self.add(&batch, &columns, heights, text, progress)?,
-            }
+        let (fields, geometry) = (self.about.fields.clone(), self.about.geometry.clone());
+        let each = |read: Vec<Texts>, wkb: Wkb| {
+            progress.add(read.iter().map(|(_, cuts)| cuts.len()).sum());
+            self.add(read, wkb, heights, text);
+        };
+        match fields.iter().any(|field| field.kind.is_wrong_in_streams()) {
+            true => by_features(layer, &fields, column, each),
+            false => by_stream(layer, &fields, &geometry, each),
         }
     }
 
-    /// Adds the rows of a batch.
-    fn add(
-        &mut self,
-        batch: &Batch,
-        columns: &Columns,
-        heights: Heights,
-        text: &mut Vec<u8>,
-        progress: &Progress,
-    ) -> Result<()> {
-        let (k, format) = &columns.geometry;
-        let geometry = batch.column(*k, format).context("a batch has no geometry")?;
-        let ids = columns.id.as_ref().and_then(|(k, format)| batch.column(*k, format));
-        let properties = properties(batch, columns)?;
-        let parts: Vec<Range<usize>> = (0..batch.rows())
-            .step_by(PART)
-            .map(|from| from..batch.rows().min(from + PART))
-            .collect();
-        let read = |rooms: &mut WkbRooms, rows: Range<usize>| {
-            progress.add(rows.len());
-            (texts(ids, &properties, rows.clone()), shapes(geometry, rows, heights, rooms))
-        };
-        let parts: Vec<(Texts, Vec<Shape>)> =
-            parts.into_par_iter().map_init(WkbRooms::new, read).collect();
-        for ((part, cuts), shapes) in parts {
+    /// Adds rows that were read together.
+    fn add(&mut self, read: Vec<Texts>, wkb: Wkb, heights: Heights, text: &mut Vec<u8>) {
+        let before = self.cuts.len();
+        for (part, cuts) in read {
             text.extend(part);
             self.cuts.extend(cuts);
-            self.dimension =
-                shapes.iter().flatten().fold(self.dimension, |all, (_, each)| with(all, *each));
-            self.shapes.push(shapes);
         }
-        Ok(())
+        let shapes = |rooms: &mut WkbRooms, rows| shapes(wkb, rows, heights, rooms);
+        let parts: Vec<Vec<Shape>> = parts(self.cuts.len() - before)
+            .into_par_iter()
+            .map_init(WkbRooms::new, shapes)
+            .collect();
+        let dimensions = parts.iter().flatten().flatten().map(|(_, each)| *each);
+        self.dimension = dimensions.fold(self.dimension, with);
+        self.shapes.extend(parts);
     }
 
     /// The rows as a delivery, whose texts are those that were read.
@@ -285,50 +211,6 @@ impl Rows {
         delivery.warnings.extend(warnings());
         Ok((delivery, about))
     }
-}
-
-impl Cut {
-    fn length(self) -> usize {
-        self.id as usize + self.properties as usize
-    }
-
-    /// The id and the properties of a row whose texts begin at a place.
-    fn of(self, text: &str, begin: usize) -> (Option<&str>, Option<&str>) {
-        let (middle, end) = (begin + self.id as usize, begin + self.length());
-        (text.get(begin..middle).filter(|id| !id.is_empty()), text.get(middle..end))
-    }
-}
-
-/// The texts of rows, and how long each is.
-type Texts = (Vec<u8>, Vec<Cut>);
-
-fn texts(ids: Option<Column>, properties: &[Property], rows: Range<usize>) -> Texts {
-    let mut text = Vec::new();
-    let cut = |row: usize| {
-        let begin = text.len();
-        if let Some(Value::Whole(id)) = ids.map(|ids| ids.value(row)) {
-            // A list of bytes takes all that is written to it.
-            write!(text, "{id}").unwrap_or_default();
-        }
-        let id = text.len() - begin;
-        object(&mut text, properties, row);
-        // The digits of an id are few, and the properties of a row no longer than a batch.
-        Cut { id: id as u8, properties: (text.len() - begin - id) as u32 }
-    };
-    let cuts = rows.map(cut).collect();
-    (text, cuts)
-}
-
-/// The fields of a batch.
-fn properties<'b>(batch: &'b Batch, columns: &'b Columns) -> Result<Vec<Property<'b>>> {
-    let property = |(k, format, name, json): &'b (usize, Format, String, bool)| {
-        if let Format::Other(letters) = format {
-            bail!("the field {name} has values that are not read (Arrow's format {letters})");
-        }
-        let column = batch.column(*k, format).context("a batch has too few columns")?;
-        Ok(Property { name, column, json: *json })
-    };
-    columns.fields.iter().map(property).collect()
 }
 
 /// What positions of either have.

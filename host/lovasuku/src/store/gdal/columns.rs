@@ -115,6 +115,8 @@ pub enum Value<'b> {
     Date(i32),
     Time(i64, Unit),
     Moment(i64, Unit, &'b str),
+    /// A date or a time in words.
+    Told(String),
     List(Vec<Value<'b>>),
 }
 

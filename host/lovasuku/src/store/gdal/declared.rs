@@ -71,6 +71,8 @@ functions! {
     OGR_L_GetFeatureCount(Handle, c_int) -> i64;
     OGR_L_SetAttributeFilter(Handle, Text) -> c_int;
     OGR_L_GetArrowStream(Handle, *mut ArrowArrayStream, Texts) -> bool;
+    OGR_L_ResetReading(Handle);
+    OGR_L_GetNextFeature(Handle) -> Handle;
     OGR_L_CreateField(Handle, Handle, c_int) -> c_int;
     OGR_L_CreateFeature(Handle, Handle) -> c_int;
 
@@ -93,6 +95,20 @@ functions! {
 
     OGR_F_Create(Handle) -> Handle;
     OGR_F_Destroy(Handle);
+    OGR_F_GetFID(Handle) -> i64;
+    OGR_F_GetGeomFieldRef(Handle, c_int) -> Handle;
+    OGR_F_IsFieldSetAndNotNull(Handle, c_int) -> c_int;
+    OGR_F_GetFieldAsInteger64(Handle, c_int) -> i64;
+    OGR_F_GetFieldAsDouble(Handle, c_int) -> c_double;
+    OGR_F_GetFieldAsString(Handle, c_int) -> Text;
+    OGR_F_GetFieldAsBinary(Handle, c_int, *mut c_int) -> *const c_uchar;
+    OGR_F_GetFieldAsIntegerList(Handle, c_int, *mut c_int) -> *const c_int;
+    OGR_F_GetFieldAsInteger64List(Handle, c_int, *mut c_int) -> *const i64;
+    OGR_F_GetFieldAsDoubleList(Handle, c_int, *mut c_int) -> *const c_double;
+    OGR_F_GetFieldAsStringList(Handle, c_int) -> Texts;
+    OGR_F_GetFieldAsDateTimeEx(
+        Handle, c_int, *mut c_int, *mut c_int, *mut c_int, *mut c_int, *mut c_int, *mut f32, *mut c_int
+    ) -> c_int;
     OGR_F_SetFID(Handle, i64) -> c_int;
     OGR_F_SetGeometryDirectly(Handle, Handle) -> c_int;
     OGR_F_SetFieldInteger64(Handle, c_int, i64);
@@ -103,6 +119,8 @@ functions! {
     OGR_F_SetFieldInteger64List(Handle, c_int, c_int, *const i64);
     OGR_F_SetFieldDoubleList(Handle, c_int, c_int, *const c_double);
     OGR_F_SetFieldStringList(Handle, c_int, Texts);
+    OGR_G_WkbSize(Handle) -> c_int;
+    OGR_G_ExportToIsoWkb(Handle, c_int, *mut c_uchar) -> c_int;
     OGR_G_CreateFromWkb(*const c_uchar, Handle, *mut Handle, c_int) -> c_int;
 
     OSRNewSpatialReference(Text) -> Handle;

@@ -2,6 +2,7 @@
 
 mod arrow;
 mod columns;
+mod cursor;
 mod dataset;
 mod declared;
 mod driver;
@@ -14,6 +15,7 @@ mod types;
 
 pub use arrow::Batch;
 pub use columns::{Column, Format, Offsets, Unit, Value};
+pub use cursor::Found;
 pub use dataset::{listed, Dataset, Layer};
 pub use driver::{Driver, Making};
 pub use features::{Datum, Row};

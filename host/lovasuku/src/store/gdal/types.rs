@@ -41,6 +41,14 @@ impl FieldType {
     pub const INTEGER64: FieldType = FieldType { number: 12, sub: 0 };
     pub const INTEGERS64: FieldType = FieldType { number: 13, sub: 0 };
 
+    /// True where GDAL 3.6's Arrow streams tell values wrong: truths of GeoPackage and FlatGeobuf, which
+    /// end up in other rows, dates before 1970 of other formats, which are a day late, and moments,
+    /// which lose their zone. The features of a layer have them right.
+    pub fn is_wrong_in_streams(self) -> bool {
+        let truth = matches!(self.number, 0 | 1) && self.sub == FieldType::BOOLEAN.sub;
+        truth || matches!(self.name(), "Date" | "Time" | "DateTime")
+    }
+
     /// The name of the type, as drivers list what they can write.
     pub fn name(self) -> &'static str {
         match self.number {
