@@ -5,7 +5,7 @@
 //! the streams of GDAL 3.6 tell wrong is read feature by feature.
 
 use super::gdal::{
-    failures, Batch, Column, Field, FieldType, Format, Found, Layer, Offsets, Value,
+    failures, Batch, Column, Cursor, Field, FieldType, Format, Layer, Offsets, Value,
 };
 use super::geometry::Wkb;
 use super::properties::{object, Property};
@@ -172,18 +172,10 @@ pub fn by_features(
     geometry: usize,
     mut each: impl FnMut(Vec<Texts>, Wkb),
 ) -> Result<()> {
-    let names: Vec<String> = fields.iter().map(|field| json_name(&field.name)).collect();
     let mut cursor = layer.cursor();
     let mut row = 0;
     loop {
-        let mut lent = Lent::default();
-        let mut next = || cursor.next().with_context(|| from_row(row));
-        while let Some(found) = next()? {
-            lent.add(&found, fields, &names, geometry).with_context(|| from_row(row))?;
-            if lent.texts.1.len() == BATCH {
-                break;
-            }
-        }
+        let lent = Lent::of(&mut cursor, fields, geometry).with_context(|| from_row(row))?;
         let Lent { texts, run, offsets } = lent;
         let rows = texts.1.len();
         each(vec![texts], Wkb { run: &run, offsets: Offsets::Wide(&offsets), column: None });
@@ -201,27 +193,24 @@ struct Lent {
     offsets: Vec<i64>,
 }
 
-impl Default for Lent {
-    fn default() -> Self {
-        Lent { texts: Texts::default(), run: Vec::new(), offsets: vec![0] }
-    }
-}
-
 impl Lent {
-    fn add(
-        &mut self,
-        found: &Found,
-        fields: &[Field],
-        names: &[String],
-        geometry: usize,
-    ) -> Result<()> {
-        let value = |(k, (field, name)): (usize, (&Field, &'_ String))| {
-            (&name[..], found.value(k, field.kind), field.kind == FieldType::JSON)
-        };
-        let values: Vec<Property> = fields.iter().zip(names).enumerate().map(value).collect();
-        put(&mut self.texts, Some(found.id()), values.into_iter());
-        found.wkb(geometry, &mut self.run)?;
-        self.offsets.push(self.run.len() as i64);
-        Ok(())
+    /// The next rows, fewer than a batch only where they are the last.
+    fn of(cursor: &mut Cursor, fields: &[Field], geometry: usize) -> Result<Self> {
+        let names: Vec<String> = fields.iter().map(|field| json_name(&field.name)).collect();
+        let mut lent = Lent { texts: Texts::default(), run: Vec::new(), offsets: vec![0] };
+        for _ in 0..BATCH {
+            let found = match cursor.next()? {
+                None => break,
+                Some(found) => found,
+            };
+            let value = |(k, (field, name)): (usize, (&Field, &'_ String))| {
+                (&name[..], found.value(k, field.kind), field.kind == FieldType::JSON)
+            };
+            let values: Vec<Property> = fields.iter().zip(&names).enumerate().map(value).collect();
+            put(&mut lent.texts, Some(found.id()), values.into_iter());
+            found.wkb(geometry, &mut lent.run)?;
+            lent.offsets.push(lent.run.len() as i64);
+        }
+        Ok(lent)
     }
 }

@@ -1,7 +1,7 @@
 //! Faults: what is told of a store that cannot be read, and of the row that it is about.
 
 use crate::common::{feature, sample, Folder};
-use crate::gdal::{self, fault, made, output, summary};
+use crate::gdal::{self, fault, made, of_wkt, output, summary};
 use std::fs;
 use std::process::Command;
 
@@ -82,15 +82,6 @@ fn files_that_gdal_does_not_read() {
     assert!(told.contains("it is a folder, which GDAL reads: "), "{told}");
 }
 
-/// A store of rows of WKT.
-fn rows(folder: &Folder, rows: &[&str]) -> String {
-    let rows: String = rows.iter().map(|row| format!("\"{row}\"\n")).collect();
-    let path = folder.path("rows.csv");
-    fs::write(&path, format!("WKT\n{rows}")).unwrap();
-    let args = ["-oo", "GEOM_POSSIBLE_NAMES=WKT", "-nlt", "GEOMETRY", "-overwrite"];
-    made(folder, &path, "rows.gpkg", &args)
-}
-
 #[test]
 fn the_row_at_fault_is_named() {
     if !gdal::is_there() {
@@ -122,7 +113,7 @@ fn the_row_at_fault_is_named() {
             "a number of its coordinates is NaN or infinite, so that it is no place",
         ),
     ] {
-        let store = rows(&folder, &[line, line, row, line]);
+        let store = of_wkt(&folder, "rows.gpkg", &[line, line, row, line]);
         let told = fault(&["join", &store, "-o", "-"]);
         let wanted = format!("lovasuku: STORE: feature 2 (id 3): {wanted}\n");
         assert_eq!(told.replace(&store, "STORE"), wanted);
@@ -135,8 +126,11 @@ fn what_is_no_line_is_left_out_where_that_is_asked_for() {
         return;
     }
     let folder = Folder::new("others");
-    let store =
-        rows(&folder, &["POINT (1 2)", "LINESTRING (0 0,1 0)", "TIN EMPTY", "LINESTRING EMPTY"]);
+    let store = of_wkt(
+        &folder,
+        "rows.gpkg",
+        &["POINT (1 2)", "LINESTRING (0 0,1 0)", "TIN EMPTY", "LINESTRING EMPTY"],
+    );
     output("ogrinfo", &["-q", &store, "-sql", "INSERT INTO rows (geom) VALUES (NULL)"]);
     let out = folder.path("out.geojson");
     let words = summary(&["join", &store, "-o", &out, "--skip-other", "--drop-empty"]);

@@ -33,7 +33,8 @@ fn typed(folder: &Folder) -> String {
         "ALTER TABLE typed ADD COLUMN bytes BLOB",
         "ALTER TABLE typed ADD COLUMN none TEXT",
         "ALTER TABLE typed ADD COLUMN short TEXT(9)",
-        "UPDATE typed SET day = '2024-02-29', moment = '2024-05-01T12:30:00.250Z', \
+        "ALTER TABLE typed ADD COLUMN old DATE",
+        "UPDATE typed SET day = '2024-02-29', old = '1969-12-31', moment = '2024-05-01T12:30:00.250Z', \
          big = 9007199254740993, real = 0.1, truth = 1, bytes = X'00FF1A', short = 'å \"b\"'",
     ] {
         output("ogrinfo", &["-q", &store, "-sql", sql]);
@@ -49,7 +50,7 @@ fn fields_are_properties() {
     let folder = Folder::new("fields");
     let store = typed(&folder);
     let out = quiet(&["join", &store, "-o", "-"]);
-    let wanted = json!({"day": "2024-02-29", "moment": "2024-05-01T12:30:00.25",
+    let wanted = json!({"day": "2024-02-29", "old": "1969-12-31", "moment": "2024-05-01T12:30:00.25Z",
         "big": 9_007_199_254_740_993i64, "real": 0.1, "truth": true, "bytes": "00ff1a",
         "short": "å \"b\""});
     let chain = &features(&out)[0]["properties"];
@@ -74,6 +75,7 @@ fn fields_keep_their_types() {
         let told = told(&out);
         for wanted in [
             "  day (Date) = 2024/02/29\n",
+            "  old (Date) = 1969/12/31\n",
             "  moment (DateTime) = 2024/05/01 12:30:00.250+00\n",
             "  big (Integer64) = 9007199254740993\n",
             "  real (Real) = 0.1\n",
@@ -90,6 +92,37 @@ fn fields_keep_their_types() {
 }
 
 #[test]
+fn truths_and_dates_are_those_of_their_rows() {
+    if !gdal::is_there() {
+        return;
+    }
+    let folder = Folder::new("truths");
+    let days = ["1850-01-01", "1969-12-30", "1969-12-31", "1970-01-01", "1970-01-02", "2024-02-29"];
+    let row = |k: usize| {
+        let (truth, day) = (k % 3 != 1, days[k % days.len()]);
+        line(10 * k as i32, &format!(r#"{{"k":{k},"truth":{truth},"day":"{day}"}}"#))
+    };
+    let rows: Vec<String> = (0..40).map(row).collect();
+    let path = written(&folder, &rows);
+    for (ending, args) in gdal::FORMATS {
+        let store = made(&folder, &path, &format!("rows.{ending}"), args);
+        let out = quiet(&["join", &store, "-o", "-"]);
+        for (k, feature) in features(&out).iter().enumerate() {
+            let properties = &feature["properties"];
+            assert_eq!(properties["k"], k);
+            // A Shapefile has numbers in place of truths, and a FlatGeobuf moments in place of dates.
+            let truth = &properties["truth"];
+            assert!(
+                *truth == json!(k % 3 != 1) || *truth == json!(i32::from(k % 3 != 1)),
+                "{k} {truth}"
+            );
+            let day = properties["day"].as_str().unwrap();
+            assert!(day.starts_with(days[k % days.len()]), "{ending}: {k} {day}");
+        }
+    }
+}
+
+#[test]
 fn a_format_has_the_types_that_it_has() {
     if !gdal::is_there() {
         return;
@@ -101,7 +134,7 @@ fn a_format_has_the_types_that_it_has() {
     let told = told(&out);
     for wanted in [
         "  day (Date) = 2024/02/29\n",
-        "  moment (String) = 2024-05-01T12:30:00.25\n",
+        "  moment (String) = 2024-05-01T12:30:00.25Z\n",
         "  big (Integer64) = 9007199254740993\n",
         "  truth (Integer) = 1\n",
         "  bytes (String) = 00ff1a\n",

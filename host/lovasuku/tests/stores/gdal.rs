@@ -2,6 +2,7 @@
 
 use crate::common::{run, Folder};
 use serde_json::Value;
+use std::fs;
 use std::process::Command;
 
 /// The endings of the formats that the tests are about, and how ogr2ogr makes layers of them that keep
@@ -31,6 +32,15 @@ pub fn made(folder: &Folder, from: &str, name: &str, args: &[&str]) -> String {
     let path = folder.path(name);
     output("ogr2ogr", &[args, &[&path, from]].concat());
     path
+}
+
+/// A GeoPackage of geometries that are written as WKT, which GDAL reads.
+pub fn of_wkt(folder: &Folder, name: &str, rows: &[&str]) -> String {
+    let rows = rows.iter().enumerate().map(|(k, row)| format!("{k},\"{row}\"\n"));
+    let path = folder.path("rows.csv");
+    fs::write(&path, format!("number,WKT\n{}", rows.collect::<String>())).unwrap();
+    let options = ["-oo", "GEOM_POSSIBLE_NAMES=WKT", "-oo", "KEEP_GEOM_COLUMNS=NO"];
+    made(folder, &path, name, &[&options[..], &["-nlt", "GEOMETRY", "-overwrite"]].concat())
 }
 
 /// What ogrinfo tells of all features.

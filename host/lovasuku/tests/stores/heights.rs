@@ -1,18 +1,13 @@
 //! Heights and measures go through stores as they are.
 
 use crate::common::Folder;
-use crate::gdal::{self, made, quiet, summary, told};
-use std::fs;
+use crate::gdal::{self, of_wkt, quiet, summary, told};
 
-/// Two lines that meet, and one apart, as GDAL reads them from a table of WKT.
+/// Two lines that meet, and one apart.
 fn lines(folder: &Folder, kind: &str, positions: [[&str; 2]; 3]) -> String {
-    let row = |[a, b]: [&str; 2]| format!("\"LINESTRING {kind} ({a}, {b})\"\n");
-    let table = format!("WKT\n{}", positions.map(row).concat());
-    let path = folder.path("lines.csv");
-    fs::write(&path, table).unwrap();
-    let args = ["-oo", "GEOM_POSSIBLE_NAMES=WKT", "-oo", "KEEP_GEOM_COLUMNS=NO"];
+    let rows = positions.map(|[a, b]| format!("LINESTRING {kind} ({a}, {b})"));
     let name = format!("{}.gpkg", if kind.is_empty() { "flat" } else { kind });
-    made(folder, &path, &name, &[&args[..], &["-nlt", "GEOMETRY"]].concat())
+    of_wkt(folder, &name, &[&rows[0], &rows[1], &rows[2]])
 }
 
 #[test]
@@ -76,12 +71,7 @@ fn lines_of_several_dimensions_have_all_numbers_that_any_has() {
     }
     let folder = Folder::new("mixed");
     let rows = ["LINESTRING Z (0 0 1,1 0 2)", "LINESTRING (1 0,2 0)", "LINESTRING M (5 5 8,6 5 9)"];
-    let table: String = rows.iter().map(|row| format!("\"{row}\"\n")).collect();
-    let path = folder.path("lines.csv");
-    fs::write(&path, format!("WKT\n{table}")).unwrap();
-    let args = ["-oo", "GEOM_POSSIBLE_NAMES=WKT", "-nlt", "GEOMETRYZM"];
-    let store =
-        made(&folder, &path, "mixed.shp", &["-f", "GPKG", "-nlt", "GEOMETRY", args[0], args[1]]);
+    let store = of_wkt(&folder, "mixed.gpkg", &rows);
     let out = quiet(&["join", &store, "-o", "-"]);
     assert!(out.contains("[[0.0,0.0,1.0],[1.0,0.0,2.0],[2.0,0.0]]"), "{out}");
     assert!(out.contains("[[5.0,5.0],[6.0,5.0]]"), "{out}");

@@ -15,7 +15,7 @@ mod types;
 
 pub use arrow::Batch;
 pub use columns::{Column, Format, Offsets, Unit, Value};
-pub use cursor::Found;
+pub use cursor::Cursor;
 pub use dataset::{listed, Dataset, Layer};
 pub use driver::{Driver, Making};
 pub use features::{Datum, Row};
