@@ -41,8 +41,10 @@ pub type Texts = (Vec<u8>, Vec<Cut>);
 fn put<'b>(texts: &mut Texts, id: Option<i64>, properties: impl Iterator<Item = Property<'b>>) {
     let (text, cuts) = texts;
     let begin = text.len();
-    // A list of bytes takes all that is written to it.
-    id.map(|id| write!(text, "{id}").unwrap_or_default());
+    if let Some(id) = id {
+        // A list of bytes takes all that is written to it.
+        write!(text, "{id}").unwrap_or_default();
+    }
     let middle = text.len();
     object(text, properties);
     // The digits of an id are few, and the properties of a row fewer than a batch has.
@@ -203,11 +205,10 @@ impl Lent {
                 None => break,
                 Some(found) => found,
             };
-            let value = |(k, (field, name)): (usize, (&Field, &'_ String))| {
+            let values = fields.iter().zip(&names).enumerate().map(|(k, (field, name))| {
                 (&name[..], found.value(k, field.kind), field.kind == FieldType::JSON)
-            };
-            let values: Vec<Property> = fields.iter().zip(&names).enumerate().map(value).collect();
-            put(&mut lent.texts, Some(found.id()), values.into_iter());
+            });
+            put(&mut lent.texts, Some(found.id()), values);
             found.wkb(geometry, &mut lent.run)?;
             lent.offsets.push(lent.run.len() as i64);
         }
