@@ -62,8 +62,9 @@ extern "C" {
               : (wkb_type) == LOVASUKU_XYZ || (wkb_type) == LOVASUKU_XYM ? 3                                          \
               : (wkb_type) == LOVASUKU_XYZM ? 4 : 0))
 
-/* Numbers of a chain's record; words of workspace for each line and for each end. */
+/* Numbers of a chain's record, and of a box; words of workspace for each line and for each end. */
 #define LOVASUKU_RECORD 6
+#define LOVASUKU_BOX 4
 #define LOVASUKU_LINE_WORKSPACE 192
 #define LOVASUKU_END_WORKSPACE 64
 
@@ -74,6 +75,7 @@ extern "C" {
 #define lovasuku_marks_room(n) ((size_t)(n))
 #define lovasuku_listing_room(n) ((size_t)(n))
 #define lovasuku_merged_room(wkb_type, c) (lovasuku_stride(wkb_type) * (size_t)(c))
+#define lovasuku_boxes_room(n) ((size_t)8 * (size_t)(n) + (size_t)64)
 #define lovasuku_spare_room(wkb_type, c) (lovasuku_stride(wkb_type) * (size_t)(c))
 #define lovasuku_workspace_room(n) ((size_t)LOVASUKU_LINE_WORKSPACE * (size_t)(n))
 #define lovasuku_pairs_room(d) ((size_t)(d))
@@ -93,6 +95,7 @@ enum lovasuku_refusal {
     LOVASUKU_BAD_LIMIT = 6,            /* The switch is above 1, or the limit is not a number from -1 to 1. */
     LOVASUKU_BAD_OFFSET = 22,          /* The offset that stands in the limit's place is above 1,000. */
     LOVASUKU_BAD_ORIGIN = 17,          /* The x or the y of the origin is NaN or infinite. */
+    LOVASUKU_BAD_WINDOW = 18,          /* A window has a NaN, or a least above its greatest. */
     LOVASUKU_ROOM_TOO_SHORT = 7,       /* A lent room is shorter than the call needs. */
     LOVASUKU_PIECE_TOO_OFTEN = 8,      /* A piece number occurs more than twice. */
     LOVASUKU_NOT_FINITE = 9,           /* The indexed route was given a present direction that is not finite. */
@@ -138,6 +141,11 @@ enum lovasuku_reason {
  * last. A loop has at least three coordinates, of which the first and the last agree in x and y bit for bit: a turning
  * loop, a line there and back, a closed line that passes through.
  *
+ * Written too are boxes, four numbers each: the least x and y of a chain's coordinates and the greatest, of equal ones
+ * the bits of the earlier. First come the chains' own, then those around the first two and every two that follow, an
+ * odd last one alone, and so on level by level up to one around all; none for no chains. A chain without coordinates
+ * has plus infinity as least and minus infinity as greatest. lovasuku_window reads them.
+ *
  * Which way was a line drawn? Along its chain where its mark is 0, against it where it is 1, with a tolerance too: the
  * chain's lines in the order of the listing, each backwards where its mark is 1, laid end to end without repeats of x
  * and y, are the chain's coordinates by ==. The members are in another order where round two turned a piece of several
@@ -152,7 +160,8 @@ enum lovasuku_reason {
  * lines, come in the same order with the same members, marks, listing, coordinates and loops, however the other's lines
  * differ or are mixed in. Positions, firsts and the number of chains may differ. A refusal is of the whole call.
  *
- * Rooms: table 6n, members n, marks n, listing n, merged and spare 2c (3c or 4c with extras), workspace 192n.
+ * Rooms: table 6n, members n, marks n, listing n, merged and spare 2c (3c or 4c with extras), boxes 8n + 64, workspace
+ * 192n.
  *
  * Refusals: 12 wkb_type is none of the four. 1 n is above 4,096. 2 groups or kinds are not n numbers. 3 a kind is
  * above 1. 4 the counts do not add up to the coordinates' length, by the numbers of a coordinate. 5 c is above 65,536.
@@ -169,6 +178,7 @@ int64_t lovasuku_build(uint32_t wkb_type, const double *coordinates, size_t coor
                        uint8_t *marks, size_t marks_length,
                        uint32_t *listing, size_t listing_length,
                        double *merged, size_t merged_length,
+                       double *boxes, size_t boxes_length,
                        double *spare, size_t spare_length,
                        uint64_t *workspace, size_t workspace_length);
 
@@ -260,6 +270,7 @@ int64_t lovasuku_build_offset(uint32_t wkb_type, const double *coordinates, size
                               uint8_t *marks, size_t marks_length,
                               uint32_t *listing, size_t listing_length,
                               double *merged, size_t merged_length,
+                              double *boxes, size_t boxes_length,
                               double *spare, size_t spare_length,
                               uint64_t *workspace, size_t workspace_length);
 
@@ -299,6 +310,24 @@ int64_t lovasuku_chain(uint32_t wkb_type, const double *coordinates, size_t coor
                        const double *merged, size_t merged_length,
                        const uint32_t *table, size_t table_length,
                        uint64_t k);
+
+/* What lies in this window? Lists the chains whose boxes meet it. The result is their number.
+ *
+ * Lent are boxes of k chains as building writes them, which may come from anywhere, and a window: the least x and y and
+ * the greatest. A box meets the window where the two overlap or touch; one with a NaN, or with a least above its
+ * greatest, meets none. A chain is listed where its own box and all boxes above it meet the window; a box that is not
+ * wholly lent is not looked at. For boxes as building left them, with k its result, these are the chains whose
+ * coordinates' extent meets the window.
+ *
+ * Written is found, a number for each chain found, ascending.
+ *
+ * Rooms: boxes 8k + 64 numbers, found k.
+ *
+ * Refusals: 18 the window has a NaN, or a least above its greatest. 7 boxes are fewer than 8k + 64 numbers, found is
+ * shorter than k, or k is above 2^32. Infinities may bound a window. */
+int64_t lovasuku_window(const double *boxes, size_t boxes_length, uint64_t k,
+                        double least_x, double least_y, double greatest_x, double greatest_y,
+                        uint32_t *found, size_t found_length);
 
 /* WKB in: reads lines from records of OGC 06-103r4. The result is the number of records.
  *

@@ -17,6 +17,7 @@ static uint32_t table[LOVASUKU_RECORD * LINES];
 static uint32_t members[LINES];
 static uint8_t marks[LINES];
 static uint32_t listing[LINES];
+static double boxes[lovasuku_boxes_room(LINES)];
 static double merged[lovasuku_merged_room(TYPE, POINTS)];
 static double spare[lovasuku_spare_room(TYPE, POINTS)];
 static uint64_t workspace[LOVASUKU_LINE_WORKSPACE * LINES];
@@ -28,7 +29,7 @@ int main(void) {
     int64_t chains =
         lovasuku_build(TYPE, coordinates, NUMBERS, counts, LINES, groups, LINES, kinds, LINES, 0.0, 0.0, 0.0, 0, 0.0,
                        table, LOVASUKU_RECORD * LINES, members, LINES, marks, LINES, listing, LINES, merged, NUMBERS,
-                       spare, NUMBERS, workspace, LOVASUKU_LINE_WORKSPACE * LINES);
+                       boxes, lovasuku_boxes_room(LINES), spare, NUMBERS, workspace, LOVASUKU_LINE_WORKSPACE * LINES);
     if (chains < 0) {
         fprintf(stderr, "refusal %" PRId64 "\n", -chains);
         return 1;

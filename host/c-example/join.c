@@ -16,6 +16,7 @@ static uint32_t table[LOVASUKU_RECORD * LINES];
 static uint32_t members[LINES];
 static uint8_t marks[LINES];
 static uint32_t listing[LINES];
+static double boxes[lovasuku_boxes_room(LINES)];
 static double merged[2 * POINTS];
 static double spare[2 * POINTS];
 static uint64_t workspace[LOVASUKU_LINE_WORKSPACE * LINES];
@@ -47,7 +48,8 @@ int main(void) {
     int64_t chains =
         lovasuku_build(LOVASUKU_XY, coordinates, 2 * POINTS, counts, LINES, groups, LINES, kinds, LINES, 1.0, 0.0, 0.0,
                        0, 0.0, table, LOVASUKU_RECORD * LINES, members, LINES, marks, LINES, listing, LINES, merged,
-                       2 * POINTS, spare, 2 * POINTS, workspace, LOVASUKU_LINE_WORKSPACE * LINES);
+                       2 * POINTS, boxes, lovasuku_boxes_room(LINES), spare, 2 * POINTS, workspace,
+                       LOVASUKU_LINE_WORKSPACE * LINES);
     if (chains < 0) {
         fprintf(stderr, "refusal %" PRId64 "\n", -chains);
         return 1;

@@ -5,9 +5,9 @@
 #include "build.h"
 
 enum { MOST_LINES = LOVASUKU_MOST_LINES + 2, MOST_POINTS = LOVASUKU_MOST_POINTS + 2, FEW = 48, MEDIUM = 300, WIDEST = 4 };
-enum { TABLE, MEMBERS, MARKS, LISTING, MERGED, SPARE, WORKSPACE, ROOMS };
+enum { TABLE, MEMBERS, MARKS, LISTING, MERGED, BOXES, SPARE, WORKSPACE, ROOMS };
 
-static const size_t width[ROOMS] = {4, 4, 1, 4, 8, 8, 8};
+static const size_t width[ROOMS] = {4, 4, 1, 4, 8, 8, 8, 8};
 static struct slice coordinates, counts, groups, kinds, rooms[ROOMS];
 
 /* What is lent beside the call: lengths in elements. */
@@ -20,7 +20,7 @@ static void make_slices(void) {
         return;
     }
     const size_t most[ROOMS] = {LOVASUKU_RECORD * MEDIUM, MEDIUM, MEDIUM, MEDIUM, WIDEST * MOST_POINTS,
-                                WIDEST * MOST_POINTS, LOVASUKU_LINE_WORKSPACE * MEDIUM};
+                                lovasuku_boxes_room(MEDIUM), WIDEST * MOST_POINTS, LOVASUKU_LINE_WORKSPACE * MEDIUM};
     make_input(&coordinates, WIDEST * MOST_POINTS * sizeof(double));
     make_input(&counts, MOST_LINES * sizeof(uint32_t));
     make_input(&groups, MOST_LINES * sizeof(uint32_t));
@@ -151,7 +151,8 @@ static struct building next_building(struct bytes *bytes, struct lengths *length
 
 /* The rooms of a call of so many lines. */
 static void wanted_rooms(size_t n, size_t numbers, size_t *wanted) {
-    const size_t lengths[ROOMS] = {LOVASUKU_RECORD * n, n, n, n, numbers, numbers, LOVASUKU_LINE_WORKSPACE * n};
+    const size_t lengths[ROOMS] = {LOVASUKU_RECORD * n, n, n, n, numbers, lovasuku_boxes_room(n), numbers,
+                                   LOVASUKU_LINE_WORKSPACE * n};
     memcpy(wanted, lengths, sizeof lengths);
 }
 
@@ -256,15 +257,15 @@ static int64_t make_call(const struct building *call, const struct lengths *leng
             call->wkb_type, coordinates.lent, lengths->numbers, counts.lent, call->n, groups.lent, lengths->groups,
             kinds.lent, lengths->kinds, call->tolerance, call->origin_x, call->origin_y, call->switch_on, call->offset,
             rooms[TABLE].lent, room[TABLE], rooms[MEMBERS].lent, room[MEMBERS], rooms[MARKS].lent, room[MARKS],
-            rooms[LISTING].lent, room[LISTING], rooms[MERGED].lent, room[MERGED], rooms[SPARE].lent, room[SPARE],
-            rooms[WORKSPACE].lent, room[WORKSPACE]);
+            rooms[LISTING].lent, room[LISTING], rooms[MERGED].lent, room[MERGED], rooms[BOXES].lent, room[BOXES],
+            rooms[SPARE].lent, room[SPARE], rooms[WORKSPACE].lent, room[WORKSPACE]);
     }
     return lovasuku_build(call->wkb_type, coordinates.lent, lengths->numbers, counts.lent, call->n, groups.lent,
                           lengths->groups, kinds.lent, lengths->kinds, call->tolerance, call->origin_x,
                           call->origin_y, call->switch_on, call->limit, rooms[TABLE].lent, room[TABLE],
                           rooms[MEMBERS].lent, room[MEMBERS], rooms[MARKS].lent, room[MARKS], rooms[LISTING].lent,
-                          room[LISTING], rooms[MERGED].lent, room[MERGED], rooms[SPARE].lent, room[SPARE],
-                          rooms[WORKSPACE].lent, room[WORKSPACE]);
+                          room[LISTING], rooms[MERGED].lent, room[MERGED], rooms[BOXES].lent, room[BOXES],
+                          rooms[SPARE].lent, room[SPARE], rooms[WORKSPACE].lent, room[WORKSPACE]);
 }
 
 /* Requires the rooms of an accepted call to hold the answer and to be otherwise zero or as before. */
@@ -278,6 +279,7 @@ static void require_rooms(struct building *call, const struct lengths *lengths, 
     call->marks = rooms[MARKS].fill;
     call->listing = (const uint32_t *)rooms[LISTING].fill;
     call->merged = (const uint64_t *)rooms[MERGED].fill;
+    call->boxes = (const uint64_t *)rooms[BOXES].fill;
     size_t merged = require_built(call, chains);
     require_untouched_from(&rooms[TABLE], 4 * LOVASUKU_RECORD * chains,
                            "table is as before beyond what is written");
@@ -285,6 +287,8 @@ static void require_rooms(struct building *call, const struct lengths *lengths, 
     require_untouched_from(&rooms[MARKS], call->n, "marks are as before beyond what is written");
     require_untouched_from(&rooms[LISTING], 4 * call->n, "the listing is as before beyond what is written");
     require_untouched_from(&rooms[MERGED], 8 * merged, "merged is as before beyond what is written");
+    require_untouched_from(&rooms[BOXES], 8 * require_boxes(call, chains),
+                           "boxes are as before beyond what is written");
     require_cleared(&rooms[SPARE], 8 * lengths->numbers, "spare is zero and as before beyond");
     require_cleared(&rooms[WORKSPACE], 8 * LOVASUKU_LINE_WORKSPACE * call->n,
                     "workspace is zero and as before beyond");
@@ -375,6 +379,7 @@ void fuzz_build(struct bytes *bytes) {
         return;
     }
     require_rooms(&call, &lengths, (size_t)answer);
+    look_into(bytes, &call, rooms[BOXES].lent, lengths.rooms[BOXES], (size_t)answer);
     uint64_t sum = sum_of_answer(&call, (size_t)answer);
     seen(1024 + (unsigned)(sum % 1024));
     /* With an offset it is the call with the offset's limit; above 1,000 the limit isn't looked at. */

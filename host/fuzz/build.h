@@ -22,11 +22,18 @@ struct building {
     const uint32_t *table, *members;
     const uint8_t *marks;
     const uint32_t *listing;
-    const uint64_t *merged;
+    const uint64_t *merged, *boxes;
 };
 
 /* Requires the answer of an accepted call to be well formed. Gives the numbers of merged that were written.
  */
 size_t require_built(const struct building *call, size_t chains);
+
+/* Requires the boxes of an accepted call to be those of its chains, level by level. Gives how many of their numbers were
+ * written. */
+size_t require_boxes(const struct building *call, size_t chains);
+
+/* Looks into a window of the bytes over the chains of an accepted call, by its boxes of so many numbers. */
+void look_into(struct bytes *bytes, const struct building *call, const void *lent, size_t numbers, size_t chains);
 
 #endif

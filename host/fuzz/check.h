@@ -94,6 +94,7 @@ void require_cleared(const struct slice *room, size_t bytes, const char *sentenc
 void fuzz_build(struct bytes *bytes);
 void fuzz_pairs(struct bytes *bytes);
 void fuzz_chain(struct bytes *bytes);
+void fuzz_window(struct bytes *bytes);
 void fuzz_read_wkb(struct bytes *bytes);
 void fuzz_write_wkb(struct bytes *bytes);
 

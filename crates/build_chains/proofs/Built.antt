@@ -7,6 +7,7 @@ use lib.ListN.{length}
 use Rattle.rules.specs.declared.Settings.{Settings}
 use Rattle.rules.specs.declared.Answer.{Answer}
 use Rattle.rules.specs.declared.Answer.the-variants.{Accepted, Refused}
+use Rattle.rules.specs.Boxes.{stacked, boxNumbers}
 use Rattle.rules.specs.Chaining.{chains}
 use Rattle.rules.specs.Layout.{Lines, Laid, laidOut, build}
 use Rattle.rules.specs.Types.{widthOf}
@@ -16,10 +17,12 @@ use Rattle.build_refusals.specs.Admitted.{Admitted}
 use Rattle.build_refusals.proofs.Laws.{admitted}
 use Rattle.build_lines.specs.Taken.{Adds}
 use Rattle.chain_laws.proofs.Counts.{each-weak}
+use Rattle.build_boxes.specs.Boxing.{chainBoxes, Boxable}
 use Rattle.build_layout.specs.Laying.{passingOf, leftOf, Layable, Outputs}
 use Rattle.build_layout.proofs.Left.{pieces-all, members-all, left-low, left-size, merged-left}
 use Rattle.build_chains.specs.Building.{Buildable, partFrom, AllLeft}
 use Rattle.build_chains.proofs.Parts.{cleared-same}
+use Rattle.build_chains.proofs.Boxes.{boxable, boxes-are}
 
 unless-refused : {A : Type 0} (k : ℕ) (a b : A) → (k ≡ 0 → ⊥) → a ≡ unless k a b
 unfolding unless
@@ -101,30 +104,48 @@ module _ (t : ℕ) (l : Lines) (s : Settings) (o : Rooms) where
         listing-long = a .listing-long;
       }
 
-      -- and clears what it used
-      pub accepted : {table′ members′ marks′ listing′ spare′ workspace′ : List ℕ} {r : ℕ}
-          → Outputs (laidOut w (l .counts) (leftOf w s l ++ passingOf w l)) table′ (o .table) members′ (o .members) marks′ (o .marks) listing′ (o .listing) r
-          → spare′ ≡ cleared (length (l .coordinates)) spare₁
-          → workspace′ ≡ cleared (length (l .counts) * lineRoom) workspace₁
-          → Built t l s o (Accepted r) (rooms table′ members′ marks′ listing′ merged′ spare′ workspace′)
-      unfolding filled build chains
-      accepted {table′} {members′} {marks′} {listing′} {spare′} {workspace′} {r} q p c =
-          let same : build w s l ≡ builtOf t l s = ap (λ (v : ℕ). build v s l) e in
-          let u : Outputs (builtOf t l s) table′ (o .table) members′ (o .members) marks′ (o .marks) listing′ (o .listing) r =
-          subst (λ (b : Laid). Outputs b table′ (o .table) members′ (o .members) marks′ (o .marks) listing′ (o .listing) r) same q in
-          record {
-            answer = accepted-is (refusalOf t l s o) _ (builtOf t l s .number) (u .number) z;
-            rooms =
-                (λ i. rooms
-                (u .records i)
-                (u .listed i)
-                (u .turned i)
-                (u .passed i)
-                ((L .left .copied-is ∙ ap (λ (m : List ℕ). written m (o .merged)) (sym (merged-left w s (l .coordinates) (l .counts) (l .groups) (l .kinds)) ∙ ap (λ (b : Laid). b .merged) same)) i)
-                ((p ∙ cleared-same (length (l .coordinates)) spare₁ (o .spare) (L .spare-rest)) i)
-                ((c ∙ cleared-same (length (l .counts) * lineRoom) workspace₁ (o .workspace) (L .left .rest)) i))
-                ∙ unless-fine (refusalOf t l s o) o (filled t l s o) z;
-          }
+      module _
+          {table′ members′ marks′ listing′ : List ℕ}
+          {r : ℕ}
+          (q : Outputs (laidOut w (l .counts) (leftOf w s l ++ passingOf w l)) table′ (o .table) members′ (o .members) marks′ (o .marks) listing′ (o .listing) r) where
+        same : build w s l ≡ builtOf t l s
+        same = ap (λ (v : ℕ). build v s l) e
+
+        outputs : Outputs (builtOf t l s) table′ (o .table) members′ (o .members) marks′ (o .marks) listing′ (o .listing) r
+        unfolding build chains
+        outputs = subst (λ (b : Laid). Outputs b table′ (o .table) members′ (o .members) marks′ (o .marks) listing′ (o .listing) r) same q
+
+        copies-are : merged′ ≡ written (builtOf t l s .merged) (o .merged)
+        unfolding build chains
+        copies-are =
+            L .left .copied-is ∙ ap (λ (m : List ℕ). written m (o .merged)) (sym (merged-left w s (l .coordinates) (l .counts) (l .groups) (l .kinds)) ∙ ap (λ (b : Laid). b .merged) same)
+
+        -- the boxes of what was laid out
+        pub boxed : Boxable w (l .coordinates) merged′ table′ r (o .boxes)
+        boxed = boxable a e (outputs .records) copies-are (outputs .number)
+
+        -- and clears what it used
+        pub accepted : {boxes′ spare′ workspace′ : List ℕ}
+            → boxes′ ≡ written (boxNumbers (stacked (chainBoxes w (l .coordinates) merged′ table′ r))) (o .boxes)
+            → spare′ ≡ cleared (length (l .coordinates)) spare₁
+            → workspace′ ≡ cleared (length (l .counts) * lineRoom) workspace₁
+            → Built t l s o (Accepted r) (rooms table′ members′ marks′ listing′ merged′ boxes′ spare′ workspace′)
+        unfolding filled
+        accepted b p c =
+            record {
+              answer = accepted-is (refusalOf t l s o) _ (builtOf t l s .number) (outputs .number) z;
+              rooms =
+                  (λ i. rooms
+                  (outputs .records i)
+                  (outputs .listed i)
+                  (outputs .turned i)
+                  (outputs .passed i)
+                  (copies-are i)
+                  ((b ∙ ap (λ (x : List ℕ). written x (o .boxes)) (boxes-are a e (outputs .records) copies-are (outputs .number))) i)
+                  ((p ∙ cleared-same (length (l .coordinates)) spare₁ (o .spare) (L .spare-rest)) i)
+                  ((c ∙ cleared-same (length (l .counts) * lineRoom) workspace₁ (o .workspace) (L .left .rest)) i))
+                  ∙ unless-fine (refusalOf t l s o) o (filled t l s o) z;
+            }
 
 -- ---- one record, one answer
 

@@ -3,4 +3,5 @@ pub mod Good
 pub mod First
 pub mod Second
 pub mod Rounds
+pub mod Boxes
 pub mod Built

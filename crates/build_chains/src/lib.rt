@@ -152,7 +152,7 @@ fn join_lines(
     )
 }
 
-// A call that is not refused: the rounds, the layout, and the zeros that are left.
+// A call that is not refused: the rounds, the layout, the boxes, and the zeros that are left.
 fn build_admitted(
     wkb_type: u32,
     coordinates: &[u64],
@@ -165,16 +165,17 @@ fn build_admitted(
     marks: &mut [u8],
     listing: &mut [u32],
     merged: &mut [u64],
+    boxes: &mut [u64],
     spare: &mut [u64],
     workspace: &mut [u64],
 ) -> Answer
     requires { ⌜ refusalOf «wkb_type» (lent (now coordinates) (now counts) (now groups) (now kinds)) settings
-        (rooms (now table) (now members) (now marks) (now listing) (now merged) (now spare) (now workspace)) ≡ 0 ⌝ }
+        (rooms (now table) (now members) (now marks) (now listing) (now merged) (now boxes) (now spare) (now workspace)) ≡ 0 ⌝ }
     ensures { λ r. ⌜ Built «wkb_type» (lent (now (coordinates .entry)) (now (counts .entry)) (now (groups .entry)) (now (kinds .entry))) settings
         (rooms (now (table .entry)) (now (members .entry)) (now (marks .entry)) (now (listing .entry))
-        (now (merged .entry)) (now (spare .entry)) (now (workspace .entry)))
+        (now (merged .entry)) (now (boxes .entry)) (now (spare .entry)) (now (workspace .entry)))
         r (rooms (now (table .exit)) (now (members .exit)) (now (marks .exit)) (now (listing .exit))
-        (now (merged .exit)) (now (spare .exit)) (now (workspace .exit))) ⌝ }
+        (now (merged .exit)) (now (boxes .exit)) (now (spare .exit)) (now (workspace .exit))) ⌝ }
 {
     let n = counts.len();
     let width = point_numbers::width_of(wkb_type);
@@ -206,12 +207,13 @@ fn build_admitted(
         marks,
         listing,
     );
+    build_boxes::lay_boxes(coordinates, merged, table, width, number, boxes);
     point_slices::clear(spare, coordinates.len());
     point_slices::clear(workspace, end);
     Answer::Accepted(number as u64)
 }
 
-// Builds the chains of a call, of lines of a type: table, members, marks, listing and merged coordinates. A refused call changes no slice; an accepted
+// Builds the chains of a call, of lines of a type: table, members, marks, listing, merged coordinates and boxes. A refused call changes no slice; an accepted
 // one leaves spare and workspace zero over their named length, whatever they held.
 pub fn build(
     wkb_type: u32,
@@ -225,14 +227,15 @@ pub fn build(
     marks: &mut [u8],
     listing: &mut [u32],
     merged: &mut [u64],
+    boxes: &mut [u64],
     spare: &mut [u64],
     workspace: &mut [u64],
 ) -> Answer
     ensures { λ r. ⌜ Built «wkb_type» (lent (now (coordinates .entry)) (now (counts .entry)) (now (groups .entry)) (now (kinds .entry))) settings
         (rooms (now (table .entry)) (now (members .entry)) (now (marks .entry)) (now (listing .entry))
-        (now (merged .entry)) (now (spare .entry)) (now (workspace .entry)))
+        (now (merged .entry)) (now (boxes .entry)) (now (spare .entry)) (now (workspace .entry)))
         r (rooms (now (table .exit)) (now (members .exit)) (now (marks .exit)) (now (listing .exit))
-        (now (merged .exit)) (now (spare .exit)) (now (workspace .exit))) ⌝ }
+        (now (merged .exit)) (now (boxes .exit)) (now (spare .exit)) (now (workspace .exit))) ⌝ }
 {
     let refused = build_refusals::refusal(
         wkb_type,
@@ -246,6 +249,7 @@ pub fn build(
         marks,
         listing,
         merged,
+        boxes,
         spare,
         workspace,
     );
@@ -264,6 +268,7 @@ pub fn build(
         marks,
         listing,
         merged,
+        boxes,
         spare,
         workspace,
     )

@@ -14,6 +14,7 @@ use Rattle.rules.specs.Lists.{one, keep}
 use Rattle.rules.specs.Plane.{Point, points, flat}
 use Rattle.rules.specs.Types.{widthOf}
 use Rattle.rules.specs.Districts.{isOf, linesBrought}
+use Rattle.rules.specs.Boxes.{boxOf}
 use Rattle.rules.specs.Chaining.{Piece, Line, chains}
 use Rattle.rules.specs.Layout.{Lines, lines, linesIn, copied, loop as loopOf}
 use Rattle.rules.specs.Refusals.{Rooms}
@@ -67,6 +68,7 @@ read-relabel w r p =
       source = one (elim (eqb n 1) [ true ↦ false | false ↦ true ]);
       loop = one (loopOf (p .points));
       coordinates = flat w (p .points);
+      box = boxOf (p .points);
     })
     (sym (length-map (p .lines) r))
 

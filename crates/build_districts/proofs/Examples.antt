@@ -27,7 +27,7 @@ unfolding book linesBy districtRead readAll readAt rankOf renamed isOfDistrict v
 district d c =
     let l = linesBy c in
     let b = builtOf 2 l (settingsBy c) in
-    districtRead d (l .groups) (readAll 2 (l .coordinates) (rooms (b .records) (b .members) (b .marks) (b .listing) (b .merged) [] []) (b .number))
+    districtRead d (l .groups) (readAll 2 (l .coordinates) (rooms (b .records) (b .members) (b .marks) (b .listing) (b .merged) (b .boxes) [] []) (b .number))
 
 -- a group of the second district, which is 7 but for the top bit
 abbrev far : ℕ

@@ -22,6 +22,7 @@ renamed r c =
       source = c .source;
       loop = c .loop;
       coordinates = c .coordinates;
+      box = c .box;
     }
 
 unfoldable pub isOfDistrict : ℕ → List ℕ → ChainRead → Bool

@@ -3,6 +3,7 @@ use rules::Answer;
 use rules::RECORD;
 ghost use mathlib.Core.Path.{_≡_};
 ghost use Prim.Native.Nat.{_≤_, _^_};
+ghost use mathlib.Core.Bool.{false};
 ghost use Rattle.rules.specs.Refusals.{noChain};
 ghost use Rattle.rules.specs.Calls.{asked, viewed};
 ghost use Rattle.build_question.specs.Parts.{partOf};
@@ -26,7 +27,26 @@ pub fn no_chain(input: &[u64], merged: &[u64], table: &[u32], width: usize, k: u
     merged.len() < last
 }
 
-// Chain k's coordinates, of points of a width: a part of the input or of the merged coordinates, the empty part of the input where there is no such chain.
+// Chain k's coordinates, of points of a width, where there is such a chain: a part of the input or of the merged coordinates.
+pub fn known_part<'a>(
+    input: &'a [u64],
+    merged: &'a [u64],
+    table: &[u32],
+    width: usize,
+    k: usize,
+) -> &'a [u64]
+    requires { ⌜ (width ≤ 2 ^ 31) × (noChain width (now input) (now merged) (now table) k ≡ false) ⌝ }
+    ensures { λ r. ⌜ now r ≡ partOf width (now (input .entry)) (now (merged .entry)) (now (table .entry)) k ⌝ }
+{
+    let from = table[k * RECORD + 3] as usize * width;
+    let to = from + table[k * RECORD + 4] as usize * width;
+    if table[k * RECORD + 2] == 0 {
+        return &input[from..to];
+    }
+    &merged[from..to]
+}
+
+// The same, and the empty part of the input where there is no such chain.
 pub fn part<'a>(
     input: &'a [u64],
     merged: &'a [u64],
@@ -40,12 +60,7 @@ pub fn part<'a>(
     if no_chain(input, merged, table, width, k) {
         return &input[..0];
     }
-    let from = table[k * RECORD + 3] as usize * width;
-    let to = from + table[k * RECORD + 4] as usize * width;
-    if table[k * RECORD + 2] == 0 {
-        return &input[from..to];
-    }
-    &merged[from..to]
+    known_part(input, merged, table, width, k)
 }
 
 // The chain question: accepted with 0, refused with 12 for a number that is no type, or with 10.

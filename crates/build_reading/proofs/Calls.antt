@@ -4,12 +4,13 @@ use Prim.Native.Nat.{ℕ, zero, suc, _*_, _≤_, _<_}
 use mathlib.Core.Path.{_≡_, refl, sym, ap, subst, _∙_}
 use mathlib.Core.List.{List, [], _∷_, _++_, map, flatMap}
 use native.Mathlib.Omega.{arith}
-use lib.ListN.{length, drop}
+use lib.ListN.{length, drop, getD}
 use Rattle.rules.specs.declared.Answer.the-variants.{Accepted}
 use Rattle.rules.specs.declared.Settings.{Settings}
 use Rattle.rules.specs.Lists.{one, count}
 use Rattle.rules.specs.Plane.{points, flat}
-use Rattle.rules.specs.Chaining.{Piece, chains}
+use Rattle.rules.specs.Boxes.{boxOf, stacked, boxNumbers}
+use Rattle.rules.specs.Chaining.{Piece, nothing, chains}
 use Rattle.rules.specs.Types.{widthOf}
 use Rattle.rules.specs.Layout.{Lines, linesIn, copy, loop as loopOf, table as table-of, laidOut, build}
 use Rattle.rules.specs.Refusals.{Rooms, refusalOf, lineRoom, entry}
@@ -26,7 +27,7 @@ use Rattle.chain_laws.proofs.Sound.{chains-sound, chains-drawn}
 use Rattle.chain_travel.specs.Travel.{Travelled}
 use Rattle.chain_travel.proofs.Lent.{written-travelled}
 use Rattle.build_reading.specs.Reading.{ChainRead, readAll, readOf}
-use Rattle.build_reading.proofs.Reading.{line-stands, mark-read, chains-read}
+use Rattle.build_reading.proofs.Reading.{line-stands, view-read, mark-read, chains-read}
 
 -- a call that answers with a result was not refused, and the result is that of its record
 pub accepted : (refusal result n : ℕ) → answerOf refusal result ≡ Accepted n → (refusal ≡ 0) × (n ≡ result)
@@ -56,13 +57,13 @@ module _ {t : ℕ} {l : Lines} {s : Settings} {o o′ : Rooms} {n : ℕ} (built 
   unfolding build laidOut
   taken = accepted (refusalOf t l s o) (builtOf t l s .number) n (sym (built .answer))
 
-  abbrev let-in : Admitted t l s o
+  abbrev pub let-in : Admitted t l s o
   let-in = admitted t l s o (taken .0)
 
   adds : Adds (widthOf t) (l .counts) (l .coordinates)
   adds = record { two = let-in .two; sum = let-in .adds }
 
-  filled-is : o′ ≡ filled t l s o
+  pub filled-is : o′ ≡ filled t l s o
   unfolding unless
   filled-is = built .rooms ∙ ap (λ (k : ℕ). unless k o (filled t l s o)) (taken .0)
 
@@ -78,8 +79,26 @@ module _ {t : ℕ} {l : Lines} {s : Settings} {o o′ : Rooms} {n : ℕ} (built 
       (drop (length (flatMap (λ p. p .marks) ps)) (o .marks))
       (drop (length (flatMap (λ p. p .listing) ps)) (o .listing))
       (drop (length (flat (widthOf t) (flatMap copy ps))) (o .merged))
+      (drop (length (boxNumbers (stacked (map (λ p. boxOf (p .points)) ps)))) (o .boxes))
       (cleared (length (l .coordinates)) (o .spare))
       (cleared (length (l .counts) * lineRoom) (o .workspace))
+
+  -- THE VIEW OF CHAIN k IS ITS POINTS
+  pub call-viewed : (k : ℕ) → k < n → viewed t (l .coordinates) (o′ .merged) (o′ .table) k ≡ flat (widthOf t) (getD (chains s (linesIn (widthOf t) l)) k nothing .points)
+  unfolding filled build laidOut written
+  call-viewed k h =
+      subst (λ (r : Rooms). viewed t (l .coordinates) (r .merged) (r .table) k ≡ flat (widthOf t) (getD ps k nothing .points)) (sym filled-is)
+      (view-read t (widthOf t) refl (l .coordinates) (l .counts) (linesIn (widthOf t) l) ps (chains-sound s (linesIn (widthOf t) l))
+      (λ k. line-stands (widthOf t) (l .coordinates) (l .counts) (l .groups) (l .kinds) k adds)
+      (drop (length (table-of (l .counts) 0 0 ps)) (o .table))
+      (drop (length (flatMap (λ p. p .lines) ps)) (o .members))
+      (drop (length (flatMap (λ p. p .marks) ps)) (o .marks))
+      (drop (length (flatMap (λ p. p .listing) ps)) (o .listing))
+      (drop (length (flat (widthOf t) (flatMap copy ps))) (o .merged))
+      (drop (length (boxNumbers (stacked (map (λ p. boxOf (p .points)) ps)))) (o .boxes))
+      (cleared (length (l .coordinates)) (o .spare))
+      (cleared (length (l .counts) * lineRoom) (o .workspace))
+      k (omega (arith, taken .1)))
 
   -- A CHAIN'S LAST NUMBER IS 1 EXACTLY IF ITS COORDINATES, BY THE VIEW, ARE A LOOP, ELSE 0
   pub loop-read : (k : ℕ) → k < n → entry (o′ .table) k 5 ≡ one (loopOf (points (widthOf t) (viewed t (l .coordinates) (o′ .merged) (o′ .table) k)))
@@ -93,6 +112,7 @@ module _ {t : ℕ} {l : Lines} {s : Settings} {o o′ : Rooms} {n : ℕ} (built 
       (drop (length (flatMap (λ p. p .marks) ps)) (o .marks))
       (drop (length (flatMap (λ p. p .listing) ps)) (o .listing))
       (drop (length (flat (widthOf t) (flatMap copy ps))) (o .merged))
+      (drop (length (boxNumbers (stacked (map (λ p. boxOf (p .points)) ps)))) (o .boxes))
       (cleared (length (l .coordinates)) (o .spare))
       (cleared (length (l .counts) * lineRoom) (o .workspace))
       k (omega (arith, taken .1)) (adds .two))

@@ -1,2 +1,4 @@
 pub mod Reading
 pub mod Calls
+pub mod Points
+pub mod Windows

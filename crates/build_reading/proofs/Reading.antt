@@ -8,16 +8,18 @@ use mathlib.Core.List.{List, [], _∷_, _++_, map, flatMap, append-assoc}
 use native.Mathlib.Omega.{arith}
 use native.Mathlib.Nat.{add-mul, mul-le-mul-right, eq-of-mul-eq-mul-right}
 use lib.Dec.{eqb}
-use lib.ListN.{length, getD, take, drop, length-append, take-append-drop, List·getD-append}
+use lib.ListN.{length, getD, take, drop, length-append, take-append-drop, List·getD-append, length-map, List·getD-map}
 use lib.Seq.{split-at, length-take-le, getD-take, getD-drop, take-at, drop-at, getD-append-add}
 use borrow.Author.Tests.{le-ltb, eqb-true}
 use Rattle.rules.specs.Lists.{one, from, upto, total}
 use Rattle.rules.specs.Plane.{Point, points, flat}
+use Rattle.rules.specs.Boxes.{grown, boxOf, stacked, boxNumbers, boxAt}
 use Rattle.rules.specs.Chaining.{Piece, nothing, Line}
 use Rattle.rules.specs.Layout.{lines, copied, copy, loop as loopOf, five, six, table as table-of}
 use Rattle.rules.specs.Types.{widthOf}
 use Rattle.rules.specs.Refusals.{rooms, recordSize, pieceSize, entry, sourceOf, noChain}
 use Rattle.rules.specs.Calls.{viewed}
+use Rattle.box_laws.proofs.Rows.{first-boxes}
 use Rattle.build_question.specs.Parts.{partOf}
 use Rattle.build_question.proofs.Laws.{part-there, viewed-part}
 use Rattle.chain_laws.proofs.Counts.{Each, nil, cons, each-getD}
@@ -33,7 +35,7 @@ use Rattle.build_reading.specs.Reading.{readAt, readAll, readOf}
 
 -- ---- lists
 
-by-index : {A B : Type 0} (f : ℕ → B) (g : A → B) (d : A) (l : List A) → ((k : ℕ) → k < length l → f k ≡ g (getD l k d)) → map f (upto (length l)) ≡ map g l
+pub by-index : {A B : Type 0} (f : ℕ → B) (g : A → B) (d : A) (l : List A) → ((k : ℕ) → k < length l → f k ≡ g (getD l k d)) → map f (upto (length l)) ≡ map g l
 unfolding upto from
 by-index f g d [] h = refl
 by-index {B = B} f g d (a ∷ l) h =
@@ -70,17 +72,25 @@ flat-copies w (p ∷ ps) = flat-append w (copy p) (flatMap copy ps) ∙ ap (λ (
 
 -- ---- the view of a record whose numbers are known
 
-module _ (w : ℕ) (input merged table : List ℕ) (k : ℕ) where
-  there : k * recordSize + recordSize ≤ length table → entry table k 2 ≤ 1
-      → (entry table k 3 + entry table k 4) * w ≤ length (sourceOf (entry table k 2) input merged)
-      → noChain w input merged table k ≡ false
-  unfolding noChain
-  there a b c = ap₂ _||_ (le-ltb _ _ a) (ap₂ _||_ (le-ltb _ _ b) (le-ltb _ _ c))
+-- record k has source s, and names c points from the f-th on of the slice that s names
+pub record Named (w : ℕ) (input merged table : List ℕ) (k s f c : ℕ) : Type 0 where
+  pub source : entry table k 2 ≡ s
+  pub first : entry table k 3 ≡ f
+  pub count : entry table k 4 ≡ c
+  pub row : k * recordSize + recordSize ≤ length table
+  pub low : s ≤ 1
+  pub inside : (f + c) * w ≤ length (sourceOf s input merged)
 
-  view-is : (s f c : ℕ) → entry table k 2 ≡ s → entry table k 3 ≡ f → entry table k 4 ≡ c → k * recordSize + recordSize ≤ length table → s ≤ 1
-      → (f + c) * w ≤ length (sourceOf s input merged) → partOf w input merged table k ≡ take (c * w) (drop (f * w) (sourceOf s input merged))
-  view-is s f c e₂ e₃ e₄ a b i =
-      part-there w input merged table k (there a (rw e₂ b) (rw (e₂, e₃, e₄) i)) ∙ rw (e₂, e₃, e₄)
+module _ {w : ℕ} {input merged table : List ℕ} {k s f c : ℕ} (n : Named w input merged table k s f c) where
+  there : entry table k 2 ≤ 1 → (entry table k 3 + entry table k 4) * w ≤ length (sourceOf (entry table k 2) input merged) → noChain w input merged table k ≡ false
+  unfolding noChain
+  there a b = ap₂ _||_ (le-ltb _ _ (n .row)) (ap₂ _||_ (le-ltb _ _ a) (le-ltb _ _ b))
+
+  chain-named : noChain w input merged table k ≡ false
+  chain-named = there (rw (n .source) (n .low)) (rw (n .source, n .first, n .count) (n .inside))
+
+  view-is : partOf w input merged table k ≡ take (c * w) (drop (f * w) (sourceOf s input merged))
+  view-is = part-there w input merged table k chain-named ∙ rw (n .source, n .first, n .count)
 
 -- ---- a line's own points, in the input
 
@@ -137,7 +147,7 @@ module _
     (ps : List Piece)
     (sound : Each (Sound ls) ps)
     (own : (k : ℕ) → Stands w input (total (take k counts)) (getD ls k noLine .points))
-    (t m a d c s z : List ℕ) where
+    (t m a d c x s z : List ℕ) where
   abbrev table′ : List ℕ
   table′ = table-of counts 0 0 ps ++ t
 
@@ -152,6 +162,9 @@ module _
 
   abbrev merged′ : List ℕ
   merged′ = flat w (flatMap copy ps) ++ c
+
+  abbrev boxes′ : List ℕ
+  boxes′ = boxNumbers (stacked (map (λ p. boxOf (p .points)) ps)) ++ x
 
   -- marked and listed, up to any chain
   drawn-before : (q : ℕ) (rs : List Piece) → Each (Sound ls) rs → Each Drawn (take q rs)
@@ -257,24 +270,34 @@ module _
     row : q * recordSize + recordSize ≤ length table′
     row = omega (arith, length-append (table-of counts 0 0 ps) t, rows-length (six counts) recordSize (six-length counts) 0 0 ps)
 
+    mine-copied : copied p ≡ true → copy p ≡ p .points
+    unfolding copy
+    mine-copied e = rw (e, copy)
+
+    named-copied : copied p ≡ true → Named w input merged′ table′ q 1 copies (length (p .points))
+    unfolding five sourceOf
+    named-copied e = record {
+      source = source-is ∙ ap one e;
+      first = word 3 (omega arith) ∙ rw (e, five);
+      count = word 4 (omega arith) ∙ common .2;
+      row = row;
+      low = omega arith;
+      inside = omega (arith, length-append (flat w (flatMap copy ps)) c, flat-length w (flatMap copy ps), mul-le-mul-right w inside);
+    }
+      where
+        inside : copies + length (p .points) ≤ length (flatMap copy ps)
+        inside = omega (arith, length-of copy pre p post, ap (λ (l : List Piece). length (flatMap copy l)) whole, ap length (mine-copied e))
+
     view-copied : copied p ≡ true → partOf w input merged′ table′ q ≡ flat w (p .points)
-    unfolding five copy sourceOf
+    unfolding sourceOf
     view-copied e =
-        view-is w input merged′ table′ q 1 copies (length (p .points))
-        (source-is ∙ ap one e) (word 3 (omega arith) ∙ rw (e, five)) (word 4 (omega arith) ∙ common .2) row (omega arith)
-        (omega (arith, length-append (flat w (flatMap copy ps)) c, flat-length w (flatMap copy ps), mul-le-mul-right w inside))
+        view-is (named-copied e)
         ∙ ap (λ (l : List Piece). take (length (p .points) * w) (drop (copies * w) (flat w (flatMap copy l) ++ c))) whole
         ∙ ap (λ (l : List ℕ). take (length (p .points) * w) (drop (copies * w) (l ++ c))) (flat-copies w (pre ++ (p ∷ post)))
         ∙ part-of (λ (p : Piece). flat w (copy p)) pre p post c (copies * w) (length (p .points) * w)
         (ap length (sym (flat-copies w pre)) ∙ flat-length w (flatMap copy pre))
-        (flat-length w (copy p) ∙ ap (λ (l : List Point). length l * w) mine)
-        ∙ ap (flat w) mine
-      where
-        mine : copy p ≡ p .points
-        mine = rw (e, copy)
-
-        inside : copies + length (p .points) ≤ length (flatMap copy ps)
-        inside = omega (arith, length-of copy pre p post, ap (λ (l : List Piece). length (flatMap copy l)) whole, ap length mine)
+        (flat-length w (copy p) ∙ ap (λ (l : List Point). length l * w) (mine-copied e))
+        ∙ ap (flat w) (mine-copied e)
 
     lone : (l : List ℕ) → length l ≡ 1 → l ≡ getD l 0 0 ∷ []
     lone [] h = absurd (omega arith)
@@ -292,36 +315,56 @@ module _
             clash : false ≡ true → ⊥
             clash k = let z : _≡_ {A = ℕ} 0 1 = cc in omega arith
 
-    view-own : copied p ≡ false → partOf w input merged′ table′ q ≡ flat w (p .points)
+    abbrev own-first : ℕ
+    own-first = total (take (getD (p .lines) 0 0) counts)
+
+    mine-own : copied p ≡ false → Stands w input own-first (p .points)
+    mine-own e = let k = getD (p .lines) 0 0 in rw (here .own k (lone (p .lines) (one-line e))) (own k)
+
+    named-own : copied p ≡ false → Named w input merged′ table′ q 0 own-first (length (p .points))
     unfolding five sourceOf
-    view-own e =
-        view-is w input merged′ table′ q 0 (total (take k counts)) (length (p .points))
-        (source-is ∙ ap one e) (word 3 (omega arith) ∙ rw (e, five)) (word 4 (omega arith) ∙ common .2) row (omega arith)
-        (mine .within)
-        ∙ mine .same
+    named-own e = record {
+      source = source-is ∙ ap one e;
+      first = word 3 (omega arith) ∙ rw (e, five);
+      count = word 4 (omega arith) ∙ common .2;
+      row = row;
+      low = omega arith;
+      inside = mine-own e .within;
+    }
+
+    view-own : copied p ≡ false → partOf w input merged′ table′ q ≡ flat w (p .points)
+    unfolding sourceOf
+    view-own e = view-is (named-own e) ∙ mine-own e .same
+
+    -- the record names a chain, and the part that it names is the chain's points
+    pub chain-there : noChain w input (flat w (flatMap copy ps) ++ c) (table-of counts 0 0 ps ++ t) q ≡ false
+    chain-there = go (copied p) refl
       where
-        k : ℕ
-        k = getD (p .lines) 0 0
+        go : (u : Bool) → copied p ≡ u → noChain w input merged′ table′ q ≡ false
+        go true e = chain-named (named-copied e)
+        go false e = chain-named (named-own e)
 
-        mine : Stands w input (total (take k counts)) (p .points)
-        mine = rw (here .own k (lone (p .lines) (one-line e))) (own k)
-
-    coordinates-are : partOf w input merged′ table′ q ≡ flat w (p .points)
-    coordinates-are = go (copied p) refl
+    pub chain-part : partOf w input (flat w (flatMap copy ps) ++ c) (table-of counts 0 0 ps ++ t) q ≡ flat w (getD ps q nothing .points)
+    chain-part = go (copied p) refl
       where
         go : (u : Bool) → copied p ≡ u → partOf w input merged′ table′ q ≡ flat w (p .points)
         go true e = view-copied e
         go false e = view-own e
 
-    view-read : viewed type input merged′ table′ q ≡ flat w (p .points)
-    view-read = viewed-part type input merged′ table′ q ∙ ap (λ (v : ℕ). partOf v input merged′ table′ q) (sym wide) ∙ coordinates-are
+    -- THE VIEW OF A RECORD IS ITS CHAIN'S POINTS
+    pub view-read : viewed type input (flat w (flatMap copy ps) ++ c) (table-of counts 0 0 ps ++ t) q ≡ flat w (getD ps q nothing .points)
+    view-read = viewed-part type input merged′ table′ q ∙ ap (λ (v : ℕ). partOf v input merged′ table′ q) (sym wide) ∙ chain-part
 
     -- THE LOOP MARK OF A RECORD IS THAT OF THE COORDINATES THAT IT NAMES
     pub mark-read : 2 ≤ w → entry (table-of counts 0 0 ps ++ t) q 5
         ≡ one (loopOf (points w (viewed type input (flat w (flatMap copy ps) ++ c) (table-of counts 0 0 ps ++ t) q)))
     mark-read two = loop-is ∙ ap one (sym (loop-flat w two (p .points)) ∙ ap (λ (l : List ℕ). loopOf (points w l)) (sym view-read))
 
-    chain-read : readAt type input (rooms table′ members′ marks′ listing′ merged′ s z) q ≡ readOf w p
+    box-is : boxAt boxes′ q ≡ boxOf (p .points)
+    unfolding boxOf grown
+    box-is = first-boxes (map (λ r. boxOf (r .points)) ps) x q (omega (arith, length-map ps (λ r. boxOf (r .points)))) ∙ List·getD-map (λ r. boxOf (r .points)) ps q nothing
+
+    chain-read : readAt type input (rooms table′ members′ marks′ listing′ merged′ boxes′ s z) q ≡ readOf w p
     unfolding readAt readOf
     chain-read = λ j. record {
       members = members-are j;
@@ -330,12 +373,13 @@ module _
       source = source-is j;
       loop = loop-is j;
       coordinates = view-read j;
+      box = box-is j;
     }
 
   -- WHAT IS READ IS THE CHAINS
   pub chains-read : readAll type input
       (rooms (table-of counts 0 0 ps ++ t) (flatMap (λ p. p .lines) ps ++ m) (flatMap (λ p. p .marks) ps ++ a) (flatMap (λ p. p .listing) ps ++ d)
-      (flat w (flatMap copy ps) ++ c) s z) (length ps)
+      (flat w (flatMap copy ps) ++ c) (boxNumbers (stacked (map (λ p. boxOf (p .points)) ps)) ++ x) s z) (length ps)
       ≡ map (readOf w) ps
   unfolding readAll
-  chains-read = by-index (readAt type input (rooms table′ members′ marks′ listing′ merged′ s z)) (readOf w) nothing ps chain-read
+  chains-read = by-index (readAt type input (rooms table′ members′ marks′ listing′ merged′ boxes′ s z)) (readOf w) nothing ps chain-read

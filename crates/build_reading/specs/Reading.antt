@@ -1,10 +1,12 @@
 -- What a host reads in the rooms that a building call leaves: chain by chain its members, their marks, its lines in the order in
--- which they are passed, its source, whether it is a loop, and its coordinates by the view.
+-- which they are passed, its source, whether it is a loop, its coordinates by the view, and its box.
 use Prim.Native.Nat.{ℕ}
 use mathlib.Core.List.{List, map}
 use lib.ListN.{take, drop}
+use Rattle.rules.specs.declared.Box.{Box}
 use Rattle.rules.specs.Lists.{one, upto}
 use Rattle.rules.specs.Plane.{flat}
+use Rattle.rules.specs.Boxes.{boxOf, boxAt}
 use Rattle.rules.specs.Chaining.{Piece}
 use Rattle.rules.specs.Layout.{copied, loop as loopOf}
 use Rattle.rules.specs.Refusals.{Rooms, entry}
@@ -17,6 +19,7 @@ pub record ChainRead : Type 0 where
   pub source : ℕ
   pub loop : ℕ
   pub coordinates : List ℕ
+  pub box : Box
 
 -- chain k, of lines of type t
 unfoldable pub readAt : (t : ℕ) (input : List ℕ) → Rooms → ℕ → ChainRead
@@ -28,6 +31,7 @@ readAt t input o k =
       source = entry (o .table) k 2;
       loop = entry (o .table) k 5;
       coordinates = viewed t input (o .merged) (o .table) k;
+      box = boxAt (o .boxes) k;
     }
 
 -- all of n chains
@@ -44,4 +48,5 @@ readOf w p =
       source = one (copied p);
       loop = one (loopOf (p .points));
       coordinates = flat w (p .points);
+      box = boxOf (p .points);
     }

@@ -18,6 +18,7 @@ use Rattle.rules.specs.Plane.{Point, point, float, reads, points}
 use Rattle.point_numbers.specs.Width.{pointAt, Whole}
 use Rattle.point_numbers.proofs.Points.{at-x, at-y, points-exact, points-from, points-past}
 use Rattle.point_numbers.proofs.Widths.{width-two}
+use Rattle.rules.specs.Boxes.{boxRoom}
 use Rattle.rules.specs.Layout.{Lines}
 use Rattle.rules.specs.Types.{widthOf, noType}
 use Rattle.rules.specs.Districts.{overLines, overPoints}
@@ -168,8 +169,8 @@ tests t l s o =
     ∷ (17, originBad (s .«origin_x») (s .«origin_y»))
     ∷ (
       7,
-      roomShort n numbers (length (o .table)) (length (o .members)) (length (o .marks)) (length (o .listing))
-          (length (o .merged)) (length (o .spare)) (length (o .workspace)),
+      roomShort n numbers (length (o .table)) (length (o .members)) (length (o .marks)) (length (o .listing)) (length (o .merged)) (length (o .boxes))
+          (length (o .spare)) (length (o .workspace)),
     )
     ∷ []
 
@@ -183,6 +184,13 @@ pub stopped : (k : ℕ) (b : Bool) (l : List (ℕ × Bool)) → b ≡ true → f
 unfolding firstOf
 stopped k true l e = refl
 stopped k false l e = absurd (true≢false (sym e))
+
+-- one of several tests: passed over where it doesn't hold, and enough where it does
+pub past : (a b : Bool) → a ≡ false → a || b ≡ b
+past a b e = ap (λ (t : Bool). t || b) e
+
+pub stop : (a b : Bool) → a ≡ true → a || b ≡ true
+stop a b e = ap (λ (t : Bool). t || b) e
 
 -- the refusal r is that of the tests l, which are left
 pub record Left (r : ℕ) (l : List (ℕ × Bool)) : Type 0 where
@@ -286,7 +294,8 @@ admitted t l s o z =
     let r₃ = or-off (ltb (length (o .marks)) n) _ (r₂ .1) in
     let r₄ = or-off (ltb (length (o .listing)) n) _ (r₃ .1) in
     let r₅ = or-off (ltb (length (o .merged)) numbers) _ (r₄ .1) in
-    let r₆ = or-off (ltb (length (o .spare)) numbers) (ltb (length (o .workspace)) (n * lineRoom)) (r₅ .1) in
+    let r₆ = or-off (ltb (length (o .boxes)) (boxRoom n)) _ (r₅ .1) in
+    let r₇ = or-off (ltb (length (o .spare)) numbers) (ltb (length (o .workspace)) (n * lineRoom)) (r₆ .1) in
     record {
       two = width-two t (eqb-false (widthOf t) 0 (t₀ .0));
       few = ltb-false 4096 n (t₁ .0);
@@ -304,6 +313,7 @@ admitted t l s o z =
       marks-long = ltb-false (length (o .marks)) n (r₃ .0);
       listing-long = ltb-false (length (o .listing)) n (r₄ .0);
       merged-long = ltb-false (length (o .merged)) numbers (r₅ .0);
-      spare-long = ltb-false (length (o .spare)) numbers (r₆ .0);
-      workspace-long = ltb-false (length (o .workspace)) (n * lineRoom) (r₆ .1);
+      boxes-long = ltb-false (length (o .boxes)) (boxRoom n) (r₆ .0);
+      spare-long = ltb-false (length (o .spare)) numbers (r₇ .0);
+      workspace-long = ltb-false (length (o .workspace)) (n * lineRoom) (r₇ .1);
     }

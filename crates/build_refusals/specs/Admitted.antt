@@ -6,6 +6,7 @@ use lib.ListN.{length}
 use Rattle.rules.specs.declared.Settings.{Settings}
 use Rattle.rules.specs.Lists.{total}
 use Rattle.rules.specs.Plane.{points}
+use Rattle.rules.specs.Boxes.{boxRoom}
 use Rattle.rules.specs.Layout.{Lines}
 use Rattle.rules.specs.Types.{widthOf}
 use Rattle.rules.specs.Districts.{overLines, overPoints}
@@ -29,5 +30,6 @@ pub record Admitted (t : ℕ) (l : Lines) (s : Settings) (o : Rooms) : Type 0 wh
   pub marks-long : length (l .counts) ≤ length (o .marks)
   pub listing-long : length (l .counts) ≤ length (o .listing)
   pub merged-long : length (l .coordinates) ≤ length (o .merged)
+  pub boxes-long : boxRoom (length (l .counts)) ≤ length (o .boxes)
   pub spare-long : length (l .coordinates) ≤ length (o .spare)
   pub workspace-long : length (l .counts) * lineRoom ≤ length (o .workspace)

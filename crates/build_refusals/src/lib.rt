@@ -1,5 +1,7 @@
 // The refusals of building, in the order of checking.
 use float_bits::SIGN;
+use rules::BOX_ROOM;
+use rules::BOX_ROOM_BESIDE;
 use rules::LINE_ROOM;
 use rules::MOST_LINES;
 use rules::MOST_POINTS;
@@ -141,11 +143,12 @@ fn room_short(
     marks: usize,
     listing: usize,
     merged: usize,
+    boxes: usize,
     spare: usize,
     workspace: usize,
 ) -> bool
     requires { ⌜ n ≤ mostLines ⌝ }
-    ensures { λ r. ⌜ r ≡ roomShort n numbers table members marks listing merged spare workspace ⌝ }
+    ensures { λ r. ⌜ r ≡ roomShort n numbers table members marks listing merged boxes spare workspace ⌝ }
 {
     if table < n * RECORD {
         return true;
@@ -160,6 +163,9 @@ fn room_short(
         return true;
     }
     if merged < numbers {
+        return true;
+    }
+    if boxes < n * BOX_ROOM + BOX_ROOM_BESIDE {
         return true;
     }
     if spare < numbers {
@@ -181,13 +187,14 @@ pub fn refusal(
     marks: &[u8],
     listing: &[u32],
     merged: &[u64],
+    boxes: &[u64],
     spare: &[u64],
     workspace: &[u64],
 ) -> u64
     ensures { λ r. ⌜ r ≡ refusalOf «wkb_type»
         (lent (now (coordinates .entry)) (now (counts .entry)) (now (groups .entry)) (now (kinds .entry))) settings
         (rooms (now (table .entry)) (now (members .entry)) (now (marks .entry)) (now (listing .entry))
-        (now (merged .entry)) (now (spare .entry)) (now (workspace .entry))) ⌝ }
+        (now (merged .entry)) (now (boxes .entry)) (now (spare .entry)) (now (workspace .entry))) ⌝ }
 {
     let width = point_numbers::width_of(wkb_type);
     if width == 0 {
@@ -232,6 +239,7 @@ pub fn refusal(
         marks.len(),
         listing.len(),
         merged.len(),
+        boxes.len(),
         spare.len(),
         workspace.len(),
     ) {

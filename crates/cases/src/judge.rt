@@ -4,6 +4,7 @@ use rules::END_ROOM;
 use rules::LINE_ROOM;
 use rules::RECORD;
 use rules::Settings;
+use rules::Window;
 
 // Whether a begins with b and is 7 from there on.
 fn begins_u32(a: &[u32], b: &[u32]) -> bool {
@@ -161,6 +162,36 @@ pub fn coarse() -> Settings {
     }
 }
 
+// Whether a room begins with the first k chains, ascending, and is 7 from there on.
+fn lists_all(room: &[u32; 4], k: usize) -> bool {
+    let names = [0u32, 1, 2, 3];
+    let mut i = 0;
+    while i < 4 {
+        let mut v = 7;
+        if i < k {
+            v = names[i];
+        }
+        if room[i] != v {
+            return false;
+        }
+        i += 1;
+    }
+    true
+}
+
+// Whether all of the k chains lie in a window around every case.
+fn found(boxes: &[u64], k: usize) -> bool {
+    let mut room = [7u32; 4];
+    let around = Window {
+        least_x: -8.0,
+        least_y: -8.0,
+        greatest_x: 8.0,
+        greatest_y: 8.0,
+    };
+    let answer = box_window::chains_in(boxes, k, around, &mut room);
+    accepted(answer, k) && lists_all(&room, k)
+}
+
 // Whether building gives these records, members, marks and listing, of three plain lines at most. The chains' coordinates, one after another, are `laid`; the
 // first of them are the merged ones, as many as `copied` says.
 fn leaves(
@@ -189,6 +220,7 @@ fn leaves(
     let mut marks_room = [7u8; 4];
     let mut listing_room = [7u32; 4];
     let mut merged_room = [7u64; 16];
+    let mut boxes_room = [7u64; 90];
     let mut spare = [7u64; 16];
     let mut workspace = [7u64; 580];
     let answer = build_chains::build(
@@ -203,6 +235,7 @@ fn leaves(
         &mut marks_room,
         &mut listing_room,
         &mut merged_room,
+        &mut boxes_room,
         &mut spare,
         &mut workspace,
     );
@@ -215,6 +248,7 @@ fn leaves(
         && cleared(&spare, coordinates.len())
         && cleared(&workspace, n * LINE_ROOM)
         && shows(coordinates, &merged_room, &table_room, chains, laid)
+        && found(&boxes_room, chains)
 }
 
 // The same, of the numbers that the coordinates' bits stand for, sixteen at most.

@@ -10,6 +10,8 @@ use lib.ListN.{length, getD, take, drop, length-map}
 use Rattle.rules.specs.declared.Settings.{Settings}
 use Rattle.rules.specs.Lists.{one, total}
 use Rattle.rules.specs.Plane.{Point, point, points, flat}
+use Rattle.rules.specs.declared.Box.{Box}
+use Rattle.rules.specs.Boxes.{union, empty, spot, grown, boxOf, stacked, boxNumbers}
 use Rattle.rules.specs.Chaining.{Piece, Line, chains}
 use Rattle.rules.specs.Layout.{Lines, lines, linesIn, copied, copy, loop, five, six, rows, table, laidOut, build}
 use Rattle.rules.specs.Refusals.{nowhere, anyNowhere}
@@ -149,6 +151,20 @@ unfolding flatMap
 listing-bare [] = refl
 listing-bare (p ∷ ps) = ap (λ (r : List ℕ). p .listing ++ r) (listing-bare ps)
 
+grown-bare : (b : Box) (ps : List Point) → grown b (map bare ps) ≡ grown b ps
+unfolding grown
+grown-bare b [] = refl
+grown-bare b (p ∷ ps) = grown-bare (union b (spot p)) ps
+
+-- BOXES LOOK AT X AND Y ONLY
+pub box-bare : (ps : List Point) → boxOf (map bare ps) ≡ boxOf ps
+unfolding boxOf
+box-bare ps = grown-bare empty ps
+
+boxes-bare : (ps : List Piece) → map (λ p. boxOf (p .points)) (map barePiece ps) ≡ map (λ p. boxOf (p .points)) ps
+boxes-bare [] = refl
+boxes-bare (p ∷ ps) = ap₂ {C = List Box} (λ (b : Box) (r : List Box). b ∷ r) (box-bare (p .points)) (boxes-bare ps)
+
 -- ---- the points of what is built have the width of the lines
 
 wide-at : (w : ℕ) (ps : List Point) (j : ℕ) (d : Point) → AllWide w ps → j < length ps → Wide w (getD ps j d)
@@ -209,4 +225,5 @@ module _ (w : ℕ) (s : Settings) (l : Lines) (two : 2 ≤ w) where
         merged =
             ap (λ (ps : List Piece). flat 2 (flatMap copy ps)) same-chains
             ∙ ap (flat 2) (copies-bare built ∙ ap (map bare) (sym (points-flat w (flatMap copy built) (omega arith) built-wide)));
+        boxes = ap (λ (ps : List Piece). boxNumbers (stacked (map (λ p. boxOf (p .points)) ps))) same-chains ∙ ap (λ (b : List Box). boxNumbers (stacked b)) (boxes-bare built);
       }

@@ -18,7 +18,7 @@ use Rattle.rules.specs.Chaining.{cellsOf, Piece, nothing, Rule, lay, pieceAt, r
 use Rattle.chain_laws.proofs.Counts.{Each, nil, cons, each-append, each-map, each-weak, each-getD, each-of, count-append, one-same}
 use Rattle.chain_laws.proofs.Lines.{pieces-take, pieces-leave}
 use Rattle.chain_laws.proofs.Sound.{noLine}
-use Rattle.chain_extras.specs.Bare.{From}
+use Rattle.chain_extras.specs.Bare.{ownPoints, From}
 
 -- ---- what each point has
 
@@ -144,3 +144,11 @@ module _ (ls : List Line) where
   merged-from s k j b h =
       let c = getD (chains s ls) k nothing in
       each-getD (From ls (c .lines)) (c .points) j (point 0 0) (each-getD Owned (chains s ls) k nothing (chains-owned s) b) h
+
+  -- what holds of the points of every line holds of those of every chain
+  pub chains-all : (P : Point → Type 0) → ((k : ℕ) → Each P (ownPoints ls k)) → (s : Settings) → Each (λ (c : Piece). Each P (c .points)) (chains s ls)
+  chains-all P h s =
+      each-weak Owned (λ (c : Piece). Each P (c .points)) (chains s ls)
+      (λ c o. each-weak (From ls (c .lines)) P (c .points)
+      (λ p f. subst P (sym (f .same)) (each-getD P (ownPoints ls (f .line)) (f .place) (point 0 0) (h (f .line)) (f .within))) o)
+      (chains-owned s)

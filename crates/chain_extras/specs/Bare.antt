@@ -34,6 +34,7 @@ pub record Alike (w : ℕ) (without with : Laid) : Type 0 where
   pub marks : without .marks ≡ with .marks
   pub listing : without .listing ≡ with .listing
   pub merged : without .merged ≡ bareNumbers w (with .merged)
+  pub boxes : without .boxes ≡ with .boxes
 
 -- ---- the extras ride along
 -- the points of line k, and none where there is no such line

@@ -2,6 +2,7 @@
 // or minus the number of the refusal.
 use rules::Answer;
 use rules::Settings;
+use rules::Window;
 ghost use mathlib.Core.Path.{_≡_};
 ghost use Rattle.door.specs.Proper.{Proper};
 ghost use mathlib.Core.Bool.{true, false};
@@ -9,6 +10,7 @@ ghost use Rattle.rules.specs.Layout.{lent};
 ghost use Rattle.rules.specs.Refusals.{rooms, lentEnds};
 ghost use Rattle.rules.specs.Calls.{numberOf, Numbered, Built, Paired, asked};
 ghost use Rattle.rules.specs.Reasons.{Why};
+ghost use Rattle.rules.specs.Windows.{boxesAs, Windowed};
 ghost use Rattle.rules.specs.Wkb.{Read, runAs, Wrote, chainsAs};
 ghost use Rattle.rules.specs.Offset.{offsetAsked, BuiltOffset, PairedOffset, endsFor};
 
@@ -41,15 +43,16 @@ pub extern "C" fn lovasuku_build(
     marks: &mut [u8],
     listing: &mut [u32],
     merged: &mut [u64],
+    boxes: &mut [u64],
     spare: &mut [u64],
     workspace: &mut [u64],
 ) -> u64
     ensures { λ r. ⌜ Numbered (λ a. Built «wkb_type» (lent (now (coordinates .entry)) (now (counts .entry)) (now (groups .entry)) (now (kinds .entry)))
         (record { tolerance = tolerance; «origin_x» = «origin_x»; «origin_y» = «origin_y»; switch = switch; limit = limit })
         (rooms (now (table .entry)) (now (members .entry)) (now (marks .entry)) (now (listing .entry))
-        (now (merged .entry)) (now (spare .entry)) (now (workspace .entry)))
+        (now (merged .entry)) (now (boxes .entry)) (now (spare .entry)) (now (workspace .entry)))
         a (rooms (now (table .exit)) (now (members .exit)) (now (marks .exit)) (now (listing .exit))
-        (now (merged .exit)) (now (spare .exit)) (now (workspace .exit)))) r ⌝ }
+        (now (merged .exit)) (now (boxes .exit)) (now (spare .exit)) (now (workspace .exit)))) r ⌝ }
 {
     number(build_chains::build(
         wkb_type,
@@ -69,6 +72,7 @@ pub extern "C" fn lovasuku_build(
         marks,
         listing,
         merged,
+        boxes,
         spare,
         workspace,
     ))
@@ -158,6 +162,34 @@ pub extern "C" fn lovasuku_chain(
     number(build_question::chain(wkb_type, coordinates, merged, table, k as usize))
 }
 
+// What lies in a window: the number of chains found.
+#[no_mangle]
+pub extern "C" fn lovasuku_window(
+    boxes: &[u64],
+    k: u64,
+    least_x: f64,
+    least_y: f64,
+    greatest_x: f64,
+    greatest_y: f64,
+    found: &mut [u32],
+) -> u64
+    ensures { λ r. ⌜ Numbered (λ a. Windowed (boxesAs (now (boxes .entry)) k
+        (record { «least_x» = «least_x»; «least_y» = «least_y»; «greatest_x» = «greatest_x»; «greatest_y» = «greatest_y» }) (now (found .entry)))
+        a (now (found .exit))) r ⌝ }
+{
+    number(box_window::chains_in(
+        boxes,
+        k as usize,
+        Window {
+            least_x,
+            least_y,
+            greatest_x,
+            greatest_y,
+        },
+        found,
+    ))
+}
+
 // WKB in: the number of records.
 #[no_mangle]
 pub extern "C" fn lovasuku_read_wkb(
@@ -217,15 +249,16 @@ pub extern "C" fn lovasuku_build_offset(
     marks: &mut [u8],
     listing: &mut [u32],
     merged: &mut [u64],
+    boxes: &mut [u64],
     spare: &mut [u64],
     workspace: &mut [u64],
 ) -> u64
     ensures { λ r. ⌜ Numbered (λ a. BuiltOffset «wkb_type» (lent (now (coordinates .entry)) (now (counts .entry)) (now (groups .entry)) (now (kinds .entry)))
         tolerance «origin_x» «origin_y» switch offset
         (rooms (now (table .entry)) (now (members .entry)) (now (marks .entry)) (now (listing .entry))
-        (now (merged .entry)) (now (spare .entry)) (now (workspace .entry)))
+        (now (merged .entry)) (now (boxes .entry)) (now (spare .entry)) (now (workspace .entry)))
         a (rooms (now (table .exit)) (now (members .exit)) (now (marks .exit)) (now (listing .exit))
-        (now (merged .exit)) (now (spare .exit)) (now (workspace .exit)))) r ⌝ }
+        (now (merged .exit)) (now (boxes .exit)) (now (spare .exit)) (now (workspace .exit)))) r ⌝ }
 {
     number(offset_calls::build_offset(
         wkb_type,
@@ -243,6 +276,7 @@ pub extern "C" fn lovasuku_build_offset(
         marks,
         listing,
         merged,
+        boxes,
         spare,
         workspace,
     ))

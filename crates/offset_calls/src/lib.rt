@@ -42,14 +42,15 @@ pub fn build_offset(
     marks: &mut [u8],
     listing: &mut [u32],
     merged: &mut [u64],
+    boxes: &mut [u64],
     spare: &mut [u64],
     workspace: &mut [u64],
 ) -> Answer
     ensures { λ r. ⌜ BuiltOffset «wkb_type» (lent (now (coordinates .entry)) (now (counts .entry)) (now (groups .entry)) (now (kinds .entry))) tolerance «origin_x» «origin_y» switch offset
         (rooms (now (table .entry)) (now (members .entry)) (now (marks .entry)) (now (listing .entry))
-        (now (merged .entry)) (now (spare .entry)) (now (workspace .entry)))
+        (now (merged .entry)) (now (boxes .entry)) (now (spare .entry)) (now (workspace .entry)))
         r (rooms (now (table .exit)) (now (members .exit)) (now (marks .exit)) (now (listing .exit))
-        (now (merged .exit)) (now (spare .exit)) (now (workspace .exit))) ⌝ }
+        (now (merged .exit)) (now (boxes .exit)) (now (spare .exit)) (now (workspace .exit))) ⌝ }
 {
     let limit = float_offset::limit_for(offset);
     renumbered(
@@ -72,6 +73,7 @@ pub fn build_offset(
             marks,
             listing,
             merged,
+            boxes,
             spare,
             workspace,
         ),

@@ -261,7 +261,7 @@ unfolding book
 refusedBy kind switch x =
     refusalOf 2 (lent (+0 ∷ +0 ∷ +1 ∷ +0 ∷ +1 ∷ x ∷ []) (2 ∷ 1 ∷ []) (0 ∷ 0 ∷ []) (0 ∷ kind ∷ []))
     (record { tolerance = float +0; «origin_x» = float +0; «origin_y» = float +0; switch = switch; limit = float +0 })
-    (rooms [] [] [] [] [] [] [])
+    (rooms [] [] [] [] [] [] [] [])
 
 -- as many numbers as are beyond the scope, of one line, all of them NaN
 tooMany : ℕ
@@ -270,7 +270,7 @@ tooMany =
     let numbers = mostPoints * 2 + 2 in
     refusalOf 2 (lent (replicate numbers not-a-number) ((mostPoints + 1) ∷ []) (0 ∷ []) (0 ∷ []))
     (record { tolerance = float +0; «origin_x» = float +0; «origin_y» = float +0; switch = 0; limit = float +0 })
-    (rooms [] [] [] [] [] [] [])
+    (rooms [] [] [] [] [] [] [] [])
 
 place-nan : Bool
 unfolding refusedBy
@@ -326,7 +326,7 @@ abbrev coarsely : Settings
 coarsely = record { tolerance = float +1; «origin_x» = float +0; «origin_y» = float +0; switch = 0; limit = float +0 }
 
 abbrev refusal : ℕ → ℕ → ℕ
-refusal t numbers = refusalOf t heights coarsely (rooms (replicate 12 0) (replicate 2 0) (replicate 2 0) (replicate 2 0) (replicate numbers 0) (replicate numbers 0) (replicate 384 0))
+refusal t numbers = refusalOf t heights coarsely (rooms (replicate 12 0) (replicate 2 0) (replicate 2 0) (replicate 2 0) (replicate numbers 0) (replicate 80 0) (replicate numbers 0) (replicate 384 0))
 
 pub extrasRide : Bool
 unfolding book

@@ -33,7 +33,7 @@ abbrev refused : List ℕ → List ℕ → ℕ
 refused counts groups =
     refusalOf 2 (lent (replicate (total counts * 2) not-a-number) counts groups (replicate (length counts) 1))
     (record { tolerance = float +0; «origin_x» = float +0; «origin_y» = float +0; switch = 0; limit = float +0 })
-    (rooms [] [] [] [] [] [] [])
+    (rooms [] [] [] [] [] [] [] [])
 
 -- a lines of the first district and b of the second, all empty
 abbrev empties : ℕ → ℕ → ℕ

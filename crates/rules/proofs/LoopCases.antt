@@ -56,7 +56,7 @@ calls = refl
 abbrev refusal : ℕ → ℕ
 refusal table =
     refusalOf 2 lines (record { tolerance = float +0; «origin_x» = float +0; «origin_y» = float +0; switch = 0; limit = float +0 })
-    (rooms (replicate table 0) (replicate 6 0) (replicate 6 0) (replicate 6 0) (replicate 26 0) (replicate 26 0) (replicate 1152 0))
+    (rooms (replicate table 0) (replicate 6 0) (replicate 6 0) (replicate 6 0) (replicate 26 0) (replicate 112 0) (replicate 26 0) (replicate 1152 0))
 
 pub room : (refusal 36 ≡ 0) × (refusal 35 ≡ 7)
 unfolding book

@@ -40,7 +40,7 @@ abbrev lines : ℕ → ℕ → Lines
 lines n x = record { coordinates = replicate (n * 2) x; counts = replicate n 1; groups = replicate n 0; kinds = replicate n 0 }
 
 abbrev room : ℕ → Rooms
-room m = record { table = replicate m 0; members = replicate m 0; marks = replicate m 0; listing = replicate m 0; merged = replicate m 0; spare = replicate m 0; workspace = replicate m 0 }
+room m = record { table = replicate m 0; members = replicate m 0; marks = replicate m 0; listing = replicate m 0; merged = replicate m 0; boxes = replicate m 0; spare = replicate m 0; workspace = replicate m 0 }
 
 pub build-refusals :
     -- the greatest offset; one more; a switch above 1 is refused by 6 whatever the offset is; with the switch at 0 the offset isn't looked at

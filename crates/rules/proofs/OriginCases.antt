@@ -74,7 +74,7 @@ chains = tt
 -- ---- 17: with any tolerance, with the switch at 0, for no lines; after 6, before 7
 
 abbrev refused : Lines → Settings → ℕ
-refused l s = refusalOf 2 l s (rooms [] [] [] [] [] [] [])
+refused l s = refusalOf 2 l s (rooms [] [] [] [] [] (replicate 64 0) [] [])
 
 abbrev with-limit : ℕ → Float → Float → Float → Settings
 with-limit switch limit ox oy = record { tolerance = float +0; «origin_x» = ox; «origin_y» = oy; switch = switch; limit = limit }

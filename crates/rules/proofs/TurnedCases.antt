@@ -53,7 +53,7 @@ unfolding book
 refusedBy m =
     refusalOf 2 (lent (+0 ∷ +0 ∷ +1 ∷ +0 ∷ []) (2 ∷ []) (0 ∷ []) (0 ∷ []))
     (record { tolerance = float +0; «origin_x» = float +0; «origin_y» = float +0; switch = 0; limit = float +0 })
-    (rooms (replicate 6 0) (0 ∷ []) (0 ∷ []) (replicate m 0) (replicate 4 0) (replicate 4 0) (replicate 192 0))
+    (rooms (replicate 6 0) (0 ∷ []) (0 ∷ []) (replicate m 0) (replicate 4 0) (replicate 72 0) (replicate 4 0) (replicate 192 0))
 
 pub listingAsked : Bool
 unfolding refusedBy

@@ -45,6 +45,7 @@ filled t l s o =
       marks = written (builtOf t l s .marks) (o .marks);
       listing = written (builtOf t l s .listing) (o .listing);
       merged = written (builtOf t l s .merged) (o .merged);
+      boxes = written (builtOf t l s .boxes) (o .boxes);
       spare = cleared (length (l .coordinates)) (o .spare);
       workspace = cleared (length (l .counts) * lineRoom) (o .workspace);
     }

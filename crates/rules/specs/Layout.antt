@@ -1,8 +1,9 @@
 -- 01, Input and output: numbers read as lines and ends, and chains and pairs written as numbers.
-use Rattle.rules.specs.Library.{ℕ, suc, _+_, _-_, Bool, true, false, _&&_, List, [], _∷_, _++_, flatMap, leb, eqb, Float, nan, length, getD, take, drop, Direction, Absent, Toward, Settings}
+use Rattle.rules.specs.Library.{ℕ, suc, _+_, _-_, Bool, true, false, _&&_, List, [], _∷_, _++_, map, flatMap, leb, eqb, Float, nan, length, getD, take, drop, Direction, Absent, Toward, Settings}
 use Rattle.rules.specs.Lists.{one, total}
 use Rattle.rules.specs.Plane.{Point, point, points, flat}
 use Rattle.rules.specs.Selecting.{End, Pair}
+use Rattle.rules.specs.Boxes.{boxOf, stacked, boxNumbers}
 use Rattle.rules.specs.Chaining.{Piece, Line, chains}
 
 -- ---- building
@@ -71,6 +72,7 @@ pub record Laid : Type 0 where
   pub marks : List ℕ
   pub listing : List ℕ
   pub merged : List ℕ
+  pub boxes : List ℕ
 
 unfoldable pub laidOut : ℕ → List ℕ → List Piece → Laid
 laidOut w counts ps =
@@ -81,6 +83,7 @@ laidOut w counts ps =
       marks = flatMap (λ p. p .marks) ps;
       listing = flatMap (λ p. p .listing) ps;
       merged = flat w (flatMap copy ps);
+      boxes = boxNumbers (stacked (map (λ p. boxOf (p .points)) ps));
     }
 
 -- of points of width w

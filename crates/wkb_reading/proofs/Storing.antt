@@ -9,7 +9,7 @@ use lib.ListN.{length, take, drop, getD, set, length-append, length-set}
 use Rattle.rules.specs.Lists.{total}
 use Rattle.point_slices.specs.Holds.{Holds, HoldsFrom}
 use Rattle.point_slices.proofs.Laws.{from-length}
-use Rattle.wkb_records.proofs.Beginnings.{holds-more, holds-set, whole}
+use Rattle.point_slices.proofs.Beginnings.{holds-more, holds-set, whole}
 use Rattle.rules.specs.Wkb.{countOf, doublesOf, recordsOf, recordsRefusal, coordinatesOf, countsOf}
 use Rattle.wkb_records.proofs.Records.{record-numbers, records-none, first-good}
 use Rattle.wkb_reading.specs.Storing.{Headed, Storable, Stored}

@@ -1,4 +1,3 @@
 pub mod Bytes
-pub mod Beginnings
 pub mod Records
 pub mod Two

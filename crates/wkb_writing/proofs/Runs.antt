@@ -13,7 +13,7 @@ use Rattle.point_slices.proofs.Laws.{from-length}
 use Rattle.rules.specs.Calls.{viewed}
 use Rattle.rules.specs.Types.{widthOf}
 use Rattle.rules.specs.Wkb.{sizeOf, anyMissing, chainRecord, LentChains, runOf, lengthsOf}
-use Rattle.wkb_records.proofs.Beginnings.{holds-more, holds-set, whole}
+use Rattle.point_slices.proofs.Beginnings.{holds-more, holds-set, whole}
 use Rattle.wkb_writing.specs.Writing.{bytesFrom, RecordPut, chainBytes, Chain, Writable, Written}
 use Rattle.wkb_writing.proofs.Laws.{record-length}
 use Rattle.wkb_writing.proofs.Chains.{view-long, missing-here, missing-next, bytes-next}

@@ -208,6 +208,8 @@ pub struct Built {
     pub listing: Vec<u32>,
     /// The coordinates of the chains of more than one line, one after another.
     pub merged: Vec<u64>,
+    /// The boxes of the chains, and above them, level by level, those of pairs, four numbers each.
+    pub boxes: Vec<u64>,
 }
 
 impl Built {
@@ -270,6 +272,24 @@ pub struct WhyCall {
     pub ends: [u32; 2],
 }
 
+/// A question which chains lie in a window. Boxes and window are the bits of their floats.
+#[derive(Clone, Debug, Default, PartialEq, Eq)]
+pub struct WindowCall {
+    /// Boxes, four numbers each: least x, least y, greatest x, greatest y.
+    pub boxes: Vec<u64>,
+    /// How many chains there are.
+    pub k: u64,
+    /// The window: least x, least y, greatest x, greatest y.
+    pub window: [u64; 4],
+}
+
+impl WindowCall {
+    /// The bounds of the window as floats.
+    pub fn bounds(&self) -> [f64; 4] {
+        self.window.map(f64::from_bits)
+    }
+}
+
 /// Two ends joined with one another, the lower one first.
 pub type Pair = [u32; 2];
 
@@ -310,6 +330,12 @@ pub const DISTRICT_OVER_COORDINATES: Refusal = Refusal(21);
 /// The refusal of a coordinate that is no place.
 pub const NO_PLACE: Refusal = Refusal(15);
 
+/// The refusal of a room that is too short.
+pub const ROOM_TOO_SHORT: Refusal = Refusal(7);
+
+/// The refusal of a window with a NaN, or with a least above its greatest.
+pub const BAD_WINDOW: Refusal = Refusal(18);
+
 /// The refusal of an origin that is no place.
 pub const BAD_ORIGIN: Refusal = Refusal(17);
 
@@ -344,6 +370,17 @@ impl fmt::Display for BuildCall {
                 let words: Vec<String> = numbers.iter().map(|&bits| word(bits)).collect();
                 writeln!(f, "  {}", words.join(" "))?;
             }
+        }
+        Ok(())
+    }
+}
+
+impl fmt::Display for WindowCall {
+    fn fmt(&self, f: &mut fmt::Formatter<'_>) -> fmt::Result {
+        writeln!(f, "window {}, {} chains", self.window.map(word).join(" "), self.k)?;
+        for (at, numbers) in self.boxes.chunks(4).enumerate() {
+            let words: Vec<String> = numbers.iter().map(|&bits| word(bits)).collect();
+            writeln!(f, "box {at}: {}", words.join(" "))?;
         }
         Ok(())
     }

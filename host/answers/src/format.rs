@@ -1,6 +1,7 @@
 //! The recorded files. `data/oracle/README.md` describes their bytes.
 
 use crate::call::{BuildCall, Built, Pair, PairingCall, Record, Refusal, TYPES};
+use crate::model::boxes::boxes;
 use std::collections::HashMap;
 
 /// A building call with its answer, or with the refusal that turns it away.
@@ -21,7 +22,8 @@ pub enum Recorded {
 /// The eight bytes with which every file begins.
 const MAGIC: &[u8; 8] = b"lovasuku";
 
-/// The bytes of a file. The Rust, whose answers are recorded, knows no extras, so that no type is.
+/// The bytes of a file. The Rust, whose answers are recorded, knows no extras, so that no type is, and
+/// no boxes, which the coordinates tell.
 ///
 /// # Panics
 ///
@@ -238,7 +240,11 @@ impl<'a> Reader<'a> {
             limit: self.word()?,
         };
         match self.within()? {
-            0 => Ok((call, Ok(self.built()?))),
+            0 => {
+                let built = self.built()?;
+                let boxes = boxes(&call, &built);
+                Ok((call, Ok(Built { boxes, ..built })))
+            }
             number => Ok((call, Err(Refusal(number)))),
         }
     }
@@ -250,6 +256,7 @@ impl<'a> Reader<'a> {
             marks: self.list(Self::within)?,
             listing: self.list(Self::within)?,
             merged: self.list(Self::word)?,
+            boxes: vec![],
         })
     }
 

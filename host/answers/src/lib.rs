@@ -23,6 +23,6 @@ pub mod styles;
 pub mod wkb;
 
 pub use call::{stride_of, Record, RECORD, TYPES};
-pub use call::{BuildCall, Built, Pair, PairingCall, Port, Refusal, Route, WhyCall};
+pub use call::{BuildCall, Built, Pair, PairingCall, Port, Refusal, Route, WhyCall, WindowCall};
 pub use call::{BAD_ORIGIN, DISTRICT_OVER_COORDINATES, DISTRICT_OVER_LINES, NO_PLACE, NO_TYPE};
 pub use call::{BORDER, MOST_DISTRICT_LINES, MOST_DISTRICT_POINTS};

@@ -6,7 +6,7 @@ use crate::geos::Geos;
 use crate::times::{measured, Times};
 use answers::{model, BuildCall, Built};
 use lovasuku_chains::door::{self, RawSettings};
-use lovasuku_chains::size::{LINE_WORKSPACE, RECORD};
+use lovasuku_chains::size::{BOXES, BOXES_BESIDE, LINE_WORKSPACE, RECORD};
 use lovasuku_chains::{Dimension, Lines};
 use oracle::{chains::without_marks, settings, Oracle};
 
@@ -99,6 +99,7 @@ struct Rooms {
     marks: Vec<u8>,
     listing: Vec<u32>,
     merged: Vec<f64>,
+    boxes: Vec<f64>,
     spare: Vec<f64>,
     workspace: Vec<u64>,
 }
@@ -113,18 +114,19 @@ impl Rooms {
             marks: vec![u8::MAX; n],
             listing: vec![u32::MAX; n],
             merged: vec![f64::NAN; numbers],
+            boxes: vec![f64::NAN; BOXES * n + BOXES_BESIDE],
             spare: vec![f64::NAN; numbers],
             workspace: vec![u64::MAX; LINE_WORKSPACE * n],
         }
     }
 
     fn lent(&mut self) -> door::BuildRooms<'_> {
-        let Rooms { table, members, marks, listing, merged, spare, workspace } = self;
-        door::BuildRooms { table, members, marks, listing, merged, spare, workspace }
+        let Rooms { table, members, marks, listing, merged, boxes, spare, workspace } = self;
+        door::BuildRooms { table, members, marks, listing, merged, boxes, spare, workspace }
     }
 
-    /// Tests that the rooms have the Rust's chains and are cleared where the rules say so. Marks and
-    /// listing, which the Rust does not know, are not looked at.
+    /// Tests that the rooms have the Rust's chains and are cleared where the rules say so. Marks,
+    /// listing and boxes, which the Rust does not know, are not looked at.
     fn check(&self, chains: i64, rust: &Built) -> Result<(), String> {
         let merged = self.merged[..rust.merged.len()].iter().map(|number| number.to_bits());
         let table: Vec<u32> = rust.table.iter().flatten().copied().collect();

@@ -11,7 +11,7 @@ use std::mem::{replace, size_of, transmute_copy};
 use std::os::raw::{c_char, c_double, c_int, c_uint, c_void};
 use std::ptr::null_mut;
 
-type Pointer = *mut c_void;
+pub(crate) type Pointer = *mut c_void;
 
 extern "C" {
     fn dlopen(name: *const c_char, flags: c_int) -> Pointer;
@@ -69,6 +69,14 @@ impl Geos {
                 destroy: function(library, "GEOSGeom_destroy_r")?,
             })
         }
+    }
+
+    pub(crate) fn library(&self) -> Pointer {
+        self.library
+    }
+
+    pub(crate) fn handle(&self) -> Pointer {
+        self.handle
     }
 
     /// The version by which the library calls itself.
@@ -185,7 +193,7 @@ fn library(name: &str) -> Option<Pointer> {
 }
 
 /// A function of the library by its name. F is the function's type.
-unsafe fn function<F: Copy>(library: Pointer, name: &str) -> Option<F> {
+pub(crate) unsafe fn function<F: Copy>(library: Pointer, name: &str) -> Option<F> {
     assert_eq!(size_of::<F>(), size_of::<Pointer>(), "a function is not as wide as a pointer");
     let name = CString::new(name).ok()?;
     let pointer = dlsym(library, name.as_ptr());
@@ -196,6 +204,12 @@ unsafe fn function<F: Copy>(library: Pointer, name: &str) -> Option<F> {
 pub struct Geometry<'a> {
     geos: &'a Geos,
     pointer: Pointer,
+}
+
+impl Geometry<'_> {
+    pub(crate) fn pointer(&self) -> Pointer {
+        self.pointer
+    }
 }
 
 impl Drop for Geometry<'_> {

@@ -16,7 +16,7 @@ use answers::{BuildCall, Route};
 use oracle::Oracle;
 
 /// What was not measured.
-const NOTHING: &str = "-";
+pub(crate) const NOTHING: &str = "-";
 
 const BUILDING: [Column; 9] = [
     Column::words("building", 13),
@@ -76,6 +76,7 @@ impl Report<'_> {
     pub fn run(&mut self) -> Result<(), String> {
         self.building()?;
         self.pairing()?;
+        self.windows()?;
         self.wkb()?;
         self.extras()
     }

@@ -12,6 +12,11 @@ pub const MOST_OF_GEOS: f64 = 0.2;
 /// what a clock does not tell apart.
 pub const MOST_OF_BYTES: f64 = 1.1;
 
+/// No window that meets a hundredth of the chains may take more than this part of a look at all boxes in
+/// plain Rust, and of GEOS's tree.
+pub const MOST_OF_ALL_BOXES: f64 = 0.25;
+pub const MOST_OF_TREE: f64 = 1.0;
+
 /// The geometric mean of building may not be above this.
 pub const MOST_MEAN: f64 = 0.5;
 
@@ -61,6 +66,9 @@ pub struct Summary {
     pub wkb_geos: Ratios,
     /// The port's time with extras as a part of that without, each by its bytes.
     pub extras: Ratios,
+    /// Windows that meet a hundredth of the chains.
+    pub windows: Ratios,
+    pub windows_geos: Ratios,
 }
 
 impl Summary {
@@ -73,6 +81,8 @@ impl Summary {
             ("WKB, of plain Rust", &self.wkb),
             ("WKB, of GEOS", &self.wkb_geos),
             ("extras, of their bytes", &self.extras),
+            ("windows, of all boxes in plain Rust", &self.windows),
+            ("windows, of GEOS's tree", &self.windows_geos),
         ];
         let mut lines: Vec<_> =
             titles.iter().filter_map(|(title, ratios)| ratios.line(title)).collect();
@@ -85,13 +95,15 @@ impl Summary {
     }
 
     /// The ratios that the gate looks at one by one, with the most that each may be.
-    fn gated(&self) -> [(&Ratios, f64); 5] {
+    fn gated(&self) -> [(&Ratios, f64); 7] {
         [
             (&self.building, MOST_RATIO),
             (&self.pairing, MOST_RATIO),
             (&self.wkb, MOST_RATIO),
             (&self.wkb_geos, MOST_OF_GEOS),
             (&self.extras, MOST_OF_BYTES),
+            (&self.windows, MOST_OF_ALL_BOXES),
+            (&self.windows_geos, MOST_OF_TREE),
         ]
     }
 

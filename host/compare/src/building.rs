@@ -1,11 +1,11 @@
 //! A building call, put to the library and held to the judge's answer.
 
 use crate::room::{more, Dirt, Room};
-use crate::{extras, laying, Door, Judge};
+use crate::{extras, laying, windows, Door, Judge};
 use answers::offset::of_limit;
 use answers::random::Random;
 use answers::{BuildCall, Built, Refusal};
-use lovasuku_chains::size::{LINE_WORKSPACE, RECORD};
+use lovasuku_chains::size::{BOXES, BOXES_BESIDE, LINE_WORKSPACE, RECORD};
 
 /// The rooms of a building call.
 pub struct BuildRooms {
@@ -19,6 +19,8 @@ pub struct BuildRooms {
     pub listing: Room<u32>,
     /// The coordinates of the chains of several lines.
     pub merged: Room<f64>,
+    /// The boxes of the chains, and those above them.
+    pub boxes: Room<f64>,
     /// Spare coordinates.
     pub spare: Room<f64>,
     /// Words of workspace.
@@ -27,20 +29,21 @@ pub struct BuildRooms {
 
 impl BuildRooms {
     /// The lengths that the rooms of a call must have, in the order of the fields.
-    pub fn lengths(call: &BuildCall) -> [usize; 7] {
+    pub fn lengths(call: &BuildCall) -> [usize; 8] {
         let (n, numbers) = (call.counts.len(), call.coordinates.len());
-        [RECORD * n, n, n, n, numbers, numbers, LINE_WORKSPACE * n]
+        [RECORD * n, n, n, n, numbers, BOXES * n + BOXES_BESIDE, numbers, LINE_WORKSPACE * n]
     }
 
     /// Dirty rooms of exactly these lengths.
-    pub fn new(random: &mut Random, lengths: [usize; 7]) -> Self {
-        let [table, members, marks, listing, merged, spare, workspace] = lengths;
+    pub fn new(random: &mut Random, lengths: [usize; 8]) -> Self {
+        let [table, members, marks, listing, merged, boxes, spare, workspace] = lengths;
         BuildRooms {
             table: Room::new(Dirt::some(random), table),
             members: Room::new(Dirt::some(random), members),
             marks: Room::new(Dirt::some(random), marks),
             listing: Room::new(Dirt::some(random), listing),
             merged: Room::new(Dirt::some(random), merged),
+            boxes: Room::new(Dirt::some(random), boxes),
             spare: Room::new(Dirt::some(random), spare),
             workspace: Room::new(Dirt::some(random), workspace),
         }
@@ -59,18 +62,22 @@ impl BuildRooms {
         self.marks.untouched("marks")?;
         self.listing.untouched("listing")?;
         self.merged.untouched("merged")?;
+        self.boxes.untouched("boxes")?;
         self.spare.untouched("spare")?;
         self.workspace.untouched("workspace")
     }
 
     /// Tests that every room is as an accepted call with this answer leaves it.
     pub fn hold(&self, call: &BuildCall, built: &Built) -> Result<(), String> {
-        let merged: Vec<f64> = built.merged.iter().map(|&bits| f64::from_bits(bits)).collect();
+        let floats =
+            |bits: &[u64]| -> Vec<f64> { bits.iter().map(|&b| f64::from_bits(b)).collect() };
+        let (merged, boxes) = (floats(&built.merged), floats(&built.boxes));
         self.table.begins_with("table", &built.table.concat())?;
         self.members.begins_with("members", &built.members)?;
         self.marks.begins_with("marks", &built.marks)?;
         self.listing.begins_with("listing", &built.listing)?;
         self.merged.begins_with("merged", &merged)?;
+        self.boxes.begins_with("boxes", &boxes)?;
         self.spare.cleared("spare", call.coordinates.len())?;
         self.workspace.cleared("workspace", LINE_WORKSPACE * call.counts.len())
     }
@@ -78,7 +85,8 @@ impl BuildRooms {
 
 /// Puts the call to the door, in rooms that the seed determines, and holds it to the judge's
 /// answer; once more with an offset in the limit's place, where the limit is of one; and to what is
-/// known without a judge of listings and marks, and of extras where there are any. The error is a
+/// known without a judge of listings and marks, of windows over its chains, and of extras where there
+/// are any. The error is a
 /// sentence about the first difference.
 pub fn compare_build(
     door: &dyn Door,
@@ -95,6 +103,7 @@ pub fn compare_build(
         // The rooms have been seen to hold this answer.
         Ok(built) => {
             laying::check(call, built)?;
+            windows::check(door, call, built, seed)?;
             extras::check(door, call, built, seed)
         }
         Err(_) => Ok(()),

@@ -5,9 +5,9 @@
 
 use answers::random::Random;
 use answers::styles::{
-    districts, heights, junctions, origins, pairing, wild, Style, BUILDING, PAIRING,
+    districts, heights, junctions, origins, pairing, wild, windows, Style, BUILDING, PAIRING,
 };
-use answers::{offset, BuildCall, PairingCall, WhyCall, TYPES};
+use answers::{offset, BuildCall, PairingCall, WhyCall, WindowCall, TYPES};
 use lovasuku_chains::size::{MOST_DISTRICT_POINTS, MOST_ENDS, MOST_LINES, MOST_POINTS};
 
 /// A call of either sort.
@@ -19,6 +19,8 @@ pub enum Call {
     Pairs(PairingCall),
     /// A question about two ends of one.
     Why(WhyCall),
+    /// A question what lies in a window.
+    Window(WindowCall),
 }
 
 /// A call with the name of its style, and the seed of the rooms that are lent to it.
@@ -36,6 +38,12 @@ const REAL: u64 = 2_000;
 
 /// One building call in so many has a coordinate that is no place, beside those whose style has.
 const LOST: usize = 16;
+
+/// One call in so many asks what lies in a window, over boxes that no building left: those at this place
+/// of each run of so many. One of these in so many has as many chains as a building call may have.
+const WINDOWS: u64 = 8;
+const AT: u64 = 3;
+const LARGE: usize = 256;
 
 /// One building call in so many has an origin, beside those whose style has.
 const ORIGINS: usize = 3;
@@ -70,6 +78,12 @@ pub fn numbered(seed: u64, number: u64) -> Numbered {
     let mut random = Random::new(Random::new(seed).bits() ^ Random::new(!number).bits());
     let rooms = random.bits();
     let real = number % REAL == REAL - 1;
+    if number % WINDOWS == AT {
+        let large = random.one_in(LARGE);
+        let size = size(&mut random, large, MOST_LINES);
+        let call = Call::Window(windows::boxes(&mut random, size));
+        return Numbered { style: "boxes", call, rooms };
+    }
     if random.one_in(3) {
         let styles: Vec<Style<PairingCall>> = PAIRING.into_iter().chain(ADDED_PAIRS).collect();
         let (style, make) = random.pick(&styles);

@@ -2,9 +2,10 @@
 
 use crate::building::BuildRooms;
 use crate::pairing::PairRooms;
-use answers::{offset, BuildCall, PairingCall, Route, WhyCall};
+use crate::room::Room;
+use answers::{offset, BuildCall, PairingCall, Route, WhyCall, WindowCall};
 use lovasuku_chains::door::{self, RawOffset, RawSettings};
-use lovasuku_chains::{Dimension, Ends, Lines};
+use lovasuku_chains::{Dimension, Ends, Lines, Window};
 
 /// Whatever takes calls in the form of the door: rooms are lent, the answer is a number.
 pub trait Door: Sync {
@@ -16,6 +17,9 @@ pub trait Door: Sync {
 
     /// Says why two ends are joined or not.
     fn why(&self, call: &WhyCall, rooms: &mut PairRooms) -> i64;
+
+    /// Lists the chains that lie in a window.
+    fn window(&self, call: &WindowCall, found: &mut Room<u32>) -> i64;
 
     /// The same with an offset in the limit's place, where there are such calls.
     fn by_offset(&self) -> Option<&dyn Door> {
@@ -49,6 +53,12 @@ impl Door for Library {
         door::why(ends(call, &floats(&call.directions)), limit, *of, rooms)
     }
 
+    fn window(&self, call: &WindowCall, found: &mut Room<u32>) -> i64 {
+        let [least_x, least_y, greatest_x, greatest_y] = call.bounds();
+        let window = Window { least: [least_x, least_y], greatest: [greatest_x, greatest_y] };
+        door::window(&floats(&call.boxes), call.k, window, found.lent())
+    }
+
     fn by_offset(&self) -> Option<&dyn Door> {
         Some(&ByOffset)
     }
@@ -79,6 +89,11 @@ impl Door for ByOffset {
     fn why(&self, call: &WhyCall, rooms: &mut PairRooms) -> i64 {
         Library.why(call, rooms)
     }
+
+    /// A window has no limit.
+    fn window(&self, call: &WindowCall, found: &mut Room<u32>) -> i64 {
+        Library.window(call, found)
+    }
 }
 
 /// The offset of a limit; where it is the limit of none, one above 1,000 that its bits determine.
@@ -104,6 +119,7 @@ fn lent(rooms: &mut BuildRooms) -> door::BuildRooms<'_> {
         marks: rooms.marks.lent(),
         listing: rooms.listing.lent(),
         merged: rooms.merged.lent(),
+        boxes: rooms.boxes.lent(),
         spare: rooms.spare.lent(),
         workspace: rooms.workspace.lent(),
     }

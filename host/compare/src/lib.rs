@@ -10,7 +10,7 @@
 //! - [`calls`]: the calls of a run.
 //! - [`judge`]: who says what the answer is.
 //! - [`room`]: rooms that show what was written into them.
-//! - [`building`], [`pairing`], [`why`]: one call, compared.
+//! - [`building`], [`pairing`], [`why`], [`windows`]: one call, compared.
 //! - [`extras`]: what holds of heights and measures, judged apart from the model.
 //! - [`laying`]: that lines laid by listing and marks are their chain, judged apart from it too.
 //! - [`shrink`]: a call that differs, made small.
@@ -30,6 +30,7 @@ pub mod room;
 pub mod run;
 pub mod shrink;
 pub mod why;
+pub mod windows;
 
 pub use door::{ByOffset, Door, Library};
 pub use judge::Judge;

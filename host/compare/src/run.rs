@@ -5,6 +5,7 @@ use crate::calls::{numbered, Call, Numbered};
 use crate::pairing::compare_pairs;
 use crate::shrink::shrink;
 use crate::why::compare_why;
+use crate::windows::compare_window;
 use crate::{Door, Judge};
 use answers::offset::of_limit;
 use answers::stride_of;
@@ -41,6 +42,8 @@ pub struct Tally {
     pub why: Styles,
     /// What these were answered with.
     pub told: Styles,
+    /// The questions what lies in a window, beside those over the chains of building calls.
+    pub windows: Styles,
     /// The building and pairing calls whose limit is that of an offset.
     pub offsets: u64,
     /// The building calls with an origin other than 0,0.
@@ -70,6 +73,7 @@ impl Tally {
             Call::Pairs(call) => (&mut self.pairing, [0, 0, call.ends()], Some(call.limit)),
             // The question has no call with an offset.
             Call::Why(call) => (&mut self.why, [0, 0, call.pairing.ends()], None),
+            Call::Window(_) => (&mut self.windows, [0; 3], None),
         };
         self.offsets += u64::from(limit.and_then(of_limit).is_some());
         *styles.entry(numbered.style).or_default() += 1;
@@ -88,6 +92,7 @@ impl Tally {
             (&mut self.pairing, other.pairing),
             (&mut self.why, other.why),
             (&mut self.told, other.told),
+            (&mut self.windows, other.windows),
         ] {
             for (style, calls) in styles {
                 *sum.entry(style).or_default() += calls;
@@ -106,7 +111,8 @@ impl Tally {
 
     /// The number of calls.
     pub fn calls(&self) -> u64 {
-        [&self.building, &self.pairing, &self.why].iter().flat_map(|styles| styles.values()).sum()
+        let all = [&self.building, &self.pairing, &self.why, &self.windows];
+        all.iter().flat_map(|styles| styles.values()).sum()
     }
 }
 
@@ -128,6 +134,7 @@ impl fmt::Display for Tally {
         writeln!(f, ", {} with one over its share", self.over_share)?;
         write!(f, "pairing, up to {ends} ends: {}", list(&self.pairing))?;
         writeln!(f, "; {} of all with an offset in the limit's place too", self.offsets)?;
+        writeln!(f, "windows over any boxes, beside those over chains: {}", list(&self.windows))?;
         writeln!(f, "two ends asked about: {}", list(&self.why))?;
         write!(f, "answered with: {}", list(&self.told))
     }
@@ -154,6 +161,7 @@ impl fmt::Display for Difference {
             Call::Build(call) => write!(f, "{call}"),
             Call::Pairs(call) => write!(f, "{call}"),
             Call::Why(call) => write!(f, "{call}"),
+            Call::Window(call) => write!(f, "{call}"),
         }
     }
 }
@@ -211,6 +219,7 @@ pub fn compare(
         Call::Build(call) => compare_build(door, judge, call, rooms).map(|()| None),
         Call::Pairs(call) => compare_pairs(door, judge, call, rooms).map(|()| None),
         Call::Why(call) => compare_why(door, judge, call, rooms).map(|told| Some(told.name())),
+        Call::Window(call) => compare_window(door, call, rooms).map(|()| None),
     }
 }
 
@@ -226,6 +235,9 @@ fn difference(door: &dyn Door, judge: Judge, seed: u64, number: u64) -> Differen
         }
         Call::Why(call) => {
             Call::Why(shrink(call, |call| compare_why(door, judge, call, rooms).is_err()))
+        }
+        Call::Window(call) => {
+            Call::Window(shrink(call, |call| compare_window(door, call, rooms).is_err()))
         }
     };
     let sentence = compare(door, judge, &call, rooms).err().unwrap_or_default();

@@ -61,7 +61,8 @@ fn moved(numbers: &[u64], by: [f64; 2]) -> Vec<u64> {
     numbers.chunks(2).flat_map(|point| moved_point(point, by)).collect()
 }
 
-/// The answer of a door to a call of x and y, which is accepted.
+/// The answer of a door to a call of x and y, which is accepted. Its boxes, which move with the lines,
+/// are left out.
 fn built(door: &dyn Door, call: &BuildCall) -> Built {
     let mut rooms = BuildRooms::for_call(&mut Random::new(3), call);
     let chains = usize::try_from(door.build(call, &mut rooms)).expect("the call is accepted");
@@ -75,6 +76,7 @@ fn built(door: &dyn Door, call: &BuildCall) -> Built {
         listing: rooms.listing.lent()[..call.lines()].to_vec(),
         merged: rooms.merged.lent()[..2 * merged].iter().map(|x| x.to_bits()).collect(),
         table,
+        boxes: vec![],
     }
 }
 

@@ -18,6 +18,9 @@ pub struct Chains<'a> {
     /// The turned marks in the listing's order.
     pub(crate) way: &'a [u8],
     pub(crate) merged: &'a [f64],
+    pub(crate) boxes: &'a [f64],
+    /// How many chains the boxes are of, which are more than those of a part.
+    pub(crate) boxed: usize,
 }
 
 impl<'a> Chains<'a> {

@@ -27,6 +27,8 @@ extern "C" {
         listing_length: usize,
         merged: *mut f64,
         merged_length: usize,
+        boxes: *mut f64,
+        boxes_length: usize,
         spare: *mut f64,
         spare_length: usize,
         workspace: *mut u64,
@@ -60,6 +62,8 @@ extern "C" {
         listing_length: usize,
         merged: *mut f64,
         merged_length: usize,
+        boxes: *mut f64,
+        boxes_length: usize,
         spare: *mut f64,
         spare_length: usize,
         workspace: *mut u64,
@@ -75,6 +79,18 @@ extern "C" {
         table: *const u32,
         table_length: usize,
         k: u64,
+    ) -> i64;
+
+    pub fn lovasuku_window(
+        boxes: *const f64,
+        boxes_length: usize,
+        k: u64,
+        least_x: f64,
+        least_y: f64,
+        greatest_x: f64,
+        greatest_y: f64,
+        found: *mut u32,
+        found_length: usize,
     ) -> i64;
 
     pub fn lovasuku_why(

@@ -10,7 +10,7 @@
 #![allow(unsafe_code)]
 
 use crate::declared::{self, PairsFunction, PairsOffsetFunction};
-use crate::{Ends, Lines, Refusal, Route};
+use crate::{Ends, Lines, Refusal, Route, Window};
 
 /// Tolerance, origin, switch and limit as they are lent, unchecked.
 #[derive(Clone, Copy, Debug, PartialEq)]
@@ -53,6 +53,8 @@ pub struct BuildRooms<'a> {
     pub listing: &'a mut [u32],
     /// w c numbers: the coordinates of the chains of several lines.
     pub merged: &'a mut [f64],
+    /// 8 n + 64 numbers: the boxes of the chains, and those above them.
+    pub boxes: &'a mut [f64],
     /// w c numbers, 0 after an accepted call.
     pub spare: &'a mut [f64],
     /// 192 n words, 0 after an accepted call.
@@ -123,6 +125,8 @@ pub fn build(wkb_type: u32, lines: Lines<'_>, settings: RawSettings, rooms: Buil
             rooms.listing.len(),
             rooms.merged.as_mut_ptr(),
             rooms.merged.len(),
+            rooms.boxes.as_mut_ptr(),
+            rooms.boxes.len(),
             rooms.spare.as_mut_ptr(),
             rooms.spare.len(),
             rooms.workspace.as_mut_ptr(),
@@ -219,6 +223,8 @@ pub fn build_offset(
             rooms.listing.len(),
             rooms.merged.as_mut_ptr(),
             rooms.merged.len(),
+            rooms.boxes.as_mut_ptr(),
+            rooms.boxes.len(),
             rooms.spare.as_mut_ptr(),
             rooms.spare.len(),
             rooms.workspace.as_mut_ptr(),
@@ -264,6 +270,24 @@ pub fn chain(wkb_type: u32, coordinates: &[f64], merged: &[f64], table: &[u32], 
             table.as_ptr(),
             table.len(),
             k,
+        )
+    }
+}
+
+/// Asks which of k chains lie in a window, by their boxes. The result is their number.
+pub fn window(boxes: &[f64], k: u64, window: Window, found: &mut [u32]) -> i64 {
+    let Window { least: [least_x, least_y], greatest: [greatest_x, greatest_y] } = window;
+    unsafe {
+        declared::lovasuku_window(
+            boxes.as_ptr(),
+            boxes.len(),
+            k,
+            least_x,
+            least_y,
+            greatest_x,
+            greatest_y,
+            found.as_mut_ptr(),
+            found.len(),
         )
     }
 }

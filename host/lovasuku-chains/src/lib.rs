@@ -29,6 +29,7 @@
 //! |---|---|
 //! | join lines | [`Rooms::build`], which gives [`Chains`] |
 //! | follow a chain through its lines, and see which way each was drawn | [`Chain::path`] |
+//! | find the chains in a window | [`Chains::window`], [`window_question`] for stored boxes |
 //! | pair the ends at one node | [`Rooms::pairs`] |
 //! | ask why two ends are joined or not | [`Rooms::why`], which gives a [`Reason`] |
 //! | state a bend as an offset per metre | [`Offset`], whose limit any call takes |
@@ -65,6 +66,7 @@ mod rooms;
 mod settings;
 pub mod size;
 mod two;
+mod window;
 mod wkb;
 
 pub use chains::{Chain, Chains, Iter, PathLine};
@@ -80,4 +82,5 @@ pub use records::{ByteOrder, WkbBuf, WkbRecords, WkbRecordsIter};
 pub use refusal::Refusal;
 pub use rooms::Rooms;
 pub use settings::{limit_of_bend, Settings};
+pub use window::{window_question, InWindow, Window, WindowBuf};
 pub use wkb::{read_wkb, WkbLines, WkbRooms};

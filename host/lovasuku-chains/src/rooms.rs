@@ -2,15 +2,16 @@
 
 use crate::chains::Chains;
 use crate::door::{self, BuildRooms, PairRooms, RawSettings};
-use crate::size::{END_WORKSPACE, LINE_WORKSPACE, MOST_ENDS, MOST_LINES, MOST_POINTS, RECORD};
+use crate::size::{BOXES, BOXES_BESIDE, END_WORKSPACE, LINE_WORKSPACE, RECORD};
+use crate::size::{MOST_ENDS, MOST_LINES, MOST_POINTS};
 use crate::two::by_two;
 use crate::{Dimension, Ends, Lines, Reason, Refusal, Route, Settings};
 
 /// The rooms that are lent to every call, again and again.
 ///
 /// They grow where a call needs more than any before it, and never shrink, so that a run of calls
-/// soon allocates nothing: 1,571 bytes for each line and 16 for each number of a coordinate of the
-/// largest call, at most 8.5 megabytes for x and y.
+/// soon allocates nothing: 1,635 bytes for each line and 16 for each number of a coordinate of the
+/// largest call, at most 8.8 megabytes for x and y.
 ///
 /// ```
 /// use lovasuku_chains::{Dimension, Lines, Rooms, Settings};
@@ -41,6 +42,7 @@ pub struct Rooms {
     turned: Vec<u8>,
     way: Vec<u8>,
     merged: Vec<f64>,
+    boxes: Vec<f64>,
     spare: Vec<f64>,
     pairs: Vec<u32>,
     workspace: Vec<u64>,
@@ -118,8 +120,8 @@ impl Rooms {
         let (switch, limit) = settings.switch_and_limit();
         let Settings { tolerance, origin, .. } = settings;
         let raw = RawSettings { tolerance, origin, switch, limit };
-        let Rooms { table, members, marks, listing, merged, spare, workspace, .. } = self;
-        let rooms = BuildRooms { table, members, marks, listing, merged, spare, workspace };
+        let Rooms { table, members, marks, listing, merged, boxes, spare, workspace, .. } = self;
+        let rooms = BuildRooms { table, members, marks, listing, merged, boxes, spare, workspace };
         let chains = door::result(door::build(lines.dimension.wkb_type(), lines, raw, rooms))?;
         let chains = chains as usize;
         self.mark_the_way(n);
@@ -132,6 +134,8 @@ impl Rooms {
             listing: first(&self.listing, n),
             way: first(&self.way, n),
             merged: first(&self.merged, lines.dimension.stride() * merged_points(table)),
+            boxes: first(&self.boxes, BOXES * chains + BOXES_BESIDE),
+            boxed: chains,
         })
     }
 
@@ -233,6 +237,7 @@ impl Rooms {
         grow(&mut self.turned, lines);
         grow(&mut self.way, lines);
         grow(&mut self.merged, numbers);
+        grow(&mut self.boxes, BOXES * lines + BOXES_BESIDE);
         grow(&mut self.spare, numbers);
         grow(&mut self.workspace, LINE_WORKSPACE * lines);
     }

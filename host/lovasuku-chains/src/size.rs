@@ -26,6 +26,14 @@ pub const MOST_OFFSET: u32 = 1_000;
 /// coordinate count, and 1 where it is a loop.
 pub const RECORD: usize = 6;
 
+/// The numbers of a box: least x, least y, greatest x, greatest y.
+pub const BOX: usize = 4;
+
+/// The numbers of boxes for each chain, and beside these: room for its own box and for all above it.
+pub const BOXES: usize = 8;
+/// The numbers of boxes beside those for each chain.
+pub const BOXES_BESIDE: usize = 64;
+
 /// The numbers of a point: x and y. A [`Dimension`](crate::Dimension) has the extras.
 pub const POINT: usize = 2;
 

@@ -2,7 +2,7 @@
 
 use lovasuku_chains::{
     chain_coordinates, read_wkb, ByteOrder, Dimension, Ends, LinesBuf, Rooms, Route, Settings,
-    WkbBuf, WkbRooms,
+    Window, WindowBuf, WkbBuf, WkbRooms,
 };
 use std::alloc::{GlobalAlloc, Layout, System};
 use std::cell::Cell;
@@ -72,6 +72,21 @@ fn building_in_grown_rooms_allocates_nothing() {
     assert_eq!(asked(|| build(&small)), 0);
     assert_eq!(asked(|| (0..20).for_each(|_| build(&large))), 0);
     assert_eq!(total, 22 * (300 + 301) + 7 + 8);
+}
+
+#[test]
+fn a_window_with_a_grown_buffer_allocates_nothing() {
+    let (large, small) = (road(300), road(7));
+    let (mut rooms, mut found) = (Rooms::new(), WindowBuf::new());
+    let mut look = |lines: &LinesBuf| {
+        let chains = rooms.build(lines.lines(), Settings::default()).expect("the call is accepted");
+        let window = Window { least: [3.0, 0.0], greatest: [5.0, 1.0] };
+        let inside = chains.window(window, &mut found).expect("the window is one");
+        assert_eq!(inside.map(|(_, chain)| chain.members().len()).sum::<usize>(), lines.len());
+    };
+    assert!(asked(|| look(&large)) > 0);
+    assert_eq!(asked(|| look(&small)), 0);
+    assert_eq!(asked(|| look(&large)), 0);
 }
 
 #[test]

@@ -4,14 +4,14 @@ use crate::arguments::Request;
 use crate::classes::Classes;
 use crate::delivery::{self, Delivery, Geometry};
 use crate::joining::{gaps, join, Capacity, Chain, Fault, Line};
-use crate::measure::Measure;
+use crate::measure::{extent, Measure};
 use crate::outcome::{Outcome, Targets};
 use crate::progress::Progress;
 use crate::summary::{of_degrees, Summary};
 use crate::tally::{length_of, Tally};
 use crate::writing;
 use anyhow::{anyhow, Context, Error, Result};
-use lovasuku_chains::Dimension;
+use lovasuku_chains::{Dimension, Window};
 use std::path::Path;
 use std::time::Instant;
 
@@ -29,9 +29,11 @@ pub fn run(request: &Request) -> Result<String> {
     let measure = &Measure::of(delivery, request.units.as_deref());
     let lines = lines(delivery, classes);
     let dimension = if delivery.has_heights() { Dimension::Xyz } else { Dimension::Xy };
-    let chains = join(dimension, &lines, request.settings, Capacity::default(), &progress)
+    let asked = (request.settings, request.window);
+    let mut chains = join(dimension, &lines, asked, Capacity::default(), &progress)
         .map_err(|fault| named(delivery, classes, fault))
         .with_context(input)?;
+    look_at_parts(delivery, request.window, &mut chains);
     let lengths: &Vec<f64> =
         &chains.iter().map(|chain| length_of(delivery, measure, chain)).collect();
     let tally = &tally(request, delivery, &lines, &chains, lengths);
@@ -42,6 +44,18 @@ pub fn run(request: &Request) -> Result<String> {
     progress.end();
     let summary = Summary { request, delivery, classes, measure, tally, warnings: &warnings };
     Ok(summary.text(from.elapsed()))
+}
+
+/// Tells which MultiLineStrings meet a window: they pass through, and the library is not given their
+/// parts.
+fn look_at_parts(delivery: &Delivery, window: Option<Window>, chains: &mut [Chain]) {
+    for (chain, window) in chains.iter_mut().zip(window.into_iter().cycle()) {
+        let line = chain.members.first().map(|&line| &delivery.features[line as usize].geometry);
+        if let Some(geometry @ Geometry::Lines(_)) = line {
+            let [least, greatest] = extent(geometry.runs().flatten().copied());
+            chain.in_window = window.meets(least, greatest);
+        }
+    }
 }
 
 /// The name of the input, by its path unless it is the standard input.

@@ -2,14 +2,14 @@
 
 use crate::progress::Progress;
 pub use lovasuku_chains::large::*;
-use lovasuku_chains::{Dimension, Settings};
+use lovasuku_chains::{Dimension, Settings, Window};
 use rayon::prelude::*;
 
-/// Joins lines of a dimension. No call gets more than the capacity.
+/// Joins lines of a dimension, and tells which chains meet a window. No call gets more than the capacity.
 pub fn join(
     dimension: Dimension,
     lines: &[Line],
-    settings: Settings,
+    (settings, window): (Settings, Option<Window>),
     capacity: Capacity,
     progress: &Progress,
 ) -> Result<Vec<Chain>, Fault> {
@@ -20,6 +20,7 @@ pub fn join(
         progress.add(batch.len());
         chains
     };
-    let built = batches.par_iter().map_init(|| Caller::new(dimension, settings), build);
+    let caller = || Caller::new(dimension, settings).with_window(window);
+    let built = batches.par_iter().map_init(caller, build);
     Ok(in_order(lines, built.collect::<Result<_, Fault>>()?))
 }

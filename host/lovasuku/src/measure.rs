@@ -59,15 +59,22 @@ fn on_the_sphere([x, y]: Point, [to_x, to_y]: Point) -> f64 {
 
 /// The lowest and the highest x and y of all points.
 pub fn bounds(delivery: &Delivery) -> [Point; 2] {
-    let mut bounds = [[f64::INFINITY; 2], [f64::NEG_INFINITY; 2]];
-    for &[x, y] in delivery.features.iter().flat_map(|feature| feature.geometry.runs()).flatten() {
-        bounds[0] = [bounds[0][0].min(x), bounds[0][1].min(y)];
-        bounds[1] = [bounds[1][0].max(x), bounds[1][1].max(y)];
-    }
+    let runs = delivery.features.iter().flat_map(|feature| feature.geometry.runs());
+    let bounds = extent(runs.flatten().copied());
     match bounds[0][0].is_finite() {
         true => bounds,
         false => [[0.0; 2]; 2],
     }
+}
+
+/// The lowest and the highest x and y of points; infinities the other way round where there is none.
+pub fn extent(points: impl Iterator<Item = Point>) -> [Point; 2] {
+    let mut extent = [[f64::INFINITY; 2], [f64::NEG_INFINITY; 2]];
+    for [x, y] in points {
+        extent[0] = [extent[0][0].min(x), extent[0][1].min(y)];
+        extent[1] = [extent[1][0].max(x), extent[1][1].max(y)];
+    }
+    extent
 }
 
 /// True where nothing speaks against degrees, which GeoJSON has unless it names another system.

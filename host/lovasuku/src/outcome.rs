@@ -93,7 +93,8 @@ impl Outcome<'_> {
         let mut members = self.delivery.members.clone();
         let whole = self.delivery.left_out.is_nothing();
         let dropped = self.request.reading.heights == Heights::Dropped;
-        let as_it_was = whole && !dropped && !self.delivery.has_heights();
+        let windowless = self.request.window.is_none();
+        let as_it_was = whole && !dropped && windowless && !self.delivery.has_heights();
         members.retain(|name, _| name != "bbox" || as_it_was);
         members
     }
@@ -117,6 +118,7 @@ impl Outcome<'_> {
             settings: &settings_in_words(self.request, self.measure),
             cells: cells(self.request),
             arrows: self.request.arrows,
+            window: self.request.window,
             delivery: self.delivery,
             measure: self.measure,
             chains: self.chains,

@@ -7,7 +7,7 @@ use crate::joining::Why;
 use crate::measure::{Measure, RADIUS};
 use crate::numbers::{count, parted, rounded};
 use crate::tally::Tally;
-use lovasuku_chains::Settings;
+use lovasuku_chains::{Settings, Window};
 use std::fmt::Write;
 use std::time::Duration;
 
@@ -30,6 +30,7 @@ impl Summary<'_> {
             ("empty", self.empty()),
             ("left out", self.left_out()),
             ("chains", Some(self.chains())),
+            ("window", self.window()),
             ("joined", Some(self.joined())),
             ("bridges", Some(self.bridges())),
             ("gaps", self.gaps()),
@@ -113,6 +114,12 @@ impl Summary<'_> {
                 self.measure.words(longest.length),
             ),
         }
+    }
+
+    fn window(&self) -> Option<String> {
+        let Window { least: [x, y], greatest: [to_x, to_y] } = self.request.window?;
+        let chains = count(self.tally.inside, "chain");
+        Some(format!("{chains} written that meet it, from {x} {y} to {to_x} {to_y}"))
     }
 
     fn joined(&self) -> String {

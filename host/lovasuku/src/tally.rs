@@ -17,6 +17,8 @@ pub struct Tally {
     pub chains: usize,
     /// Chains that are loops.
     pub loops: usize,
+    /// Chains that meet the window.
+    pub inside: usize,
     pub nodes: usize,
     pub junctions: usize,
     pub tolerance: usize,
@@ -53,6 +55,7 @@ impl Tally {
             blocking: blocking(lines),
             chains: chains.len(),
             loops: chains.iter().filter(|chain| chain.is_loop).count(),
+            inside: chains.iter().filter(|chain| chain.in_window).count(),
             ..Tally::default()
         };
         for (position, (chain, &length)) in chains.iter().zip(lengths).enumerate() {

@@ -21,7 +21,7 @@ const SETTINGS: [Settings; 8] = [
 ];
 
 fn chains(network: &Network, settings: Settings, capacity: Capacity) -> Option<Vec<Chain>> {
-    match join(Dimension::Xy, &network.lines(), settings, capacity, &Progress::new(false)) {
+    match join(Dimension::Xy, &network.lines(), (settings, None), capacity, &Progress::new(false)) {
         Ok(chains) => Some(chains),
         Err(fault) => {
             assert!(matches!(fault, Fault::TooLarge(_)), "{fault}");
@@ -125,7 +125,8 @@ fn check_bridges(lines: &[Line], chain: &Chain) -> usize {
 fn joined(lines: &[&[Point]], settings: Settings) -> Vec<Chain> {
     let lines: Vec<Line> =
         lines.iter().map(|points| Line { points: Some(points), extras: &[], group: 0 }).collect();
-    join(Dimension::Xy, &lines, settings, Capacity::default(), &Progress::new(false)).unwrap()
+    join(Dimension::Xy, &lines, (settings, None), Capacity::default(), &Progress::new(false))
+        .unwrap()
 }
 
 #[test]

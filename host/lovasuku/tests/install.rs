@@ -53,16 +53,19 @@ int main(void) {
     uint8_t *marks = calloc(lovasuku_marks_room(n), sizeof *marks);
     uint32_t *listing = calloc(lovasuku_listing_room(n), sizeof *listing);
     double *merged = calloc(lovasuku_merged_room(LOVASUKU_XYZ, c), sizeof *merged);
+    double *boxes = calloc(lovasuku_boxes_room(n), sizeof *boxes);
     double *spare = calloc(lovasuku_spare_room(LOVASUKU_XYZ, c), sizeof *spare);
     uint64_t *workspace = calloc(lovasuku_workspace_room(n), sizeof *workspace);
     int64_t exact = lovasuku_build(LOVASUKU_XYZ, coordinates, 3 * c, counts, n, groups, n, kinds, n, 0.0, 0.0, 0.0, 0, 0.0,
         table, lovasuku_table_room(n), members, lovasuku_members_room(n), marks, lovasuku_marks_room(n),
-        listing, lovasuku_listing_room(n), merged, lovasuku_merged_room(LOVASUKU_XYZ, c), spare, lovasuku_spare_room(LOVASUKU_XYZ, c),
+        listing, lovasuku_listing_room(n), merged, lovasuku_merged_room(LOVASUKU_XYZ, c),
+        boxes, lovasuku_boxes_room(n), spare, lovasuku_spare_room(LOVASUKU_XYZ, c),
         workspace, lovasuku_workspace_room(n));
     /* One less of any room is refused, so the helpers name what a call needs and no more. */
     int64_t less = lovasuku_build(LOVASUKU_XYZ, coordinates, 3 * c, counts, n, groups, n, kinds, n, 0.0, 0.0, 0.0, 0, 0.0,
         table, lovasuku_table_room(n), members, lovasuku_members_room(n), marks, lovasuku_marks_room(n),
-        listing, lovasuku_listing_room(n), merged, lovasuku_merged_room(LOVASUKU_XYZ, c), spare, lovasuku_spare_room(LOVASUKU_XYZ, c),
+        listing, lovasuku_listing_room(n), merged, lovasuku_merged_room(LOVASUKU_XYZ, c),
+        boxes, lovasuku_boxes_room(n), spare, lovasuku_spare_room(LOVASUKU_XYZ, c),
         workspace, lovasuku_workspace_room(n) - 1);
     const uint8_t present[] = {1, 1};
     const double directions[] = {1, 0, -1, 0};

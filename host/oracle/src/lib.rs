@@ -18,7 +18,7 @@ use stand_ins::geo::{coords_iter, BoundingRect, Coord, LineString};
 
 include!(concat!(env!("OUT_DIR"), "/modules.rs"));
 
-use answers::model::{plane::Point, Model};
+use answers::model::{boxes::boxes, plane::Point, Model};
 use answers::{BuildCall, Built, Pair, PairingCall, Port, Refusal, Route};
 use chains::{with_extras, without_marks, Chain};
 pub use edited::coalesce::window::{RawChains, ReadyBuild, ReadyPairs};
@@ -101,7 +101,8 @@ impl Port for Oracle {
         let Built { marks, listing, merged, .. } = Model.build(call)?;
         let flat = without_marks(call, &self.chains(call));
         let merged = with_extras(&flat.merged, &merged, call.stride());
-        Ok(Built { marks, listing, merged, ..flat })
+        let built = Built { marks, listing, merged, ..flat };
+        Ok(Built { boxes: boxes(call, &built), ..built })
     }
 
     fn pairs(&mut self, route: Route, call: &PairingCall) -> Result<Vec<Pair>, Refusal> {

@@ -13,15 +13,15 @@ use Rattle.rules.specs.Refusals.{Rooms, rooms, refusalOf}
 use Rattle.build_refusals.proofs.Laws.{tests, Left, opened, rung, halt, rungs, halts, top, typed, sums, many, placed, has-two, product-short, same-groups}
 
 abbrev start : tie.Else1 → tie.Start
-start c = c .before .before .before .before .before .before .before .before .before .before .before .before .before
+start c = c .before .before .before .before .before .before .before .before .before .before .before .before .before .before
 
 abbrev lines-of : tie.Start → Lines
 lines-of s = lent (now (s .args .coordinates)) (now (s .args .counts)) (now (s .args .groups)) (now (s .args .kinds))
 
 abbrev rooms-of : tie.Start → Rooms
 rooms-of s =
-    rooms (now (s .args .table)) (now (s .args .members)) (now (s .args .marks)) (now (s .args .listing)) (now (s .args .merged)) (now (s .args .spare))
-    (now (s .args .workspace))
+    rooms (now (s .args .table)) (now (s .args .members)) (now (s .args .marks)) (now (s .args .listing)) (now (s .args .merged)) (now (s .args .boxes))
+    (now (s .args .spare)) (now (s .args .workspace))
 
 -- after k tests that don't hold, the refusal is that of the others
 abbrev After : ℕ → tie.Start → Type 0
@@ -65,7 +65,7 @@ width-of-requires : tie.Need-width-of-requires
 width-of-requires c κs = search needs
 
 returns : tie.Need-returns
-returns c = halt (all (c .before .before .before .before .before .before .before .before .before .before .before .before .before)) (typed _ _ (c .before .width-of .ensures .0) (eq-eqb _ _ (c .if1 .taken)))
+returns c = halt (all (c .before .before .before .before .before .before .before .before .before .before .before .before .before .before)) (typed _ _ (c .before .width-of .ensures .0) (eq-eqb _ _ (c .if1 .taken)))
 
 returns-2 : tie.Need-returns-2
 returns-2 c = halt (left1 (c .before)) (lt-ltb _ _ (c .if2 .taken))

@@ -9,7 +9,7 @@ build-offset-requires c κs = search needs
 
 number-requires : tie.Need-number-requires
 number-requires c κs =
-    proper-built-offset (c .before .before .before .before .before .before .before .before .before .before .before .before .before .before .build-offset .ensures)
+    proper-built-offset (c .before .before .before .before .before .before .before .before .before .before .before .before .before .before .before .before .build-offset .ensures)
 
 same-length : tie.Need-same-length
 same-length c = search needs
@@ -32,9 +32,12 @@ same-length-6 c = search needs
 same-length-7 : tie.Need-same-length-7
 same-length-7 c = search needs
 
+same-length-8 : tie.Need-same-length-8
+same-length-8 c = search needs
+
 returns : tie.Need-returns
 returns c =
-    let call = c .before .before .before .before .before .before .before .before .before .before .before .before .before .before .before .build-offset in
+    let call = c .before .before .before .before .before .before .before .before .before .before .before .before .before .before .before .before .before .build-offset in
     record { answer = call .result; number = c .number .ensures; determined = call .ensures }
 
 pub lovasuku-build-offset-spec : {M : Type 1} → statement M
@@ -50,4 +53,5 @@ lovasuku-build-offset-spec =
     same-length-5
     same-length-6
     same-length-7
+    same-length-8
     returns)

@@ -34,10 +34,13 @@ same-length-6 c = search needs
 same-length-7 : tie.Need-same-length-7
 same-length-7 c = search needs
 
+same-length-8 : tie.Need-same-length-8
+same-length-8 c = search needs
+
 returns : tie.Need-returns
 returns c =
-    let call = c .before .before .before .before .before .before .before .before .before .before .before .before .before .before .before in
-    built (call .before .before .before .before .before .before .before .before .limit-for .ensures) (c .renumbered .ensures) (call .build .ensures)
+    let call = c .before .before .before .before .before .before .before .before .before .before .before .before .before .before .before .before .before in
+    built (call .before .before .before .before .before .before .before .before .before .limit-for .ensures) (c .renumbered .ensures) (call .build .ensures)
 
 pub build-offset-spec : {M : Type 1} → statement M
 build-offset-spec =
@@ -53,4 +56,5 @@ build-offset-spec =
     same-length-5
     same-length-6
     same-length-7
+    same-length-8
     returns)

@@ -1,5 +1,6 @@
 //! The answer's tables.
 
+use super::boxes::boxes;
 use super::plane::{looped, Point};
 use super::{Coordinate, Piece};
 use crate::call::{BuildCall, Built};
@@ -29,5 +30,6 @@ pub fn built(call: &BuildCall, chains: &[Piece]) -> Built {
         built.marks.extend(&chain.marks);
         built.listing.extend(chain.listing.iter().map(|&line| line as u32));
     }
+    built.boxes = boxes(call, &built);
     built
 }

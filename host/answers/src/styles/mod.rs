@@ -11,6 +11,7 @@ pub mod stars;
 pub mod tiny;
 pub mod tolerances;
 pub mod wild;
+pub mod windows;
 
 use crate::call::{BuildCall, PairingCall};
 use crate::model::plane::Point;

@@ -3,6 +3,7 @@
 
 mod building;
 mod pairing;
+mod windows;
 
 use std::iter::successors;
 use std::ops::Range;

@@ -84,22 +84,25 @@ fn many_damages_at_once() {
 }
 
 #[test]
-fn a_room_may_be_longer_and_an_empty_call_needs_none() {
+fn a_room_may_be_longer_and_an_empty_call_needs_boxes_alone() {
     let empty = BuildCall::default();
-    let mut rooms = BuildRooms::new(&mut Random::new(1), [0; 7]);
+    // No lines need 64 numbers of boxes all the same, and write none.
+    let mut rooms = BuildRooms::new(&mut Random::new(1), [0, 0, 0, 0, 0, 64, 0, 0]);
     assert_eq!(Library.build(&empty, &mut rooms), 0);
-    let mut rooms = BuildRooms::new(&mut Random::new(1), [3; 7]);
+    let mut rooms = BuildRooms::new(&mut Random::new(1), [0, 0, 0, 0, 0, 63, 0, 0]);
+    assert_eq!(Library.build(&empty, &mut rooms), -7);
+    let mut rooms = BuildRooms::new(&mut Random::new(1), [3, 3, 3, 3, 3, 67, 3, 3]);
     assert_eq!(Library.build(&empty, &mut rooms), 0);
     assert_eq!(rooms.untouched(), Ok(()));
     let passing = BuildCall { counts: vec![0], groups: vec![0], kinds: vec![0], ..empty };
-    let mut rooms = BuildRooms::new(&mut Random::new(1), [6, 1, 1, 1, 0, 0, 192]);
+    let mut rooms = BuildRooms::new(&mut Random::new(1), [6, 1, 1, 1, 0, 72, 0, 192]);
     assert_eq!(Library.build(&passing, &mut rooms), 1);
 }
 
 #[test]
 fn every_refusal_of_the_empty_call() {
     let refused = |call: BuildCall| {
-        let mut rooms = BuildRooms::new(&mut Random::new(2), [0; 7]);
+        let mut rooms = BuildRooms::new(&mut Random::new(2), [0, 0, 0, 0, 0, 64, 0, 0]);
         Library.build(&call, &mut rooms)
     };
     let empty = BuildCall::default;

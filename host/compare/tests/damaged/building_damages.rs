@@ -7,19 +7,19 @@ use answers::{BuildCall, BORDER};
 use compare::building::BuildRooms;
 
 /// A building call with the shortages of its rooms.
-pub type LentLines = Lent<BuildCall, 7>;
+pub type LentLines = Lent<BuildCall, 8>;
 
-type Damage = crate::Damage<BuildCall, 7>;
+type Damage = crate::Damage<BuildCall, 8>;
 
 fn damage(refusal: i64, name: &str, apply: impl Fn(&mut BuildCall) + 'static) -> Damage {
     crate::damage(refusal, name, apply)
 }
 
 /// The lengths of the rooms that are lent: short ones where there are too many lines.
-pub fn lengths(lent: &LentLines) -> [usize; 7] {
+pub fn lengths(lent: &LentLines) -> [usize; 8] {
     match lent.call.lines() {
         0..=4_096 => lent.left(BuildRooms::lengths(&lent.call)),
-        _ => [500; 7],
+        _ => [500; 8],
     }
 }
 
@@ -84,6 +84,7 @@ pub fn damages() -> Vec<Damage> {
         "marks",
         "listing",
         "merged",
+        "boxes",
         "spare",
         "workspace",
     ]));

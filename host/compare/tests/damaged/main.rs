@@ -8,6 +8,7 @@ mod pairing;
 mod pairing_damages;
 mod question;
 mod why;
+mod windows;
 
 use answers::offset;
 use std::cmp::Reverse;

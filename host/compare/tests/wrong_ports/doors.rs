@@ -1,9 +1,12 @@
 //! The model behind a door, in whole or with something wrong.
 
-use crate::answers_of;
-use answers::{stride_of, BuildCall, Built, Pair, PairingCall, Refusal, Route, WhyCall};
+use crate::{answers_of, boxes_of};
+use answers::{
+    stride_of, BuildCall, Built, Pair, PairingCall, Refusal, Route, WhyCall, WindowCall,
+};
 use compare::building::BuildRooms;
 use compare::pairing::PairRooms;
+use compare::room::Room;
 use compare::Door;
 
 /// A port in which each part may be replaced by a wrong one.
@@ -22,6 +25,8 @@ pub struct Pretended {
     pub pairs: fn(&PairingCall) -> Vec<Pair>,
     /// What is told of two ends.
     pub told: fn(&WhyCall) -> i64,
+    /// The chains that a window question finds with room for so many numbers, or its refusal.
+    pub found: fn(&WindowCall, usize) -> Result<Vec<u32>, i64>,
     /// What is done to the rooms behind a building call.
     pub after_build: fn(&mut BuildRooms, &BuildCall),
     /// What is done to the rooms behind a pairing call.
@@ -42,6 +47,7 @@ impl Default for Pretended {
             build: answers_of::right,
             pairs: answers_of::right_pairs,
             told: answers_of::right_reason,
+            found: boxes_of::right_window,
             after_build: |_, _| (),
             after_pairs: |_, _| (),
             after_why: |_, _| (),
@@ -74,6 +80,8 @@ impl Door for Pretended {
         write(rooms.marks.lent(), &built.marks);
         write(rooms.listing.lent(), &built.listing);
         write(rooms.merged.lent(), &merged);
+        let boxes: Vec<f64> = built.boxes.iter().map(|&bits| f64::from_bits(bits)).collect();
+        write(rooms.boxes.lent(), &boxes);
         rooms.spare.lent()[..call.coordinates.len()].fill(0.0);
         rooms.workspace.lent()[..192 * call.lines()].fill(0);
         (self.after_build)(rooms, call);
@@ -104,6 +112,25 @@ impl Door for Pretended {
         (self.after_why)(rooms, call);
         told
     }
+
+    fn window(&self, call: &WindowCall, found: &mut Room<u32>) -> i64 {
+        if let Some(number) = self.refusal {
+            return -number;
+        }
+        let room = found.lent().len();
+        look((self.found)(call, room), found)
+    }
+}
+
+/// The chains found, written, or the refusal.
+fn look(found: Result<Vec<u32>, i64>, room: &mut Room<u32>) -> i64 {
+    match found {
+        Ok(chains) => {
+            write(room.lent(), &chains);
+            chains.len() as i64
+        }
+        Err(number) => -number,
+    }
 }
 
 /// Writes the pairs and clears the workspace.
@@ -126,6 +153,10 @@ impl<D: Door> Door for WithOffsets<D> {
 
     fn why(&self, call: &WhyCall, rooms: &mut PairRooms) -> i64 {
         self.0.why(call, rooms)
+    }
+
+    fn window(&self, call: &WindowCall, found: &mut Room<u32>) -> i64 {
+        self.0.window(call, found)
     }
 
     fn by_offset(&self) -> Option<&dyn Door> {
@@ -156,6 +187,11 @@ impl Door for OtherLimit {
     /// The question has no call with an offset.
     fn why(&self, call: &WhyCall, rooms: &mut PairRooms) -> i64 {
         Pretended::default().why(call, rooms)
+    }
+
+    /// A window has no limit.
+    fn window(&self, call: &WindowCall, found: &mut Room<u32>) -> i64 {
+        Pretended::default().window(call, found)
     }
 }
 

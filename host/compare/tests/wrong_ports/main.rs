@@ -1,6 +1,7 @@
 //! Deliberately wrong ports are caught, and what they get wrong is shown on a small call.
 
 mod answers_of;
+mod boxes_of;
 mod building;
 mod districts;
 mod doors;
@@ -9,6 +10,7 @@ mod listings;
 mod origins;
 mod pairing;
 mod rooms;
+mod windows;
 
 use answers::{BuildCall, PairingCall, WhyCall};
 use compare::calls::Call;

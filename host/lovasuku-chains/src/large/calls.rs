@@ -7,19 +7,28 @@ use super::joints::{end_counts, joints, EndCounts, Step};
 use super::{at, Chain, Fault, Line};
 use crate::size::POINT;
 use crate::{self as library, Dimension, LinesBuf, PathLine, Rooms, Settings};
+use crate::{Window, WindowBuf};
 
 /// Lends batches to the library, one after another, in the same rooms.
 #[derive(Debug)]
 pub struct Caller {
     settings: Settings,
+    window: Option<Window>,
     rooms: Rooms,
+    found: WindowBuf,
     lent: LinesBuf,
 }
 
 impl Caller {
     /// A caller for batches of one input, of lines of a dimension.
     pub fn new(dimension: Dimension, settings: Settings) -> Self {
-        Caller { settings, rooms: Rooms::default(), lent: LinesBuf::of(dimension) }
+        let (rooms, found) = (Rooms::default(), WindowBuf::default());
+        Caller { settings, window: None, rooms, found, lent: LinesBuf::of(dimension) }
+    }
+
+    /// The same, with chains told by whether they meet a window.
+    pub fn with_window(self, window: Option<Window>) -> Self {
+        Caller { window, ..self }
     }
 
     /// The chains of a batch, with the positions of the whole input.
@@ -29,7 +38,14 @@ impl Caller {
         let counts = end_counts(batch.iter().map(|&line| at(lines, line)));
         let chains = self.rooms.build(self.lent.lines(), self.settings)?;
         let owned = |chain| owned(lines, batch, &chain, &pieces, &counts);
-        Ok(chains.iter().map(owned).collect())
+        let mut all: Vec<Chain> = chains.iter().map(owned).collect();
+        if let Some(window) = self.window {
+            all.iter_mut().for_each(|chain| chain.in_window = false);
+            for (position, _) in chains.window(window, &mut self.found)? {
+                all.get_mut(position).into_iter().for_each(|chain| chain.in_window = true);
+            }
+        }
+        Ok(all)
     }
 
     fn lend(&mut self, lines: &[Line], batch: &[u32]) {
@@ -82,6 +98,7 @@ fn owned(
         points: chain.is_merged().then(|| chain.points().collect()),
         extras: extras(chain),
         is_loop: chain.is_loop(),
+        in_window: true,
         joints: joints(lines, &way, counts),
     }
 }

@@ -86,6 +86,9 @@ pub struct Chain {
     /// Whether it is a loop, as [`Chain::is_loop`](crate::Chain::is_loop) tells. Geometry without points
     /// is none.
     pub is_loop: bool,
+    /// Whether its extent meets the window that was asked for, and true where none was. Geometry
+    /// without points meets none.
+    pub in_window: bool,
     /// Where its lines were joined, in the order of its points.
     pub joints: Vec<Joint>,
 }

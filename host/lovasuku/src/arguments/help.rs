@@ -67,6 +67,11 @@ floor((y - Y) / T). Tiles that are joined one by one, each in coordinates of its
 where each names one corner that they share, in its own coordinates. Without this it is 0,0. Which ends
 meet exactly does not depend on it.";
 
+pub const WINDOW: &str = "\
+Write only the chains whose extents overlap or touch this window, X1 to X2 and Y1 to Y2. They are those of
+the whole delivery: what is joined does not depend on the window, and neither do the ids of chains. With
+them go their bridges, and the gaps at them. The map shows everything, and the window.";
+
 pub const OFFSET: &str = "\
 The same by a bend as road crews state it: so many millimetres of offset per metre run, a whole number
 from 0, straight on, to 1000, which is 45 degrees. The limit that it stands for is worked out by the

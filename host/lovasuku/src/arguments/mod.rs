@@ -8,7 +8,7 @@ use crate::districts::District;
 use crate::writing::{apart, Format, Keep};
 use clap::error::ErrorKind;
 use clap::{ArgMatches, Command};
-use lovasuku_chains::{limit_of_bend, Offset, Settings};
+use lovasuku_chains::{limit_of_bend, Offset, Settings, Window};
 use std::path::{Path, PathBuf};
 
 /// What a run of `lovasuku join` is asked for.
@@ -23,6 +23,8 @@ pub struct Request {
     /// The format of outputs where their names do not decide.
     pub format: Option<Format>,
     pub settings: Settings,
+    /// The window that chains have to meet to be written.
+    pub window: Option<Window>,
     /// The bend in degrees where the limit was given by one.
     pub bend: Option<f64>,
     /// The offset where the limit was given by one.
@@ -109,6 +111,7 @@ fn of_join(matches: &ArgMatches) -> Result<Request, String> {
             origin: matches.get_one::<Point>("origin").copied().unwrap_or_default(),
             limit: limit.or_else(|| bend.and_then(limit_of_bend)),
         },
+        window: matches.get_one::<Window>("window").copied(),
         bend,
         offset,
         class: text("class"),

@@ -5,7 +5,7 @@ use crate::delivery::Point;
 use crate::districts::District;
 use crate::writing::{Format, Keep};
 use clap::{value_parser, Arg, ArgAction, Command};
-use lovasuku_chains::Offset;
+use lovasuku_chains::{Offset, Window};
 use std::path::PathBuf;
 
 pub fn join() -> Command {
@@ -41,7 +41,7 @@ pub fn manual() -> Command {
         )
 }
 
-fn outputs() -> [Arg; 6] {
+fn outputs() -> [Arg; 7] {
     [
         path("output")
             .short('o')
@@ -59,6 +59,12 @@ fn outputs() -> [Arg; 6] {
         path("bridges").long("bridges").value_name("FILE").help(
             "Write each segment that the tolerance made, and each gap below it that stayed open",
         ),
+        named("window")
+            .value_name("X1,Y1,X2,Y2")
+            .allow_hyphen_values(true)
+            .value_parser(window)
+            .help("Write only the chains whose extents meet this window, from its least x and y on")
+            .long_help(help::WINDOW),
         Arg::new("format")
             .short('f')
             .long("format")
@@ -179,11 +185,27 @@ fn within(text: &str, lowest: f64, highest: f64) -> Result<f64, String> {
     }
 }
 
+/// So many finite numbers with commas between them.
+fn numbers<const N: usize>(text: &str) -> Option<[f64; N]> {
+    let number = |text: &str| text.trim().parse().ok().filter(|x: &f64| x.is_finite());
+    let numbers: Vec<f64> = text.split(',').map(number).collect::<Option<_>>()?;
+    numbers.try_into().ok()
+}
+
 /// Two finite numbers with a comma between them.
 fn point(text: &str) -> Result<Point, String> {
-    let number = |text: &str| text.trim().parse().ok().filter(|x: &f64| x.is_finite());
-    let point = text.split_once(',').and_then(|(x, y)| Some([number(x)?, number(y)?]));
-    point.ok_or_else(|| "not two numbers with a comma between them".into())
+    numbers(text).ok_or_else(|| "not two numbers with a comma between them".into())
+}
+
+/// The least x and y of a window and the greatest.
+fn window(text: &str) -> Result<Window, String> {
+    match numbers(text) {
+        None => Err("not four numbers with commas between them".into()),
+        Some([x, y, to_x, to_y]) if x <= to_x && y <= to_y => {
+            Ok(Window { least: [x, y], greatest: [to_x, to_y] })
+        }
+        Some(_) => Err("its least x and y come first, and one is above the greatest".into()),
+    }
 }
 
 /// A whole number of millimetres per metre run that is an offset.

@@ -46,6 +46,10 @@ pub fn legend(out: &mut String, sheet: &Sheet, page: &Page, colours: &[&str]) ->
         let unit = if sheet.measure.degrees { "degrees" } else { &sheet.measure.unit };
         row(out, &mut y, CELLS, &format!("cells of the tolerance, {side} {unit}"))?;
     }
+    if sheet.window.is_some() {
+        let words = format!("the window: {} written", count(sheet.tally.inside, "chain"));
+        row(out, &mut y, WINDOW, &words)?;
+    }
     if sheet.tally.junctions > 0 {
         let diamond = format!(
             "<g class=\"junctions\"><path transform=\"translate(21 0)\" d=\"{DIAMOND}\"/></g>"
@@ -75,6 +79,8 @@ fn arrow(out: &mut String, y: &mut f64, class: &str, words: &str) -> Result {
     let way = shape([21.0, 0.0], [1.0, 0.0], 1.0);
     row(out, y, &format!("<path class=\"arrow {class}\" d=\"{way}\"/>"), words)
 }
+
+const WINDOW: &str = "<path class=\"window\" d=\"M4-8H38V8H4z\"/>";
 
 const CELLS: &str =
     "<path class=\"cells\" d=\"M5-8v16M13-8v16M21-8v16M29-8v16M37-8v16M1-4h40M1 4h40\"/>";

@@ -5,6 +5,7 @@ use super::page::{fineness, Page, FEW_LINES};
 use super::svg::{digits_of, escape};
 use super::Sheet;
 use crate::delivery::Point;
+use crate::measure::extent;
 use crate::tally::runs_of;
 use std::fmt::Write;
 
@@ -51,7 +52,7 @@ fn points<'a>(sheet: &'a Sheet, position: usize) -> impl Iterator<Item = Point> 
 /// Where the mark of a loop stands on the page: in the middle of its extent, or beside it where the
 /// mark would cover it.
 fn place(sheet: &Sheet, page: &Page, position: usize) -> Point {
-    let [low, high] = extent(sheet, position).map(|corner| page.place(corner));
+    let [low, high] = extent(points(sheet, position)).map(|corner| page.place(corner));
     let [width, height] = [high[0] - low[0], low[1] - high[1]];
     let middle = page.place(middle(sheet, position));
     match width.min(height) < LARGE {
@@ -60,18 +61,8 @@ fn place(sheet: &Sheet, page: &Page, position: usize) -> Point {
     }
 }
 
-/// The lowest and the highest x and y of a chain.
-fn extent(sheet: &Sheet, position: usize) -> [Point; 2] {
-    let mut extent = [[f64::INFINITY; 2], [f64::NEG_INFINITY; 2]];
-    for [x, y] in points(sheet, position) {
-        extent[0] = [extent[0][0].min(x), extent[0][1].min(y)];
-        extent[1] = [extent[1][0].max(x), extent[1][1].max(y)];
-    }
-    extent
-}
-
 /// The middle of the extent of a chain. Halves are added, so that no sum is beyond the largest number.
 fn middle(sheet: &Sheet, position: usize) -> Point {
-    let [low, high] = extent(sheet, position);
+    let [low, high] = extent(points(sheet, position));
     [low[0] / 2.0 + high[0] / 2.0, low[1] / 2.0 + high[1] / 2.0]
 }

@@ -18,6 +18,7 @@ use crate::measure::Measure;
 use crate::tally::Tally;
 pub use cells::Cells;
 use detail::{Detail, MOST_BYTES};
+use lovasuku_chains::Window;
 use page::{fineness, Page, FEW_BRIDGES, FEW_LINES, HEAD, MARGIN, WIDTH};
 use std::fmt::{Error, Write};
 
@@ -32,6 +33,8 @@ pub struct Sheet<'a> {
     pub cells: Option<Cells>,
     /// Whether the way is shown that each line was drawn.
     pub arrows: bool,
+    /// The window that chains have to meet to be written.
+    pub window: Option<Window>,
     pub delivery: &'a Delivery<'a>,
     pub measure: &'a Measure,
     pub chains: &'a [Chain],
@@ -46,6 +49,7 @@ text{font:14px system-ui,'Segoe UI',Helvetica,Arial,sans-serif;fill:#2b2b2b}\
 .words{fill:#4a4a4a}\
 .heading{font-weight:600;font-size:15px}\
 .frame{fill:#fff;stroke:#d9d5cc}\
+.window{fill:none;stroke:#1f5fd0;stroke-width:1.6;stroke-dasharray:7 4;pointer-events:none}\
 .cells{fill:none;stroke:#d3cec3;stroke-width:.7}\
 .legend .cells{stroke:#aaa498}\
 .chains path,.chain path,.alone path{fill:none;stroke-linecap:round;stroke-linejoin:round}\
@@ -113,6 +117,22 @@ fn bridges_of(sheet: &Sheet) -> Vec<(usize, Joint)> {
     all
 }
 
+/// Draws the window, as far as it lies in the frame.
+fn framed(out: &mut String, sheet: &Sheet, page: &Page) -> Result<(), Error> {
+    let Window { least, greatest } = match sheet.window {
+        None => return Ok(()),
+        Some(window) => window,
+    };
+    let [[west, south], [east, north]] = [least, greatest].map(|corner| page.place(corner));
+    let across = |x: f64| x.clamp(MARGIN, MARGIN + page.frame_width());
+    let down = |y: f64| y.clamp(HEAD, HEAD + page.frame_height);
+    let [west, east, south, north] = [across(west), across(east), down(south), down(north)];
+    writeln!(
+        out,
+        "<path class=\"window\" d=\"M{west:.1} {north:.1}H{east:.1}V{south:.1}H{west:.1}z\"/>"
+    )
+}
+
 fn draw(out: &mut String, sheet: &Sheet, detail: Detail) -> Result<(), Error> {
     let page = Page::of(sheet.delivery, sheet.measure, detail);
     let height = page.height();
@@ -133,6 +153,7 @@ fn draw(out: &mut String, sheet: &Sheet, detail: Detail) -> Result<(), Error> {
     cells::grid(out, sheet, &page)?;
     let colours = drawing::chains(out, sheet, &page)?;
     drawing::lines(out, sheet, &page)?;
+    framed(out, sheet, &page)?;
     arrows::arrows(out, sheet, &page)?;
     drawing::junctions(out, sheet, &page)?;
     loops::loops(out, sheet, &page)?;

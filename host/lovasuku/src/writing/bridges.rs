@@ -14,14 +14,17 @@ pub struct Bridges<'a> {
 }
 
 impl Bridges<'_> {
-    /// One feature a bridge, and behind these one a gap below the tolerance that stayed open.
+    /// One feature a bridge, and behind these one a gap below the tolerance that stayed open, of chains
+    /// that meet the window.
     pub fn write(&self, chains: &[Chain], gaps: &[Gap]) -> Vec<Vec<u8>> {
         let of_chain = |(chain, each): (usize, &Chain)| -> Vec<Vec<u8>> {
             let bridges = each.joints.iter().filter(|joint| joint.is_bridge());
             bridges.map(|bridge| self.bridge(chain, bridge)).collect()
         };
-        let bridges = chains.iter().enumerate().flat_map(of_chain);
-        bridges.chain(gaps.iter().map(|gap| self.gap(gap))).collect()
+        let inside = |chain: usize| chains.get(chain).map_or(false, |chain| chain.in_window);
+        let all = chains.iter().enumerate().filter(|(_, chain)| chain.in_window);
+        let gaps = gaps.iter().filter(|gap| gap.chains.into_iter().any(inside));
+        all.flat_map(of_chain).chain(gaps.map(|gap| self.gap(gap))).collect()
     }
 
     /// A bridge: its two lines, its length, whether that is more than the tolerance, and its chain.

@@ -40,16 +40,16 @@ pub fn own_names(prefix: &str, parts: bool) -> Vec<String> {
 }
 
 impl Chains<'_> {
-    /// One feature a chain, in their order.
+    /// One feature a chain that meets the window, in their order, by its position among all.
     pub fn write(&self, chains: &[Chain], progress: &Progress) -> Written {
+        let chains: Vec<(usize, &Chain)> =
+            chains.iter().enumerate().filter(|(_, chain)| chain.in_window).collect();
         progress.begin("writing", chains.len());
-        let part = |(part, chains): (usize, &[Chain])| -> Vec<(Vec<u8>, bool)> {
+        let part = |chains: &[(usize, &Chain)]| -> Vec<(Vec<u8>, bool)> {
             progress.add(chains.len());
-            let all = chains.iter().enumerate();
-            all.map(|(k, chain)| self.feature(part * PART + k, chain)).collect()
+            chains.iter().map(|&(position, chain)| self.feature(position, chain)).collect()
         };
-        let all: Vec<(Vec<u8>, bool)> =
-            chains.par_chunks(PART).enumerate().flat_map_iter(part).collect();
+        let all: Vec<(Vec<u8>, bool)> = chains.par_chunks(PART).flat_map_iter(part).collect();
         let clashes = all.iter().filter(|(_, clash)| *clash).count();
         Written { features: all.into_iter().map(|(feature, _)| feature).collect(), clashes }
     }

@@ -1,0 +1,12 @@
+pub mod Picks
+pub mod Unions
+pub mod Extent
+pub mod Runs
+pub mod Rows
+pub mod Levels
+pub mod Above
+pub mod Wider
+pub mod Plain
+pub mod Spans
+pub mod Calls
+pub mod Places

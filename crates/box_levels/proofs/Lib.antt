@@ -1,0 +1,5 @@
+pub mod Extents
+pub mod Points
+mod Fours
+mod Raised
+mod Stacked
