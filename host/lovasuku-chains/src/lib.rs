@@ -35,6 +35,7 @@
 //! | state a bend as an offset per metre | [`Offset`], whose limit any call takes |
 //! | look up a chain in a stored table | [`chain_question`], [`chain_coordinates`] |
 //! | read lines from the records of a store | [`read_wkb`], which gives [`WkbLines`] |
+//! | read lines from a batch of Arrow's | [`read_wkb_offsets`], which takes its run and its offsets |
 //! | write chains as records for a map | [`Chains::write_wkb`], which gives [`WkbRecords`] |
 //! | carry heights and measures along | [`Dimension`], in [`Lines`] and [`LinesBuf::of`] |
 //! | keep the chains, as tylertoo does | [`build_chains`] |
@@ -48,6 +49,7 @@
 #![deny(missing_docs)]
 #![deny(unsafe_code)]
 
+mod arrow;
 mod chains;
 mod declared;
 mod dimension;
@@ -69,6 +71,7 @@ mod two;
 mod window;
 mod wkb;
 
+pub use arrow::{read_wkb_offsets, RunOffset};
 pub use chains::{Chain, Chains, Iter, PathLine};
 pub use dimension::Dimension;
 pub use lines::{Lines, LinesBuf, PASSING, PLAIN};

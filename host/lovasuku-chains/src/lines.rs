@@ -151,7 +151,7 @@ impl LinesBuf {
     }
 
     /// Adds a plain line whose extras stand apart from its points, those that are not there as NaN.
-    pub(crate) fn push_apart(&mut self, points: &[[f64; POINT]], extras: &[f64], group: u32) {
+    pub fn push_apart(&mut self, points: &[[f64; POINT]], extras: &[f64], group: u32) {
         let width = self.dimension.extras();
         let first = self.coordinates.len();
         let mut rest = extras.iter().copied().chain(repeat(f64::NAN));

@@ -2,8 +2,8 @@
 
 use crate::door::{self, WriteRooms};
 use crate::rooms::{first, grow};
-use crate::size::{WKB_HEADER, WKB_NUMBER};
-use crate::{Chains, Refusal};
+use crate::size::{RECORD, WKB_HEADER, WKB_NUMBER};
+use crate::{Chains, Lines, Refusal};
 use std::slice::Iter;
 
 /// The byte order of a record.
@@ -32,6 +32,8 @@ impl ByteOrder {
 pub struct WkbBuf {
     run: Vec<u8>,
     lengths: Vec<u64>,
+    /// The records of lines that are written as chains of one line each.
+    table: Vec<u32>,
 }
 
 impl WkbBuf {
@@ -112,6 +114,64 @@ impl Chains<'_> {
         let bytes = door::result(answer)? as usize;
         Ok(WkbRecords { run: first(run, bytes), lengths: first(lengths, k) })
     }
+}
+
+impl Lines<'_> {
+    /// Writes each line as a WKB record into a buffer, as [`Chains::write_wkb`] writes chains: a chain
+    /// of one line is that line, untouched.
+    ///
+    /// ```
+    /// use lovasuku_chains::{ByteOrder, Dimension, LinesBuf, WkbBuf};
+    ///
+    /// # fn main() -> Result<(), lovasuku_chains::Refusal> {
+    /// let mut lines = LinesBuf::of(Dimension::Xyz);
+    /// lines.push([[0.0, 0.0, 7.0], [1.0, 0.0, 8.0]], 0);
+    /// lines.push([[5.0, 0.0, 9.0]], 0);
+    /// let mut buffer = WkbBuf::default();
+    /// let records = lines.lines().write_wkb(ByteOrder::Little, &mut buffer)?;
+    /// assert_eq!(records.lengths(), [57, 33]);
+    /// # Ok(())
+    /// # }
+    /// ```
+    ///
+    /// # Errors
+    ///
+    /// [`Refusal::NoSuchChain`] where the counts reach beyond the coordinates, or where a line begins
+    /// beyond what a `u32` counts.
+    pub fn write_wkb<'b>(
+        &self,
+        order: ByteOrder,
+        buffer: &'b mut WkbBuf,
+    ) -> Result<WkbRecords<'b>, Refusal> {
+        let (k, table) = (self.len(), &mut buffer.table);
+        let end = single_lines(self.counts, table).ok_or(Refusal::NoSuchChain)?;
+        let numbers = self.dimension.stride().saturating_mul(end as usize);
+        grow(&mut buffer.run, WKB_HEADER * k + WKB_NUMBER * numbers.min(self.coordinates.len()));
+        grow(&mut buffer.lengths, k);
+        let rooms = WriteRooms { run: &mut buffer.run, lengths: &mut buffer.lengths };
+        let wkb_type = self.dimension.wkb_type();
+        let (k, order) = (k as u64, order.number());
+        let answer = door::write_wkb(wkb_type, self.coordinates, &[], table, k, order, rooms);
+        let bytes = door::result(answer)? as usize;
+        Ok(WkbRecords {
+            run: first(&buffer.run, bytes),
+            lengths: first(&buffer.lengths, self.len()),
+        })
+    }
+}
+
+/// The table of the chains of one line each, and how many coordinates they have together.
+fn single_lines(counts: &[u32], table: &mut Vec<u32>) -> Option<u32> {
+    table.clear();
+    let mut end = 0u32;
+    for &count in counts {
+        let mut record = [0; RECORD];
+        let [_, members, _, first, coordinates, ..] = &mut record;
+        (*members, *first, *coordinates) = (1, end, count);
+        table.extend(record);
+        end = end.checked_add(count)?;
+    }
+    Some(end)
 }
 
 /// WKB records one behind another, with their lengths, borrowed from where they were written.

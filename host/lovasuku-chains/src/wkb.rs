@@ -9,9 +9,18 @@ use crate::{Dimension, Lines, Points, Refusal};
 /// The rooms that runs of records are read into, again and again.
 ///
 /// They grow where a run needs more than any before it, and never shrink: 13 bytes for each record
-/// and 8 for each number of a coordinate of the largest run.
+/// and 8 for each number of a coordinate of the largest run; 8 more for each record of a run that
+/// offsets cut.
 #[derive(Clone, Debug, Default)]
 pub struct WkbRooms {
+    pub(crate) lines: LineRooms,
+    /// The lengths of records that offsets cut.
+    pub(crate) lengths: Vec<u64>,
+}
+
+/// The rooms that lines are read into.
+#[derive(Clone, Debug, Default)]
+pub(crate) struct LineRooms {
     coordinates: Vec<f64>,
     counts: Vec<u32>,
     groups: Vec<u32>,
@@ -58,25 +67,32 @@ pub fn read_wkb<'a>(
     lengths: &[u64],
     rooms: &'a mut WkbRooms,
 ) -> Result<WkbLines<'a>, Refusal> {
-    rooms.grow(run.len(), lengths.len());
-    let mut wkb_type = [0];
-    let WkbRooms { coordinates, counts, .. } = rooms;
-    let lent = ReadRooms { coordinates, counts, wkb_type: &mut wkb_type };
-    let records = door::result(door::read_wkb(run, lengths, lent))? as usize;
-    let [wkb_type] = wkb_type;
-    Ok(WkbLines {
-        dimension: Dimension::of_wkb_type(wkb_type).ok_or(Refusal::BadType)?,
-        coordinates: first(&rooms.coordinates, numbers(run.len(), records)),
-        counts: first(&rooms.counts, records),
-        groups: first(&rooms.groups, records),
-        kinds: first(&rooms.kinds, records),
-    })
+    rooms.lines.read(run, lengths)
 }
 
 impl WkbRooms {
     /// Rooms without length, which the first run makes grow.
     pub fn new() -> Self {
         WkbRooms::default()
+    }
+}
+
+impl LineRooms {
+    /// Reads a run of records with their lengths into the rooms.
+    pub fn read(&mut self, run: &[u8], lengths: &[u64]) -> Result<WkbLines<'_>, Refusal> {
+        self.grow(run.len(), lengths.len());
+        let mut wkb_type = [0];
+        let LineRooms { coordinates, counts, .. } = self;
+        let lent = ReadRooms { coordinates, counts, wkb_type: &mut wkb_type };
+        let records = door::result(door::read_wkb(run, lengths, lent))? as usize;
+        let [wkb_type] = wkb_type;
+        Ok(WkbLines {
+            dimension: Dimension::of_wkb_type(wkb_type).ok_or(Refusal::BadType)?,
+            coordinates: first(&self.coordinates, numbers(run.len(), records)),
+            counts: first(&self.counts, records),
+            groups: first(&self.groups, records),
+            kinds: first(&self.kinds, records),
+        })
     }
 
     /// Makes room for a run of so many bytes in so many records. A run that has fewer bytes than

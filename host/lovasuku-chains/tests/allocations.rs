@@ -1,8 +1,8 @@
 //! Once the rooms have grown, building, pairing, asking, reading and writing allocate nothing.
 
 use lovasuku_chains::{
-    chain_coordinates, read_wkb, ByteOrder, Dimension, Ends, LinesBuf, Rooms, Route, Settings,
-    Window, WindowBuf, WkbBuf, WkbRooms,
+    chain_coordinates, read_wkb, read_wkb_offsets, ByteOrder, Dimension, Ends, LinesBuf, Rooms,
+    Route, Settings, Window, WindowBuf, WkbBuf, WkbRooms,
 };
 use std::alloc::{GlobalAlloc, Layout, System};
 use std::cell::Cell;
@@ -127,6 +127,13 @@ fn reading_records_in_grown_rooms_allocates_nothing() {
     let mut rooms = WkbRooms::new();
     let mut read = |records: usize| {
         let lines = read_wkb(&run[..41 * records], &lengths[..records], &mut rooms);
+        assert_eq!(lines.map(|lines| lines.plain().len()), Ok(records));
+    };
+    assert!(asked(|| read(50)) > 0);
+    assert_eq!(asked(|| (0..=50).for_each(&mut read)), 0);
+    let offsets: Vec<i32> = (0..=50).map(|k| 41 * k).collect();
+    let mut read = |records: usize| {
+        let lines = read_wkb_offsets(&run, &offsets[50 - records..], &mut rooms);
         assert_eq!(lines.map(|lines| lines.plain().len()), Ok(records));
     };
     assert!(asked(|| read(50)) > 0);

@@ -2,16 +2,19 @@
 
 use crate::arguments::Request;
 use crate::classes::Classes;
-use crate::delivery::{self, Delivery, Geometry};
+use crate::delivery::{Delivery, Geometry};
 use crate::joining::{gaps, join, Capacity, Chain, Fault, Line};
-use crate::measure::{extent, Measure};
+use crate::measure::{bounds, extent, Measure};
 use crate::outcome::{Outcome, Targets};
 use crate::progress::Progress;
+use crate::source::Source;
+use crate::store;
+use crate::storing;
 use crate::summary::{of_degrees, Summary};
 use crate::tally::{length_of, Tally};
 use crate::writing;
 use anyhow::{anyhow, Context, Error, Result};
-use lovasuku_chains::{Dimension, Window};
+use lovasuku_chains::Window;
 use std::path::Path;
 use std::time::Instant;
 
@@ -22,25 +25,34 @@ pub fn run(request: &Request) -> Result<String> {
     let progress = Progress::new(!request.quiet);
     let targets = Targets::of(request)?;
     let input = || name_of_input(request, |path| path.display().to_string());
-    let text = delivery::text(&request.input).with_context(input)?;
-    let delivery = &delivery::read(&text, &request.reading, &progress).with_context(input)?;
+    let (source, text) = Source::read(request, &progress).with_context(input)?;
+    let (delivery, layer) = source.delivery(&text, request, &progress).with_context(input)?;
+    let delivery = &delivery;
     let classes = &Classes::of(delivery, request.class.as_deref(), request.district.as_ref())
         .with_context(input)?;
-    let measure = &Measure::of(delivery, request.units.as_deref());
+    let unit = layer.as_ref().and_then(|layer| layer.unit(bounds(delivery)));
+    let measure = &Measure::of(delivery, request.units.as_deref().or(unit.as_deref()));
     let lines = lines(delivery, classes);
-    let dimension = if delivery.has_heights() { Dimension::Xyz } else { Dimension::Xy };
     let asked = (request.settings, request.window);
-    let mut chains = join(dimension, &lines, asked, Capacity::default(), &progress)
+    let mut chains = join(delivery.dimension, &lines, asked, Capacity::default(), &progress)
         .map_err(|fault| named(delivery, classes, fault))
         .with_context(input)?;
     look_at_parts(delivery, request.window, &mut chains);
     let lengths: &Vec<f64> =
         &chains.iter().map(|chain| length_of(delivery, measure, chain)).collect();
     let tally = &tally(request, delivery, &lines, &chains, lengths);
-    let outcome = Outcome { request, delivery, measure, chains: &chains, lengths, tally };
+    let (named, told) = match (&layer, targets.has_store()) {
+        (None, true) => storing::reference(delivery, measure),
+        _ => (None, None),
+    };
+    let reference = layer.as_ref().map_or(named.as_ref(), |layer| layer.reference.as_ref());
+    let layer = layer.as_ref();
+    let outcome =
+        Outcome { request, delivery, measure, chains: &chains, lengths, tally, layer, reference };
     let (outputs, mut warnings) = outcome.outputs(&targets, &progress);
+    warnings.extend(told);
     warnings.extend(of_degrees(measure, request.settings.tolerance));
-    writing::put(&outputs)?;
+    warnings.extend(writing::put(&outputs)?);
     progress.end();
     let summary = Summary { request, delivery, classes, measure, tally, warnings: &warnings };
     Ok(summary.text(from.elapsed()))
@@ -60,9 +72,10 @@ fn look_at_parts(delivery: &Delivery, window: Option<Window>, chains: &mut [Chai
 
 /// The name of the input, by its path unless it is the standard input.
 pub fn name_of_input(request: &Request, name: impl Fn(&Path) -> String) -> String {
-    match request.input == Path::new("-") {
-        true => "standard input".into(),
-        false => name(&request.input),
+    match request.input.to_str() {
+        Some("-") => "standard input".into(),
+        Some(connection) if store::is_database(connection) => store::shown(&request.input),
+        _ => name(&request.input),
     }
 }
 

@@ -9,28 +9,50 @@ use crate::map::{map, Cells, Sheet};
 use crate::measure::Measure;
 use crate::numbers::{count, short};
 use crate::progress::Progress;
+use crate::store::{About, Reference, Store};
+use crate::storing::{lost_in_geojson, store};
 use crate::tally::Tally;
-use crate::writing::{own_names, Bridges, Chains, Format, Output, Target};
+use crate::writing::{own_names, Bridges, Chains, Content, Format, Output, Target};
 use anyhow::Result;
 use lovasuku_chains::Settings;
-use std::path::{Path, PathBuf};
+use std::path::Path;
 
-/// Where the outputs go.
+/// Where the outputs go, and which of them are stores.
 pub struct Targets {
-    chains: Target,
-    bridges: Option<Target>,
+    chains: (Target, Option<Store>),
+    bridges: Option<(Target, Option<Store>)>,
     map: Option<Target>,
 }
+
+/// The tables of chains and of bridges in a database. Where that of chains has another name, that of
+/// bridges has this one behind it.
+pub const CHAINS: &str = "chains";
+const BRIDGES: &str = "bridges";
 
 impl Targets {
     /// Looks at all places before anything is read, so that a fault there costs no time.
     pub fn of(request: &Request) -> Result<Self> {
-        let of = |path: &Option<PathBuf>| path.as_deref().map(Target::of).transpose();
+        let layers = |path: &Path, layer: &str| -> Result<(Target, Option<Store>)> {
+            let target = Target::of(path)?;
+            let store = store(request, &target, layer)?;
+            Ok((target, store))
+        };
+        let bridges = match &request.into[..] {
+            CHAINS => BRIDGES.into(),
+            into => format!("{into}_{BRIDGES}"),
+        };
+        let bridges = request.bridges.as_deref().map(|path| layers(path, &bridges));
         Ok(Targets {
-            chains: Target::of(&request.output)?,
-            bridges: of(&request.bridges)?,
-            map: of(&request.map)?,
+            chains: layers(&request.output, &request.into)?,
+            bridges: bridges.transpose()?,
+            map: request.map.as_deref().map(Target::of).transpose()?,
         })
+    }
+
+    /// True where an output is a store.
+    pub fn has_store(&self) -> bool {
+        let [chains, bridges] = [Some(&self.chains), self.bridges.as_ref()];
+        [chains, bridges].into_iter().flatten().any(|(_, store)| store.is_some())
     }
 }
 
@@ -43,40 +65,48 @@ pub struct Outcome<'a> {
     /// The length of each chain.
     pub lengths: &'a [f64],
     pub tally: &'a Tally,
+    /// The layer that the lines came from, and the reference system of their coordinates.
+    pub layer: Option<&'a About>,
+    pub reference: Option<&'a Reference>,
 }
 
 impl Outcome<'_> {
     /// The outputs, and what the user has to know about them.
-    pub fn outputs(&self, targets: &Targets, progress: &Progress) -> (Vec<Output>, Vec<String>) {
-        let output = |target: &Target, text: Vec<u8>| Output { target: target.clone(), text };
-        let (chains, warnings) = self.chains(progress);
-        let mut outputs = vec![output(&targets.chains, chains)];
-        if let Some(target) = &targets.bridges {
-            outputs.push(output(target, self.bridges(&target.path)));
+    pub fn outputs<'o>(
+        &'o self,
+        targets: &'o Targets,
+        progress: &'o Progress,
+    ) -> (Vec<Output<'o>>, Vec<String>) {
+        let output =
+            |target: &Target, content: Content<'o>| Output { target: target.clone(), content };
+        let mut warnings = Vec::new();
+        let (target, store) = &targets.chains;
+        let chains = match store {
+            Some(store) => self.stored_chains(store, &mut warnings, progress),
+            None => Content::Text(self.chains(&mut warnings, progress)),
+        };
+        let mut outputs = vec![output(target, chains)];
+        if let Some((target, store)) = &targets.bridges {
+            outputs.push(output(
+                target,
+                match store {
+                    Some(store) => self.stored_bridges(store, progress),
+                    None => Content::Text(self.bridges(&target.path)),
+                },
+            ));
         }
         if let Some(target) = &targets.map {
-            outputs.push(output(target, self.map()));
+            outputs.push(output(target, Content::Text(self.map())));
         }
         (outputs, warnings)
     }
 
-    fn chains(&self, progress: &Progress) -> (Vec<u8>, Vec<String>) {
-        let Outcome { request, delivery, measure, .. } = *self;
-        let parts = request.reading.explode;
-        let own = own_names(&request.prefix, parts);
-        let names = own.join(", ");
-        let written = Chains { delivery, measure, keep: request.keep, own, parts }
-            .write(self.chains, progress);
-        let mut warnings = Vec::new();
-        if written.clashes > 0 {
-            warnings.push(format!(
-                "properties of the input named like one of {names} are left out of {} (--prefix \
-                 PREFIX gives those of chains other names)",
-                count(written.clashes, "chain")
-            ));
-        }
+    fn chains(&self, warnings: &mut Vec<String>, progress: &Progress) -> Vec<u8> {
+        let writer = self.writer();
+        let written = writer.write(self.chains, progress);
+        warnings.extend(told_of_clashes(written.clashes, &writer.own));
         let members = self.members();
-        let format = Format::of_output(&request.output, request.format);
+        let format = Format::of_output(&self.request.output, self.request.format);
         let lost: Vec<&str> = members.iter().map(|(name, _)| name).collect();
         if format != Format::Collection && !lost.is_empty() {
             warnings.push(format!(
@@ -84,7 +114,16 @@ impl Outcome<'_> {
                 lost.join(", ")
             ));
         }
-        (format.put(&members, &written.features), warnings)
+        warnings.extend(lost_in_geojson(self.layer, self.delivery.dimension));
+        format.put(&members, &written.features)
+    }
+
+    /// What the features of chains are written by.
+    pub fn writer(&self) -> Chains<'_> {
+        let Outcome { request, delivery, measure, .. } = *self;
+        let parts = request.reading.explode;
+        let own = own_names(&request.prefix, parts);
+        Chains { delivery, measure, keep: request.keep, own, parts }
     }
 
     /// The members of the input's collection. Its box is that of the chains only where nothing was
@@ -99,11 +138,15 @@ impl Outcome<'_> {
         members
     }
 
-    fn bridges(&self, path: &Path) -> Vec<u8> {
+    /// The bridges and the gaps, each as a feature.
+    pub fn bridge_features(&self) -> Vec<Vec<u8>> {
         let tolerance = self.request.settings.tolerance;
         let Outcome { delivery, measure, .. } = *self;
-        let features =
-            Bridges { delivery, measure, tolerance }.write(self.chains, &self.tally.gaps);
+        Bridges { delivery, measure, tolerance }.write(self.chains, &self.tally.gaps)
+    }
+
+    fn bridges(&self, path: &Path) -> Vec<u8> {
+        let features = self.bridge_features();
         let mut members = self.delivery.members.clone();
         members.retain(|name, text| name == "crs" && text != "null");
         Format::of_output(path, self.request.format).put(&members, &features)
@@ -126,6 +169,18 @@ impl Outcome<'_> {
             tally: self.tally,
         })
     }
+}
+
+/// What is told of properties of the input that chains have by themselves.
+pub fn told_of_clashes(clashes: usize, own: &[String]) -> Option<String> {
+    (clashes > 0).then(|| {
+        format!(
+            "properties of the input named like one of {} are left out of {} (--prefix PREFIX \
+             gives those of chains other names)",
+            own.join(", "),
+            count(clashes, "chain")
+        )
+    })
 }
 
 /// The cells of a run, where it has a tolerance.

@@ -4,6 +4,7 @@ mod common;
 
 use common::{feature, members, run, Folder};
 use std::fs;
+use std::process::Command;
 
 #[test]
 fn the_usage_is_that_of_the_subcommand() {
@@ -19,53 +20,52 @@ fn the_usage_is_that_of_the_subcommand() {
 }
 
 #[test]
-fn the_help_reads_coordinates_as_they_are() {
+fn the_help_shows_stores() {
     let help = run(&["join", "--help"], "").out;
-    let pipe =
-        "ogr2ogr -f GeoJSON -lco RFC7946=NO -lco SIGNIFICANT_FIGURES=17 /vsistdout/ roads.gpkg |\n";
-    assert!(help.contains(pipe), "{help}");
-    assert!(help.contains("cut to 7 decimals"), "{help}");
-    assert!(!help.contains("-f GeoJSONSeq"), "{help}");
+    for words in [
+        "lovasuku join roads.gpkg -o chains.gpkg",
+        "lovasuku join 'PG:dbname=roads' --sql 'SELECT * FROM roads ORDER BY id'",
+        "libgdal32",
+    ] {
+        assert!(help.contains(words), "{words}: {help}");
+    }
 }
 
-/// What is told of a file of these bytes.
+/// What is told of a file of these bytes where there is no GDAL.
 fn told(name: &str, bytes: &[u8]) -> String {
     let folder = Folder::new("formats");
     let path = folder.path(name);
     fs::write(&path, bytes).unwrap();
-    let run = run(&["join", &path, "-o", "-"], "");
-    assert_eq!((run.status, &run.out[..]), (1, ""), "{name}");
-    run.err.replace(&path, name)
+    let mut command = Command::new(env!("CARGO_BIN_EXE_lovasuku"));
+    command.args(["join", &path, "-o", "-"]).env("LOVASUKU_GDAL", "/nowhere");
+    let run = command.output().unwrap();
+    assert_eq!((run.status.code(), &run.stdout[..]), (Some(1), &b""[..]), "{name}");
+    String::from_utf8(run.stderr).unwrap().replace(&path, name)
 }
 
 #[test]
-fn other_formats_are_named_with_what_converts_them() {
-    let ogr2ogr = "ogr2ogr -f GeoJSON -lco RFC7946=NO -lco SIGNIFICANT_FIGURES=17 /vsistdout/";
-    let all: [(&str, &[u8], &str, &str); 12] = [
-        ("a.gpkg", b"SQLite format 3\0\x10\0", "an SQLite database, as a GeoPackage is", "a.gpkg"),
-        ("a.shp", b"\0\0\x27\x0a\0\0\0\0", "a Shapefile", "a.shp"),
-        ("a.zip", b"PK\x03\x04\x14\0", "a ZIP archive", "/vsizip/a.zip"),
-        ("a.fgb", b"fgb\x03fgb\x00", "a FlatGeobuf", "a.fgb"),
-        ("a.parquet", b"PAR1\x15\x04", "a Parquet file", "a.parquet"),
-        ("a.osm.pbf", b"\0\0\0\x0e\x0a\x09OSMHeader", "an OSM PBF file", "a.osm.pbf"),
-        ("a.kml", b"<?xml version=\"1.0\"?><kml>", "XML, as GML, KML, GPX and OSM are", "a.kml"),
-        ("a.wkt", b"LINESTRING (0 0, 1 1)", "WKT", "a.wkt"),
-        ("a.topojson", b"{\"type\": \"Topology\", \"arcs\": []}", "TopoJSON", "a.topojson"),
-        ("a.bin", b"{\0\0\0\x01", "a binary file", "a.bin"),
-        ("a b.gpkg", b"SQLite format 3\0", "an SQLite database, as a GeoPackage is", "'a b.gpkg'"),
-        ("a.json", b"{\"geometryType\":\"esriGeometryPolyline\"}", "Esri JSON", "a.json"),
+fn other_formats_are_named_with_what_reads_them() {
+    let all: [(&str, &[u8], &str); 11] = [
+        ("a.gpkg", b"SQLite format 3\0\x10\0", "an SQLite database, as a GeoPackage is"),
+        ("a.shp", b"\0\0\x27\x0a\0\0\0\0", "a Shapefile"),
+        ("a.zip", b"PK\x03\x04\x14\0", "a ZIP archive"),
+        ("a.fgb", b"fgb\x03fgb\x00", "a FlatGeobuf"),
+        ("a.parquet", b"PAR1\x15\x04", "a Parquet file"),
+        ("a.osm.pbf", b"\0\0\0\x0e\x0a\x09OSMHeader", "an OSM PBF file"),
+        ("a.kml", b"<?xml version=\"1.0\"?><kml>", "XML, as GML, KML, GPX and OSM are"),
+        ("a.wkt", b"LINESTRING (0 0, 1 1)", "WKT"),
+        ("a.topojson", b"{\"type\": \"Topology\", \"arcs\": []}", "TopoJSON"),
+        ("a.bin", b"{\0\0\0\x01", "a binary file"),
+        ("a.json", b"{\"geometryType\":\"esriGeometryPolyline\"}", "Esri JSON"),
     ];
-    for (name, bytes, what, file) in all {
+    for (name, bytes, what) in all {
         let told = told(name, bytes);
-        let told = told.replace(&format!("'{}", std::env::temp_dir().display()), "'");
-        assert!(told.contains(&format!("it is {what}, and what is read is GeoJSON")), "{told}");
-        if !name.contains(' ') {
-            let pipe = format!("try: {ogr2ogr} {file} | lovasuku join - -o OUT\n");
-            assert!(told.ends_with(&pipe), "{told}");
-        } else {
-            assert!(told.contains("/vsistdout/ '"), "{told}");
-        }
+        let wanted = format!("lovasuku: {name}: it is {what}, which GDAL reads: GDAL, which ");
+        assert!(told.starts_with(&wanted) && told.contains("libgdal32"), "{told}");
     }
+    let told = run(&["join", "-", "-o", "-"], "LINESTRING (0 0, 1 1)").err;
+    let wanted = "lovasuku: standard input: it is WKT, which is read by its name; try: lovasuku join FILE -o OUT\n";
+    assert_eq!(told, wanted);
 }
 
 #[test]

@@ -14,8 +14,12 @@ IN is GeoJSON: a FeatureCollection, or features one after another. LineStrings a
 their ends meet: a way that passes over a junction must be split there, since only ends are looked
 at. OUT has one feature a chain, with the properties members (ids, or positions), path (the members
 in the order of travel, and whether each was turned: drawn against it), count, loop (whether it ends
-where it begins), and those that all its members share; its id is its position. Every number is written so that it is read back the same, bit for bit. Features, parts and
-chains are counted from 0.";
+where it begins), and those that all its members share; its id is its position. Every number is
+written so that it is read back the same, bit for bit. Features, parts and chains are counted from 0.
+
+IN may also be what GDAL reads, as a GeoPackage, a FlatGeobuf, a Shapefile or a table of PostGIS, and
+OUT what GDAL writes, where its library is installed (Debian's package libgdal32). Properties are
+fields then. GeoJSON needs no GDAL.";
 
 pub const JOIN_EXAMPLES: &str = "\
 Examples:
@@ -33,11 +37,10 @@ Examples:
       joins the roads of Kolari with one another, and all others with one another
   lovasuku join roads.geojson -o chains.geojson --offset 268
       goes straight on at junctions, up to 268 millimetres of offset per metre run, some 15 degrees
-  ogr2ogr -f GeoJSON -lco RFC7946=NO -lco SIGNIFICANT_FIGURES=17 /vsistdout/ roads.gpkg |
-      lovasuku join - -o chains.geojson
-      reads any format of GDAL with its coordinates as they are. GeoJSONSeq and RFC7946=YES are not
-      for this: they change to longitude and latitude and cut to 7 decimals, so that ends that met
-      may part and ends that did not may meet
+  lovasuku join roads.gpkg -o chains.gpkg
+      from a GeoPackage to another, with coordinates, heights, measures and reference system as they are
+  lovasuku join 'PG:dbname=roads' --sql 'SELECT * FROM roads ORDER BY id' -o 'PG:dbname=roads' --into chains
+      from a table of PostGIS into another
 
 Exit status:
   0  done
@@ -46,10 +49,19 @@ Exit status:
 
 pub const FORMAT: &str = "\
 The format of OUT and --bridges. Without this their names decide: .geojsonl, .ndjson and .jsonl are
-geojsonl, .geojsons and .geojsonseq are geojsonseq, all else is geojson.
+geojsonl, .geojsons and .geojsonseq are geojsonseq, .gpkg, .fgb, .shp and .sqlite are GeoPackage,
+FlatGeobuf, Shapefile and SQLite, PG:... and postgresql://... are databases, and all else is geojson but
+for endings of other formats, as .kml, which are refused. Any other name is one of GDAL's drivers.
   geojson     a FeatureCollection, with the crs and other members of the input's
   geojsonl    a feature a line
-  geojsonseq  the same with a record separator before each feature (RFC 8142)";
+  geojsonseq  the same with a record separator before each feature (RFC 8142)
+  DRIVER      as ogrinfo --formats lists them: GPKG, FlatGeobuf, 'ESRI Shapefile', KML ..";
+
+pub const INTO: &str = "\
+The table that the chains are put into, where OUT is a database. It must not be there. That of --bridges is
+bridges, or the name of another table with _bridges behind it. In a file the layer has the file's name.
+The field chain tells the id of a chain, which not all formats keep; lists are JSON where a format has
+none.";
 
 pub const TOLERANCE: &str = "\
 Join ends in one square cell of this side too, in units of the coordinates; 0 joins what meets exactly.
@@ -98,6 +110,11 @@ Leave the third number of every position out, and all that follows it. Without t
 x and y alone decide what is joined, and lengths are those of x and y; where lines that are joined meet
 in one x and y, one of their heights stays, that of the line that was laid first; a position without a
 height stays without one. A position of more than three numbers is a fault.";
+
+pub const SQL: &str = "\
+The rows that a query to IN gives, in its own SQL: PostGIS's for PG:, SQLite's for a GeoPackage, GDAL's for
+files. The order of the rows is that of the lines: which line a chain begins with depends on it, and a
+table of a database has none unless the query says ORDER BY.";
 
 pub const KEEP: &str = "\
 Which properties of its members a chain has, as they are written:

@@ -5,6 +5,7 @@ mod options;
 
 use crate::delivery::{Heights, Point, Reading};
 use crate::districts::District;
+use crate::store;
 use crate::writing::{apart, Format, Keep};
 use clap::error::ErrorKind;
 use clap::{ArgMatches, Command};
@@ -22,6 +23,10 @@ pub struct Request {
     pub arrows: bool,
     /// The format of outputs where their names do not decide.
     pub format: Option<Format>,
+    /// The driver of GDAL's for outputs, where one was named.
+    pub driver: Option<String>,
+    /// The name of the layer of the chains in a database.
+    pub into: String,
     pub settings: Settings,
     /// The window that chains have to meet to be written.
     pub window: Option<Window>,
@@ -33,6 +38,8 @@ pub struct Request {
     /// The lines of the second district, which are never joined with others.
     pub district: Option<District>,
     pub reading: Reading,
+    /// What is asked of a store.
+    pub store: store::Asked,
     pub keep: Keep,
     /// What the names of the properties begin with that every chain has.
     pub prefix: String,
@@ -106,6 +113,8 @@ fn of_join(matches: &ArgMatches) -> Result<Request, String> {
         bridges: path("bridges"),
         arrows: matches.get_flag("arrows"),
         format: text("format").and_then(|name| Format::of(&name)),
+        driver: text("format").filter(|name| Format::of(name).is_none()),
+        into: text("into").unwrap_or_default(),
         settings: Settings {
             tolerance: number("tolerance").unwrap_or_default(),
             origin: matches.get_one::<Point>("origin").copied().unwrap_or_default(),
@@ -117,6 +126,7 @@ fn of_join(matches: &ArgMatches) -> Result<Request, String> {
         class: text("class"),
         district: matches.get_one::<District>("district").cloned(),
         reading: reading(matches),
+        store: store(matches),
         keep: text("keep").and_then(|name| Keep::of(&name)).unwrap_or_default(),
         prefix: text("prefix").unwrap_or_default(),
         units: text("units"),
@@ -132,5 +142,15 @@ fn reading(matches: &ArgMatches) -> Reading {
         drop_empty: matches.get_flag("drop-empty"),
         skip_other: matches.get_flag("skip-other"),
         id: matches.get_one::<String>("id").cloned(),
+    }
+}
+
+fn store(matches: &ArgMatches) -> store::Asked {
+    let text = |name: &str| matches.get_one::<String>(name).cloned();
+    store::Asked {
+        layer: text("layer"),
+        sql: text("sql"),
+        filter: text("where"),
+        geometry: text("geometry"),
     }
 }

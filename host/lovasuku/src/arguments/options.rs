@@ -3,7 +3,8 @@
 use super::help;
 use crate::delivery::Point;
 use crate::districts::District;
-use crate::writing::{Format, Keep};
+use crate::outcome::CHAINS;
+use crate::writing::Keep;
 use clap::{value_parser, Arg, ArgAction, Command};
 use lovasuku_chains::{Offset, Window};
 use std::path::PathBuf;
@@ -14,10 +15,9 @@ pub fn join() -> Command {
         .long_about(help::JOIN)
         .after_help(help::JOIN_EXAMPLES)
         .arg(
-            path("input")
-                .value_name("IN")
-                .required(true)
-                .help("GeoJSON, or - for the standard input"),
+            path("input").value_name("IN").required(true).help(
+                "GeoJSON, - for the standard input, or what GDAL reads, as roads.gpkg or PG:...",
+            ),
         )
         .next_help_heading("Outputs")
         .args(outputs())
@@ -25,6 +25,8 @@ pub fn join() -> Command {
         .args(settings())
         .next_help_heading("Reading")
         .args(reading())
+        .next_help_heading("Stores")
+        .args(store())
         .next_help_heading("Properties and lengths")
         .args(properties())
 }
@@ -48,7 +50,7 @@ fn outputs() -> [Arg; 7] {
             .long("output")
             .value_name("OUT")
             .required(true)
-            .help("The chains as GeoJSON, or - for the standard output"),
+            .help("The chains as GeoJSON, - for the standard output, or a store, as chains.gpkg or PG:..."),
         path("map")
             .long("map")
             .value_name("FILE.svg")
@@ -69,7 +71,6 @@ fn outputs() -> [Arg; 7] {
             .short('f')
             .long("format")
             .value_name("FORMAT")
-            .value_parser(Format::NAMES.map(|(name, _)| name))
             .help("The format of OUT and --bridges, which else goes by their names")
             .long_help(help::FORMAT),
         flag("quiet").short('q').help("Show no progress, no summary and no warnings"),
@@ -142,6 +143,26 @@ fn reading() -> [Arg; 5] {
         named("id")
             .value_name("PROPERTY")
             .help("Name lines by this property in place of their ids"),
+    ]
+}
+
+fn store() -> [Arg; 5] {
+    [
+        named("layer").value_name("NAME").help("The layer or table of IN, where it has several"),
+        named("sql")
+            .value_name("QUERY")
+            .conflicts_with_all(["layer", "where"])
+            .help("The rows that a query to IN gives, in its own SQL")
+            .long_help(help::SQL),
+        named("where").value_name("CONDITION").help("Only the rows for which this holds"),
+        named("geometry")
+            .value_name("COLUMN")
+            .help("The column of geometry, where a layer has several"),
+        named("into")
+            .value_name("TABLE")
+            .default_value(CHAINS)
+            .help("The table that the chains are put into, where OUT is a database")
+            .long_help(help::INTO),
     ]
 }
 

@@ -1,23 +1,19 @@
-//! Other formats than GeoJSON: what a file is, and how it is converted.
+//! Other formats than GeoJSON: what a file is, and how it is read.
 
 use std::path::Path;
 
-/// What converts any format of GDAL, with the coordinates as they are.
-const OGR2OGR: &str = "ogr2ogr -f GeoJSON -lco RFC7946=NO -lco SIGNIFICANT_FIGURES=17 /vsistdout/";
-
-/// How a format becomes GeoJSON.
+/// How a format is read.
 #[derive(Clone, Copy)]
 enum By {
     /// GDAL reads the file.
     Gdal,
     /// GDAL reads the file behind this prefix.
     GdalBehind(&'static str),
-    /// A command writes it out.
+    /// A command writes it out as GeoJSON.
     Command(&'static str),
 }
 
-/// The bytes that a format begins with, what it is, and how it becomes GeoJSON. The first that
-/// applies counts.
+/// The bytes that a format begins with, what it is, and how it is read. The first that applies counts.
 const FORMATS: [(&[u8], &str, By); 20] = [
     (b"\x1f\x8b", "compressed by gzip", By::Command("gzip -dc")),
     (b"BZh", "compressed by bzip2", By::Command("bzip2 -dc")),
@@ -41,30 +37,28 @@ const FORMATS: [(&[u8], &str, By); 20] = [
     (b"MULTILINESTRING", "WKT", By::Gdal),
 ];
 
-/// What the bytes are and how they become GeoJSON, where they are of another format.
-pub fn told(bytes: &[u8], path: &Path) -> Option<String> {
-    let (what, by) = of(bytes)?;
-    let name = match path == Path::new("-") {
-        true => "FILE".into(),
-        false => quoted(path),
-    };
-    let command = match by {
-        By::Gdal => format!("{OGR2OGR} {name}"),
-        By::GdalBehind(prefix) => format!("{OGR2OGR} {prefix}{name}"),
-        By::Command(command) => format!("{command} {name}"),
-    };
-    Some(format!(
-        "it is {what}, and what is read is GeoJSON; try: {command} | lovasuku join - -o OUT"
-    ))
+/// What a file is that GDAL reads, by the bytes that it begins with, and what GDAL wants before its name.
+pub fn by_gdal(start: &[u8]) -> Option<(&'static str, &'static str)> {
+    match of(start)? {
+        (what, By::Gdal) => Some((what, "")),
+        (what, By::GdalBehind(prefix)) => Some((what, prefix)),
+        (_, By::Command(_)) => None,
+    }
 }
 
-/// What is told of a folder, as file geodatabases are.
-pub fn folder(path: &Path) -> String {
-    let name = quoted(path);
-    format!(
-        "it is a folder, and what is read is GeoJSON; for a file geodatabase try: {OGR2OGR} {name} \
-         LAYER | lovasuku join - -o OUT"
-    )
+/// What the bytes are and how they are read, where they are not GeoJSON.
+pub fn told(bytes: &[u8], path: &Path) -> Option<String> {
+    let (what, by) = of(bytes)?;
+    Some(match by {
+        By::Command(command) => {
+            let name = if path == Path::new("-") { "FILE".into() } else { quoted(path) };
+            let pipe = format!("{command} {name} | lovasuku join - -o OUT");
+            format!("it is {what}, and what is read is GeoJSON; try: {pipe}")
+        }
+        By::Gdal | By::GdalBehind(_) => {
+            format!("it is {what}, which is read by its name; try: lovasuku join FILE -o OUT")
+        }
+    })
 }
 
 fn of(bytes: &[u8]) -> Option<(&'static str, By)> {

@@ -1,7 +1,7 @@
 //! A delivery: the features that a customer hands in, as GeoJSON.
 
 mod feature;
-mod formats;
+pub mod formats;
 mod naming;
 pub mod object;
 mod positions;
@@ -12,11 +12,13 @@ mod text;
 use crate::progress::Progress;
 use anyhow::{anyhow, bail, Result};
 pub use feature::{Feature, Geometry, Heights};
+use lovasuku_chains::Dimension;
 use object::Object;
 pub use positions::Run;
 use rayon::prelude::*;
 pub use sorting::LeftOut;
 use sorting::Sorted;
+use std::borrow::Cow;
 pub use text::text;
 
 /// A point: x and y.
@@ -34,6 +36,8 @@ pub struct Delivery<'a> {
     pub left_out: LeftOut,
     /// What the user has to know about the names of lines.
     pub warnings: Vec<String>,
+    /// What each position has. Those that a position lacks are NaN.
+    pub dimension: Dimension,
 }
 
 /// How a delivery is read.
@@ -59,6 +63,16 @@ impl<'a> Delivery<'a> {
             Geometry::Lines(parts) => parts.iter().any(high),
             Geometry::Other(_) => false,
         })
+    }
+
+    /// The heights among the extras of points, one for each point, or none where they have none.
+    pub fn heights<'e>(&self, extras: &'e [f64]) -> Cow<'e, [f64]> {
+        let stride = self.dimension.extras().max(1);
+        match self.dimension {
+            Dimension::Xy | Dimension::Xyz => extras.into(),
+            Dimension::Xym => Cow::default(),
+            Dimension::Xyzm => extras.iter().step_by(stride).copied().collect(),
+        }
     }
 
     /// The member `crs` of the collection as it is written.
@@ -95,20 +109,33 @@ pub fn read<'a>(text: &'a str, reading: &Reading, progress: &Progress) -> Result
     };
     let read: Vec<Result<Feature, String>> =
         split.features.par_chunks(PART).flat_map_iter(part).collect();
+    let place = |position: usize| place(text, split.features[position], position);
+    let mut delivery = gather(read, reading, place)?;
+    delivery.members = split.members;
+    if delivery.has_heights() {
+        delivery.dimension = Dimension::Xyz;
+    }
+    Ok(delivery)
+}
+
+/// The delivery of features that were read one by one, each in its place.
+pub fn gather<'a>(
+    features: impl IntoIterator<Item = Result<Feature<'a>, String>>,
+    reading: &Reading,
+    place: impl Fn(usize) -> String,
+) -> Result<Delivery<'a>> {
     let mut sorted = Sorted::default();
-    for (position, feature) in read.into_iter().enumerate() {
+    for (position, feature) in features.into_iter().enumerate() {
         let put = feature.and_then(|feature| {
             sorted.put(Feature { position: position as u32, ..feature }, reading)
         });
         if let Err(fault) = put {
-            bail!("{}: {fault}", place(text, split.features[position], position));
+            bail!("{}: {fault}", place(position));
         }
     }
     let Sorted { features, left_out } = sorted;
     let (named_by_ids, warning) = naming::judge(&features, reading.id.as_deref());
-    let mut delivery = Delivery { features, members: split.members, ..Delivery::default() };
-    delivery.named_by_ids = named_by_ids;
-    delivery.left_out = left_out;
+    let mut delivery = Delivery { features, named_by_ids, left_out, ..Delivery::default() };
     delivery.warnings.extend(warning);
     Ok(delivery)
 }
@@ -118,6 +145,11 @@ fn feature<'a>(text: &'a str, reading: &Reading) -> Result<Feature<'a>, String> 
     if reading.heights == Heights::Dropped {
         feature.drop_box();
     }
+    named(feature, reading)
+}
+
+/// The feature, named by the property that was asked for.
+pub fn named<'a>(feature: Feature<'a>, reading: &Reading) -> Result<Feature<'a>, String> {
     match &reading.id {
         // What is no line needs no name.
         Some(property) if !matches!(feature.geometry, Geometry::Other(_)) => {

@@ -13,10 +13,7 @@ pub fn text(path: &Path) -> Result<String> {
         io::stdin().read_to_end(&mut bytes).context("the standard input cannot be read")?;
         bytes
     } else {
-        fs::read(path).map_err(|fault| match path.is_dir() {
-            true => anyhow!(formats::folder(path)),
-            false => anyhow!(fault).context("it cannot be read"),
-        })?
+        fs::read(path).context("it cannot be read")?
     };
     if let Some(format) = formats::told(&bytes, path) {
         bail!(format);

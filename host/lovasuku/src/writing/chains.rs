@@ -70,10 +70,26 @@ impl Chains<'_> {
 
     /// The feature of a chain, and whether a member has a property of a chain's own name.
     fn feature(&self, id: usize, chain: &Chain) -> (Vec<u8>, bool) {
-        let Chains { delivery, measure, keep, own, .. } = self;
+        let Chains { delivery, measure, keep, .. } = self;
         let mut out = b"{\"type\":\"Feature\",\"id\":".to_vec();
         value(&mut out, &id);
-        out.extend(b",\"properties\":{");
+        out.extend(b",\"properties\":");
+        let (properties, clash) = self.properties(chain);
+        out.extend(properties);
+        out.extend(b",\"geometry\":");
+        geometry(&mut out, delivery, chain);
+        for (name, text) in keep.foreign(delivery, measure, chain).iter() {
+            entry(&mut out, name, text);
+        }
+        out.push(b'}');
+        (out, clash)
+    }
+
+    /// The properties of a chain as an object of JSON, and whether a member has one of a chain's own
+    /// name. They are those of GeoJSON and the fields of a store alike.
+    pub fn properties(&self, chain: &Chain) -> (Vec<u8>, bool) {
+        let Chains { delivery, measure, keep, own, .. } = self;
+        let mut out = b"{".to_vec();
         for (k, name) in own.iter().enumerate() {
             if k > 0 {
                 out.push(b',');
@@ -95,11 +111,6 @@ impl Chains<'_> {
         for (name, text) in &properties {
             entry(&mut out, name, text);
         }
-        out.extend(b"},\"geometry\":");
-        geometry(&mut out, delivery, chain);
-        for (name, text) in keep.foreign(delivery, measure, chain).iter() {
-            entry(&mut out, name, text);
-        }
         out.push(b'}');
         (out, clash)
     }
@@ -111,25 +122,26 @@ fn geometry(out: &mut Vec<u8>, delivery: &Delivery, chain: &Chain) {
     match (&chain.points, alone) {
         (Some(points), _) => {
             out.extend(b"{\"type\":\"LineString\",\"coordinates\":");
-            run(out, points, &chain.extras);
+            run(out, points, &delivery.heights(&chain.extras));
         }
         (None, Some(Geometry::Line(line))) => {
             out.extend(b"{\"type\":\"LineString\",\"coordinates\":");
-            run(out, &line.points, &line.heights);
+            run(out, &line.points, &delivery.heights(&line.heights));
         }
         (None, Some(Geometry::Lines(parts))) => {
             out.extend(b"{\"type\":\"MultiLineString\",\"coordinates\":");
-            list(out, parts, |out, part| run(out, &part.points, &part.heights));
+            list(out, parts, |out, part| run(out, &part.points, &delivery.heights(&part.heights)));
         }
         (None, None | Some(Geometry::Other(_))) => return out.extend(b"null"),
     }
     out.push(b'}');
 }
 
-/// Writes positions with their heights. One without a height, for which NaN stands, is x and y alone.
+/// Writes positions with their heights. One without a height, for which NaN stands, is x and y alone;
+/// and so is one whose height is infinite, which JSON has no number for.
 fn run(out: &mut Vec<u8>, points: &[Point], heights: &[f64]) {
     list(out, points.iter().enumerate(), |out, (k, &[x, y])| match heights.get(k) {
-        Some(&height) if !height.is_nan() => list(out, [x, y, height], number),
+        Some(&height) if height.is_finite() => list(out, [x, y, height], number),
         _ => position(out, &[x, y]),
     });
 }

@@ -2,16 +2,27 @@
 
 use super::parts::Parts;
 use super::places::Place;
-use anyhow::{anyhow, Context, Result};
+use crate::store::shown;
+use anyhow::{anyhow, bail, Context, Result};
 use std::fs::OpenOptions;
 use std::io::{self, Write};
 use std::path::{Path, PathBuf};
 
-/// A text and where it goes.
-#[derive(Debug)]
-pub struct Output {
+/// What is written, and where it goes.
+pub struct Output<'a> {
     pub target: Target,
-    pub text: Vec<u8>,
+    pub content: Content<'a>,
+}
+
+/// What is written to a place.
+pub enum Content<'a> {
+    Text(Vec<u8>),
+    /// A store, written by GDAL under the name that it is told, with what there is to warn of.
+    Store {
+        write: Box<dyn Fn(&str) -> Result<Vec<String>> + 'a>,
+        /// The endings of files beside it that are of it alone.
+        beside: &'static [&'static str],
+    },
 }
 
 /// The path of an output as it was asked for, and the place that it leads to.
@@ -28,44 +39,73 @@ impl Target {
         place.may_be_written().with_context(|| fault(path))?;
         Ok(Target { path: path.to_owned(), place })
     }
+
+    /// True for a file and for a database, into which stores are written.
+    pub fn takes_stores(&self) -> bool {
+        matches!(self.place, Place::File(_) | Place::Database(_))
+    }
 }
 
-/// Puts all outputs in their places. Files are written beside their places first, so that none is
-/// changed where one cannot be written.
-pub fn put(outputs: &[Output]) -> Result<()> {
+/// Puts all outputs in their places, and tells what there is to warn of. Files are written beside their
+/// places first, so that none is changed where one cannot be written.
+pub fn put(outputs: &[Output]) -> Result<Vec<String>> {
+    let mut warnings = Vec::new();
     let parts = Parts::begin().context("signals cannot be heeded")?;
-    for Output { target, text } in outputs {
+    for Output { target, content } in outputs {
         if let Place::File(place) = &target.place {
-            let written = parts.open(place).and_then(|mut part| {
-                part.write_all(text)?;
-                part.sync_all()
-            });
+            let written = match content {
+                Content::Text(text) => parts.write(place, text).map_err(Into::into),
+                Content::Store { write, beside } => {
+                    stored(&parts, place, write, beside).map(|told| warnings.extend(told))
+                }
+            };
             written.with_context(|| fault(&target.path))?;
         }
     }
     for output in outputs {
-        write_through(output).with_context(|| fault(&output.target.path))?;
+        let told = write_through(output).with_context(|| fault(&output.target.path))?;
+        warnings.extend(told);
     }
-    parts.put().map_err(|(place, error)| anyhow!(error).context(fault(&place)))
+    parts.put().map_err(|(place, error)| anyhow!(error).context(fault(&place)))?;
+    Ok(warnings)
+}
+
+/// Writes a store, of one file or more, in a folder of its own.
+fn stored(
+    parts: &Parts,
+    place: &Path,
+    write: &dyn Fn(&str) -> Result<Vec<String>>,
+    beside: &[&str],
+) -> Result<Vec<String>> {
+    let path = parts.folder(place)?;
+    let told = write(path.to_str().context("its name is not UTF-8")?)?;
+    parts.gather(&path, place, beside)?;
+    Ok(told)
 }
 
 fn fault(path: &Path) -> String {
     match path == Path::new("-") {
         true => "the standard output cannot be written".into(),
-        false => format!("{} cannot be written", path.display()),
+        false => format!("{} cannot be written", shown(path)),
     }
 }
 
 /// Writes what is no file by itself. What is open already goes on where it stands.
-fn write_through(Output { target, text }: &Output) -> io::Result<()> {
-    match &target.place {
-        Place::File(_) => Ok(()),
-        Place::Out => {
+fn write_through(Output { target, content }: &Output) -> Result<Vec<String>> {
+    match (&target.place, content) {
+        (Place::File(_), _) => (),
+        (Place::Database(name), Content::Store { write, .. }) => return write(name),
+        (Place::Out, Content::Text(text)) => {
             let mut out = io::stdout().lock();
             out.write_all(text)?;
-            out.flush()
+            out.flush()?;
         }
-        Place::Err => io::stderr().write_all(text),
-        Place::Through(path) => OpenOptions::new().append(true).open(path)?.write_all(text),
+        (Place::Err, Content::Text(text)) => io::stderr().write_all(text)?,
+        (Place::Through(path), Content::Text(text)) => {
+            OpenOptions::new().append(true).open(path)?.write_all(text)?;
+        }
+        (_, Content::Store { .. }) => bail!("a store is written to a file or into a database"),
+        (Place::Database(_), Content::Text(_)) => bail!("a database takes layers alone"),
     }
+    Ok(Vec::new())
 }

@@ -25,7 +25,8 @@ impl Format {
 
     /// The format of a name.
     pub fn of(name: &str) -> Option<Self> {
-        Format::NAMES.into_iter().find(|(each, _)| *each == name).map(|(_, format)| format)
+        let named = |(each, _): &(&str, Format)| each.eq_ignore_ascii_case(name);
+        Format::NAMES.into_iter().find(named).map(|(_, format)| format)
     }
 
     /// The format that was asked for, or else the one of the ending of a path.

@@ -11,7 +11,7 @@ mod places;
 use crate::delivery::Point;
 pub use bridges::Bridges;
 pub use chains::{own_names, Chains};
-pub use files::{put, Output, Target};
+pub use files::{put, Content, Output, Target};
 pub use format::Format;
 pub use keep::Keep;
 pub use places::apart;

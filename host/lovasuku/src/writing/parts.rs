@@ -5,16 +5,22 @@ use signal_hook::consts::{SIGHUP, SIGINT, SIGTERM};
 use signal_hook::iterator::Signals;
 use signal_hook::low_level::emulate_default_handler;
 use std::fs::{self, File, OpenOptions};
-use std::io;
+use std::io::{self, Write};
 use std::path::{Path, PathBuf};
 use std::sync::{Mutex, MutexGuard, PoisonError};
 use std::thread;
-use tempfile::TempPath;
+use tempfile::{TempDir, TempPath};
 
-/// A part and its place.
-struct Part {
-    file: TempPath,
-    place: PathBuf,
+/// What waits beside its place.
+enum Part {
+    File {
+        file: TempPath,
+        place: PathBuf,
+    },
+    /// A folder that files are made in, and that nothing is left of.
+    Folder(TempDir),
+    /// A file that belongs to what is replaced.
+    Stale(PathBuf),
 }
 
 /// All parts that wait for being put in their places. Who holds the lock makes parts, puts them, or
@@ -43,26 +49,80 @@ impl Parts {
         Ok(Parts(()))
     }
 
-    /// An empty part for a place, of the mode that the place has.
-    pub fn open(&self, place: &Path) -> io::Result<File> {
-        let name = place.file_name().ok_or(io::ErrorKind::InvalidInput)?.to_string_lossy();
-        let path = place.with_file_name(format!(".{name}.{}.part", std::process::id()));
+    /// A part for a place, of the mode that the place has.
+    pub fn write(&self, place: &Path, text: &[u8]) -> io::Result<()> {
+        let path = beside(place)?;
         let mut parts = waiting();
-        let file = OpenOptions::new().write(true).create_new(true).open(&path)?;
-        parts.push(Part { file: TempPath::from_path(path), place: place.to_owned() });
+        let mut file = OpenOptions::new().write(true).create_new(true).open(&path)?;
+        parts.push(Part::File { file: TempPath::from_path(path), place: place.to_owned() });
+        drop(parts);
         if let Ok(about) = fs::metadata(place) {
             file.set_permissions(about.permissions())?;
         }
-        Ok(file)
+        file.write_all(text)?;
+        file.sync_all()
+    }
+
+    /// A folder beside a place, and the path in it under the name of the place.
+    pub fn folder(&self, place: &Path) -> io::Result<PathBuf> {
+        let path = beside(place)?;
+        let (folder, name) = (path.parent(), path.file_name());
+        let (folder, name) = folder.zip(name).ok_or(io::ErrorKind::InvalidInput)?;
+        let mut parts = waiting();
+        let made = tempfile::Builder::new().prefix(name).rand_bytes(0).tempdir_in(folder)?;
+        let path = made.path().join(place.file_name().ok_or(io::ErrorKind::InvalidInput)?);
+        parts.push(Part::Folder(made));
+        Ok(path)
+    }
+
+    /// Takes all that was made in a folder for a place. Files beside the place with these endings are
+    /// taken away if they were not made anew.
+    pub fn gather(&self, path: &Path, place: &Path, endings: &[&str]) -> io::Result<()> {
+        let (from, to) = path.parent().zip(place.parent()).ok_or(io::ErrorKind::InvalidInput)?;
+        if !path.exists() {
+            return Err(io::Error::new(io::ErrorKind::Other, "this format makes no such file"));
+        }
+        let mut parts = waiting();
+        for entry in fs::read_dir(from)? {
+            let (file, place) = entry.map(|entry| (entry.path(), to.join(entry.file_name())))?;
+            if let Ok(about) = fs::metadata(&place) {
+                fs::set_permissions(&file, about.permissions())?;
+            }
+            File::open(&file)?.sync_all()?;
+            parts.push(Part::File { file: TempPath::from_path(file), place });
+        }
+        let made = |ending: &str| path.with_extension(ending).exists();
+        let stale = endings.iter().filter(|ending| !made(ending));
+        parts.extend(stale.map(|ending| Part::Stale(place.with_extension(ending))));
+        Ok(())
     }
 
     /// Puts all parts in their places, or tells the place that one cannot be put in.
     pub fn put(self) -> Result<(), (PathBuf, io::Error)> {
-        for Part { file, place } in waiting().drain(..) {
-            file.persist(&place).map_err(|fault| (place, fault.error))?;
+        let (mut parts, mut folders) = (waiting(), Vec::new());
+        for part in parts.drain(..) {
+            match part {
+                Part::File { file, place } => {
+                    file.persist(&place).map_err(|fault| (place, fault.error))?;
+                }
+                Part::Stale(place) => match fs::remove_file(&place) {
+                    Err(fault) if fault.kind() != io::ErrorKind::NotFound => {
+                        return Err((place, fault))
+                    }
+                    _ => (),
+                },
+                // What was made in a folder may still have to be put in its place.
+                Part::Folder(folder) => folders.push(folder),
+            }
         }
         Ok(())
     }
+}
+
+/// The path of a part beside its place.
+fn beside(place: &Path) -> io::Result<PathBuf> {
+    let name = place.file_name().ok_or(io::ErrorKind::InvalidInput)?.to_string_lossy();
+    Ok(place.with_file_name(format!(".{name}.{}.part", std::process::id())))
 }
 
 impl Drop for Parts {

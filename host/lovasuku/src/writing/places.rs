@@ -1,5 +1,6 @@
 //! Where outputs go: what a path leads to, and that no two paths lead to the same.
 
+use crate::store::is_database;
 use anyhow::{ensure, Context, Result};
 use std::fs::{self, Metadata, OpenOptions};
 use std::io;
@@ -15,6 +16,8 @@ pub enum Place {
     Err,
     /// A pipe, a device or a file that is open already: it is written through.
     Through(PathBuf),
+    /// A database, by the name that GDAL knows it by.
+    Database(String),
     /// A regular file, or none yet: its name in the folder that holds it, with all links followed.
     File(PathBuf),
 }
@@ -27,6 +30,9 @@ impl Place {
     pub fn of(path: &Path) -> io::Result<Self> {
         if path == Path::new("-") {
             return Ok(Place::Out);
+        }
+        if let Some(name) = path.to_str().filter(|name| is_database(name)) {
+            return Ok(Place::Database(name.to_owned()));
         }
         let file = resolved(path)?;
         // What the command has open has a path there. To open it again would begin at its first byte.
@@ -62,9 +68,11 @@ impl Place {
         Ok(())
     }
 
-    /// What tells it from others. The null device, which all may have in common, has nothing.
+    /// What tells it from others. The null device and a database, which all may have in common, have
+    /// nothing.
     fn identity(&self) -> Option<Identity> {
         let path = match self {
+            Place::Database(_) => return None,
             Place::Out => Path::new("/dev/stdout"),
             Place::Err => Path::new("/dev/stderr"),
             Place::Through(path) | Place::File(path) => path,

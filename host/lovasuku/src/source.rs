@@ -1,0 +1,83 @@
+//! Where a delivery is read from: a text of GeoJSON, or a layer of a store.
+
+use crate::arguments::Request;
+use crate::delivery::{self, formats, Delivery};
+use crate::progress::Progress;
+use crate::store::{self, About, Dataset, Rows};
+use anyhow::{ensure, Context, Result};
+use std::fs::File;
+use std::io::Read;
+use std::path::Path;
+
+/// A delivery that was read from its source, but for what its texts say.
+pub enum Source {
+    /// GeoJSON.
+    Text,
+    /// The rows of a layer.
+    Layer(Box<Rows>),
+}
+
+/// How much of a file tells what it is.
+const START: u64 = 512;
+
+impl Source {
+    /// Reads the input of a request into a text: GeoJSON as it is, or the ids and properties of a
+    /// layer.
+    pub fn read(request: &Request, progress: &Progress) -> Result<(Self, String)> {
+        let (name, what) = match store_of(request)? {
+            None => return Ok((Source::Text, delivery::text(&request.input)?)),
+            Some(store) => store,
+        };
+        let opened = Dataset::open(&name, false);
+        let dataset = match what {
+            Some(what) => opened.with_context(|| format!("it is {what}, which GDAL reads"))?,
+            None => opened?,
+        };
+        let mut text = Vec::new();
+        let heights = request.reading.heights;
+        let rows = store::read(&dataset, &request.store, heights, &mut text, progress)?;
+        let text = String::from_utf8(text).context("its texts are not UTF-8")?;
+        Ok((Source::Layer(Box::new(rows)), text))
+    }
+
+    /// The delivery that the text is of, and what its layer is where it is one.
+    pub fn delivery<'a>(
+        self,
+        text: &'a str,
+        request: &Request,
+        progress: &Progress,
+    ) -> Result<(Delivery<'a>, Option<About>)> {
+        match self {
+            Source::Text => Ok((delivery::read(text, &request.reading, progress)?, None)),
+            Source::Layer(rows) => rows
+                .delivery(text, &request.reading)
+                .map(|(delivery, about)| (delivery, Some(about))),
+        }
+    }
+}
+
+/// The name by which GDAL knows the input, where it is to be read from a store, and what it is, where its
+/// first bytes tell that.
+fn store_of(request: &Request) -> Result<Option<(String, Option<&'static str>)>> {
+    let (path, asked) = (&request.input, !request.store.is_nothing());
+    if path == Path::new("-") {
+        ensure!(!asked, "--layer, --sql, --where and --geometry are for files and databases");
+        return Ok(None);
+    }
+    let name = path.to_str().context("its name is not UTF-8")?;
+    if store::is_connection(name) {
+        return Ok(Some((name.to_owned(), None)));
+    }
+    if path.is_dir() {
+        return Ok(Some((name.to_owned(), Some("a folder"))));
+    }
+    let mut start = Vec::new();
+    // A pipe is read once, and what is read from it here would be missed.
+    if let (true, Ok(file)) = (path.is_file(), File::open(path)) {
+        file.take(START).read_to_end(&mut start).context("it cannot be read")?;
+    }
+    Ok(match formats::by_gdal(&start) {
+        Some((what, prefix)) => Some((format!("{prefix}{name}"), Some(what))),
+        None => asked.then(|| (name.to_owned(), None)),
+    })
+}

@@ -1,0 +1,207 @@
+//! Chains and bridges as layers of stores.
+
+use crate::arguments::Request;
+use crate::delivery::object::Object;
+use crate::delivery::{Delivery, Feature as Read, Geometry, Heights};
+use crate::joining::Chain;
+use crate::measure::Measure;
+use crate::outcome::{told_of_clashes, Outcome};
+use crate::progress::Progress;
+use crate::store::{
+    driver_name, is_database, shown, About, Drawn, Feature, Kinds, Reference, Sheet, Store,
+};
+use crate::writing::{Content, Target};
+use anyhow::{ensure, Context, Result};
+use lovasuku_chains::Dimension;
+use rayon::prelude::*;
+
+/// The name, behind the prefix, of the field that tells which chain a feature is.
+const CHAIN: &str = "chain";
+
+/// What the values of a chain's own fields are: its id, its members, its path, its count, whether it is a
+/// loop, and its parts where it has such.
+const OWN: [Kinds; 6] = [
+    Kinds::WHOLE_NUMBERS,
+    Kinds::LISTS,
+    Kinds::OTHERS,
+    Kinds::WHOLE_NUMBERS,
+    Kinds::TRUTHS,
+    Kinds::LISTS_OF_WHOLE_NUMBERS,
+];
+
+/// The fields of bridges and gaps, and what their values are.
+const OF_BRIDGES: [(&str, Kinds); 8] = [
+    ("kind", Kinds::TEXTS),
+    ("lines", Kinds::LISTS),
+    ("length", Kinds::NUMBERS),
+    ("unit", Kinds::TEXTS),
+    ("longer", Kinds::TRUTHS),
+    ("chain", Kinds::WHOLE_NUMBERS),
+    ("why", Kinds::TEXTS),
+    ("chains", Kinds::LISTS_OF_WHOLE_NUMBERS),
+];
+
+/// The store that an output is, if it is one, with the name that its layer has in a database.
+pub fn store(request: &Request, target: &Target, layer: &str) -> Result<Option<Store>> {
+    if request.format.is_some() {
+        return Ok(None);
+    }
+    let of = || match driver_name(&target.path, request.driver.as_deref())? {
+        Some(driver) => {
+            ensure!(target.takes_stores(), "a store is written to a file or into a database");
+            Store::of(&target.path, &driver, layer).map(Some)
+        }
+        None => Ok(None),
+    };
+    of().with_context(|| format!("{} cannot be written", shown(&target.path)))
+}
+
+/// The reference system of GeoJSON, where GDAL knows it, or what there is to warn of.
+pub fn reference(delivery: &Delivery, measure: &Measure) -> (Option<Reference>, Option<String>) {
+    let crs = delivery.crs().and_then(|crs| serde_json::from_str(crs).ok());
+    let name = crs.and_then(|crs: serde_json::Value| {
+        crs.pointer("/properties/name").and_then(|name| name.as_str().map(str::to_owned))
+    });
+    let known = match &name {
+        None if measure.degrees => Reference::of(DEGREES),
+        None => return (None, None),
+        Some(name) if name.contains("CRS84") => Reference::of(DEGREES),
+        Some(name) => Reference::of(name),
+    };
+    match known {
+        Ok(reference) => (Some(reference), None),
+        Err(fault) => {
+            let name = name.unwrap_or_default();
+            (None, Some(format!("the crs {name} is left out of stores: {fault:#}")))
+        }
+    }
+}
+
+/// What there is to warn of where a layer becomes GeoJSON, which has no place for measures and names
+/// reference systems by their codes.
+pub fn lost_in_geojson(layer: Option<&About>, dimension: Dimension) -> Vec<String> {
+    let mut lost = Vec::new();
+    if matches!(dimension, Dimension::Xym | Dimension::Xyzm) {
+        lost.push("GeoJSON has no place for measures: they are left out".into());
+    }
+    let reference = layer.and_then(|layer| layer.reference.as_ref());
+    if let Some(reference) = reference.filter(|reference| reference.authority().is_none()) {
+        let name = reference.name();
+        lost.push(format!(
+            "the crs {name:?} has no code for GeoJSON to name it by: it is left out"
+        ));
+    }
+    lost
+}
+
+/// Longitude and latitude, in this order: what GeoJSON has where it names nothing else.
+const DEGREES: &str = "EPSG:4326";
+
+/// The geometry of a chain: its points, or those of its only line as they were.
+fn drawn<'a>(delivery: &'a Delivery, chain: &'a Chain) -> Drawn<'a> {
+    let alone = chain.members.first().map(|&line| &delivery.features[line as usize].geometry);
+    match (&chain.points, alone) {
+        (Some(points), _) => Drawn::Line(points.into(), (&chain.extras).into()),
+        (None, Some(Geometry::Line(run))) => {
+            Drawn::Line((&run.points).into(), (&run.heights).into())
+        }
+        (None, Some(Geometry::Lines(parts))) => Drawn::Lines(parts),
+        (None, None | Some(Geometry::Other(_))) => Drawn::Lines(&[]),
+    }
+}
+
+/// The properties of a chain with its id under a name, and whether they had that name before.
+fn with_id(mut properties: String, name: &str, id: usize) -> (String, bool) {
+    let entry = format!("{}:", serde_json::Value::from(name));
+    let has = |all: Object| all.get(name).is_some();
+    // What looks like the name may stand within a text, too.
+    let clash = properties.contains(&entry) && Object::of(&properties).map_or(false, has);
+    properties.pop();
+    properties += &format!(",{entry}{id}}}");
+    (properties, clash)
+}
+
+impl Outcome<'_> {
+    /// The chains as a layer, each with the properties that GeoJSON has and with its id, which not all
+    /// formats keep.
+    pub fn stored_chains<'o>(
+        &'o self,
+        store: &'o Store,
+        warnings: &mut Vec<String>,
+        progress: &'o Progress,
+    ) -> Content<'o> {
+        progress.begin("writing", self.chains.len());
+        let (writer, name) = (self.writer(), format!("{}{CHAIN}", self.request.prefix));
+        let feature = |(id, chain): (usize, &'o Chain)| {
+            let (text, clash) = writer.properties(chain);
+            let (properties, more) = with_id(text_of(&text), &name, id);
+            (Feature { id, properties, drawn: drawn(self.delivery, chain) }, clash || more)
+        };
+        let chains = self.chains.par_iter().enumerate().filter(|(_, chain)| chain.in_window);
+        let all: Vec<(Feature, bool)> = chains.map(feature).collect();
+        let clashes = all.iter().filter(|(_, clash)| *clash).count();
+        let own: Vec<String> = [name].into_iter().chain(writer.own).collect();
+        warnings.extend(told_of_clashes(clashes, &own));
+        let fields = self.layer.map_or(&[][..], |layer| &layer.fields);
+        let others = fields.iter().map(|field| &field.name).filter(|name| !own.contains(name));
+        let others = others.cloned().map(|name| (name, Kinds::default()));
+        let first = own.iter().cloned().zip(OWN).chain(others).collect();
+        let features = all.into_iter().map(|(feature, _)| feature).collect();
+        self.content(store, "chain", features, first, self.delivery.dimension, progress)
+    }
+
+    /// The bridges and the gaps as a layer.
+    pub fn stored_bridges<'o>(&'o self, store: &'o Store, progress: &'o Progress) -> Content<'o> {
+        let feature = |(id, text): (usize, Vec<u8>)| {
+            let text = text_of(&text);
+            let read = Read::of(&text, Heights::Dropped).ok()?;
+            let properties = read.properties.unwrap_or("{}").to_owned();
+            match read.geometry {
+                Geometry::Line(run) => {
+                    let drawn = Drawn::Line(run.points.into(), run.heights.into());
+                    Some(Feature { id, properties, drawn })
+                }
+                Geometry::Lines(_) | Geometry::Other(_) => None,
+            }
+        };
+        let all = self.bridge_features().into_iter().enumerate();
+        let features = all.filter_map(feature).collect();
+        let first = OF_BRIDGES.map(|(name, kinds)| (name.to_owned(), kinds)).into();
+        self.content(store, "bridge", features, first, Dimension::Xy, progress)
+    }
+
+    fn content<'o>(
+        &'o self,
+        store: &'o Store,
+        each: &'static str,
+        features: Vec<Feature<'o>>,
+        first: Vec<(String, Kinds)>,
+        dimension: Dimension,
+        progress: &'o Progress,
+    ) -> Content<'o> {
+        let sheet = Sheet {
+            driver: store.driver,
+            name: &store.layer,
+            features,
+            each,
+            dimension,
+            reference: self.reference,
+            geometry: self.layer.map(|layer| &layer.geometry[..]).filter(|name| !name.is_empty()),
+            first,
+            input: self.layer.map_or(&[], |layer| &layer.fields),
+            ids: store.ids,
+            longest: store.longest,
+            options: store.options,
+        };
+        let write = move |name: &str| match is_database(name) {
+            true => sheet.insert(name, progress),
+            false => sheet.create(name, progress),
+        };
+        Content::Store { write: Box::new(write), beside: store.beside }
+    }
+}
+
+/// A text that was written by this command.
+fn text_of(bytes: &[u8]) -> String {
+    String::from_utf8_lossy(bytes).into_owned()
+}
