@@ -145,6 +145,8 @@ finishing =
     (0 ∷ 1 ∷ 0 ∷ 2 ∷ 2 ∷ 0 ∷ 1 ∷ 1 ∷ 0 ∷ 0 ∷ 2 ∷ 0 ∷ 2 ∷ 1 ∷ 0 ∷ 4 ∷ 2 ∷ 0 ∷ [])
     && same (finishedOf 2 alike (apart (0 ∷ 1 ∷ 0 ∷ 2 ∷ 2 ∷ 1 ∷ 1 ∷ 0 ∷ 0 ∷ 2 ∷ []) (1 ∷ 0 ∷ []) (1 ∷ 0 ∷ [])) (by +1 (float +0)) .records)
     (0 ∷ 2 ∷ 1 ∷ 0 ∷ 3 ∷ 0 ∷ 2 ∷ 1 ∷ 0 ∷ 4 ∷ 2 ∷ 0 ∷ [])
+    -- with the marks that are lent, which count the first round's turns
+    && same (finishedOf 2 alike (lentPieces joined both (1 ∷ 0 ∷ []) both whole 1) (by +0 (float +0)) .marks) (1 ∷ 0 ∷ 0 ∷ [])
 
 pub finishes : T finishing
 unfolding finishing lt eq le sub div ofBits
