@@ -8,7 +8,7 @@ use Rattle.rules.specs.Plane.{Point, float}
 use Rattle.rules.specs.Boxes.{lesser, greater, union, spot, grown, boxOf}
 use Rattle.float_order.proofs.Order.{finite-num}
 use Rattle.chain_laws.proofs.Counts.{cons}
-use Rattle.box_laws.specs.Sound.{Place, Places}
+use Rattle.box_laws.specs.Sound.{BoxPlace, Places}
 use Rattle.box_laws.proofs.Picks.{Numbers, Earliest, best, best-is, below, above, below-order, above-order, not-self}
 use Rattle.box_laws.proofs.Unions.{box-first}
 

@@ -7,14 +7,14 @@ use lib.Ieee.Scale.{finite}
 use Rattle.rules.specs.Plane.{Point, float}
 use Rattle.rules.specs.Refusals.{nowhere, anyNowhere}
 use Rattle.chain_laws.proofs.Counts.{nil, cons}
-use Rattle.box_laws.specs.Sound.{Place, Places}
+use Rattle.box_laws.specs.Sound.{BoxPlace, Places}
 
 both : (a b : Bool) → not (a && b) ≡ false → T a × T b
 both true true e = (tt, tt)
 both true false e = absurd (true≢false e)
 both false b e = absurd (true≢false e)
 
-somewhere : (p : Point) → nowhere p ≡ false → Place p
+somewhere : (p : Point) → nowhere p ≡ false → BoxPlace p
 unfolding nowhere
 somewhere p e = let r = both (finite (float (p .x))) (finite (float (p .y))) e in record { across = r .0; up = r .1 }
 

@@ -17,7 +17,7 @@ use Rattle.rules.specs.Plane.{Point}
 use Rattle.rules.specs.Boxes.{grown, boxOf, inPairs, levels, stacked, boxNumbers, boxAt}
 use Rattle.rules.specs.Windows.{meets, shown, shownUp, seen, inWindow}
 use Rattle.chain_laws.proofs.Counts.{Each, each-map, each-weak}
-use Rattle.box_laws.specs.Sound.{Places, Sound, Sounds}
+use Rattle.box_laws.specs.Sound.{Places, BoxSound, Sounds}
 use Rattle.box_laws.specs.Rows.{row, nth}
 use Rattle.box_laws.proofs.Runs.{keep-same}
 use Rattle.box_laws.proofs.Above.{up-top, up-more}
@@ -97,7 +97,7 @@ pub plain : (w : Window) (ls : List (List Point)) (rest : List ℕ) → Each Pla
     → inWindow w (boxNumbers (stacked (map boxOf ls)) ++ rest) (length ls) ≡ keep (λ j. meets w (boxOf (getD ls j []))) (upto (length ls))
 plain w ls rest t =
     ap (inWindow w (boxNumbers (stacked (map boxOf ls)) ++ rest)) (sym size)
-    ∙ stacked-plain w (map boxOf ls) rest (each-map boxOf Sound ls (each-weak Places (λ l. Sound (boxOf l)) ls box-sound t))
+    ∙ stacked-plain w (map boxOf ls) rest (each-map boxOf BoxSound ls (each-weak Places (λ l. BoxSound (boxOf l)) ls box-sound t))
     ∙ ap (λ (n : ℕ). keep (λ i. meets w (nth (map boxOf ls) i)) (upto n)) size
     ∙ keep-same (λ i. meets w (nth (map boxOf ls) i)) (λ j. meets w (boxOf (getD ls j []))) (length ls) (λ i h. ap (meets w) (nth-box ls i))
   where

@@ -16,7 +16,7 @@ use Rattle.rules.specs.Boxes.{lesser, greater, union, spot, empty, grown, boxOf
 use Rattle.rules.specs.Windows.{overlap, meets}
 use Rattle.float_order.proofs.Order.{bool-ext, trans, refl-le, finite-num, or-l, or-r, or-split}
 use Rattle.chain_laws.proofs.Counts.{nil, cons}
-use Rattle.box_laws.specs.Sound.{Number, Place, Places, Sound}
+use Rattle.box_laws.specs.Sound.{Number, BoxPlace, Places, BoxSound}
 use Rattle.box_laws.specs.Spans.{spans}
 use Rattle.box_laws.proofs.Wider.{lesser-left, lesser-right, greater-left, greater-right}
 use Rattle.box_laws.proofs.Unions.{box-first, union-sound, spot-sound, box-sound}
@@ -67,10 +67,10 @@ pub record Side : Type 0 where
   pub own : Point → ℕ
   pub test : ℕ → Bool
   pub of-spot : (p : Point) → get (spot p) ≡ own p
-  pub of-both : (b : Box) (p : Point) → Sound b → Place p → test (get (union b (spot p))) ≡ (test (get b) || test (own p))
+  pub of-both : (b : Box) (p : Point) → BoxSound b → BoxPlace p → test (get (union b (spot p))) ≡ (test (get b) || test (own p))
 
 -- a box grown by points passes where it does or one of them does
-grown-any : (s : Side) (b : Box) (l : List Point) → Sound b → Places l → s .test (s .get (grown b l)) ≡ (s .test (s .get b) || anyOf (λ p. s .test (s .own p)) l)
+grown-any : (s : Side) (b : Box) (l : List Point) → BoxSound b → Places l → s .test (s .get (grown b l)) ≡ (s .test (s .get b) || anyOf (λ p. s .test (s .own p)) l)
 unfolding grown anyOf
 grown-any s b [] h nil = or-none (s .test (s .get b))
   where
@@ -147,21 +147,21 @@ module _ (p : Point) (l : List Point) (t : Places (p ∷ l)) where
   self : (a : ℕ) → Number a → le (float a) (float a) ≡ true
   self a n = is-true (le (float a) (float a)) (refl-le (float a) n)
 
-  between-x : Place p → le (float (b .«least_x»)) (float (b .«greatest_x»)) ≡ true
+  between-x : BoxPlace p → le (float (b .«least_x»)) (float (b .«greatest_x»)) ≡ true
   unfolding least-x greatest-x
   between-x k =
       let n = self (p .x) (finite-num (float (p .x)) (k .across)) in
       is-true (le (float (b .«least_x»)) (float (b .«greatest_x»)))
       (trans (float (b .«least_x»)) (float (p .x)) (float (b .«greatest_x»)) (passes (least-x (float (p .x))) n) (passes (greatest-x (float (p .x))) n))
 
-  between-y : Place p → le (float (b .«least_y»)) (float (b .«greatest_y»)) ≡ true
+  between-y : BoxPlace p → le (float (b .«least_y»)) (float (b .«greatest_y»)) ≡ true
   unfolding least-y greatest-y
   between-y k =
       let n = self (p .y) (finite-num (float (p .y)) (k .up)) in
       is-true (le (float (b .«least_y»)) (float (b .«greatest_y»)))
       (trans (float (b .«least_y»)) (float (p .y)) (float (b .«greatest_y»)) (passes (least-y (float (p .y))) n) (passes (greatest-y (float (p .y))) n))
 
-  meets-some : (w : Window) → Place p → meets w b ≡ spans w (p ∷ l)
+  meets-some : (w : Window) → BoxPlace p → meets w b ≡ spans w (p ∷ l)
   unfolding meets overlap spans least-x least-y greatest-x greatest-y
   meets-some w k =
       ap₂ _&&_

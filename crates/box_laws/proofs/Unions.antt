@@ -9,12 +9,12 @@ use Rattle.rules.specs.Plane.{Point, float}
 use Rattle.rules.specs.Boxes.{lesser, greater, union, empty, spot, grown, boxOf}
 use Rattle.float_order.proofs.Order.{finite-num}
 use Rattle.chain_laws.proofs.Counts.{nil, cons, each-append}
-use Rattle.box_laws.specs.Sound.{Place, Places, Sound}
+use Rattle.box_laws.specs.Sound.{BoxPlace, Places, BoxSound}
 use Rattle.box_laws.proofs.Picks.{pick-number, pick-self, pick-assoc, below, above, below-order, above-order, under-top, over-bottom, top-last, bottom-last}
 
 -- ---- boxes without a NaN
 
-pub union-sound : {a b : Box} → Sound a → Sound b → Sound (union a b)
+pub union-sound : {a b : Box} → BoxSound a → BoxSound b → BoxSound (union a b)
 unfolding union lesser greater
 union-sound {a} {b} p q = record {
   low-x = pick-number below (a .«least_x») (b .«least_x») (p .low-x) (q .low-x);
@@ -23,29 +23,29 @@ union-sound {a} {b} p q = record {
   high-y = pick-number above (a .«greatest_y») (b .«greatest_y») (p .high-y) (q .high-y);
 }
 
-pub spot-sound : {p : Point} → Place p → Sound (spot p)
+pub spot-sound : {p : Point} → BoxPlace p → BoxSound (spot p)
 spot-sound {p} h =
     let nx = finite-num (float (p .x)) (h .across) in
     let ny = finite-num (float (p .y)) (h .up) in
     record { low-x = nx; low-y = ny; high-x = nx; high-y = ny }
 
-pub empty-sound : Sound empty
+pub empty-sound : BoxSound empty
 unfolding isNan ofBits
 empty-sound = record { low-x = tt; low-y = tt; high-x = tt; high-y = tt }
 
-grown-sound : (b : Box) (l : List Point) → Sound b → Places l → Sound (grown b l)
+grown-sound : (b : Box) (l : List Point) → BoxSound b → Places l → BoxSound (grown b l)
 unfolding grown
 grown-sound b [] s nil = s
 grown-sound b (p ∷ l) s (cons h t) = grown-sound (union b (spot p)) l (union-sound s (spot-sound h)) t
 
 -- the box of places, or of no points
-pub box-sound : (l : List Point) → Places l → Sound (boxOf l)
+pub box-sound : (l : List Point) → Places l → BoxSound (boxOf l)
 unfolding boxOf
 box-sound l t = grown-sound empty l empty-sound t
 
 -- ---- the box around boxes
 
-pub union-assoc : {a b c : Box} → Sound a → Sound b → Sound c → union a (union b c) ≡ union (union a b) c
+pub union-assoc : {a b c : Box} → BoxSound a → BoxSound b → BoxSound c → union a (union b c) ≡ union (union a b) c
 unfolding union lesser greater
 union-assoc {a} {b} {c} p q r = λ i. record {
   «least_x» = pick-assoc below below-order (a .«least_x») (b .«least_x») (c .«least_x») (p .low-x) (q .low-x) (r .low-x) i;
@@ -74,7 +74,7 @@ union-empty a = λ i. record {
 }
 
 -- the first point is a box of its own
-pub empty-union : {p : Point} → Place p → union empty (spot p) ≡ spot p
+pub empty-union : {p : Point} → BoxPlace p → union empty (spot p) ≡ spot p
 unfolding union lesser greater
 empty-union {p} h = λ i. record {
   «least_x» = cond (under-top (p .x) (h .across) i) (p .x) 0x7ff0_0000_0000_0000;
@@ -85,12 +85,12 @@ empty-union {p} h = λ i. record {
 
 -- ---- points in parts
 
-pub box-first : (p : Point) (l : List Point) → Place p → boxOf (p ∷ l) ≡ grown (spot p) l
+pub box-first : (p : Point) (l : List Point) → BoxPlace p → boxOf (p ∷ l) ≡ grown (spot p) l
 unfolding boxOf grown
 box-first p l h = ap (λ (b : Box). grown b l) (empty-union h)
 
 -- a box grown by points is the box around it and theirs
-pub grown-is : (b : Box) (l : List Point) → Sound b → Places l → grown b l ≡ union b (boxOf l)
+pub grown-is : (b : Box) (l : List Point) → BoxSound b → Places l → grown b l ≡ union b (boxOf l)
 unfolding grown boxOf
 grown-is b [] s nil = sym (union-empty b)
 grown-is b (p ∷ l) s (cons h t) =
@@ -108,7 +108,7 @@ pub box-append : (l m : List Point) → Places l → Places m → boxOf (l ++ m)
 unfolding boxOf
 box-append l m s t = grown-append empty l m ∙ grown-is (grown empty l) m (box-sound l s) t
 
-pub box-one : (p : Point) → Place p → boxOf (p ∷ []) ≡ spot p
+pub box-one : (p : Point) → BoxPlace p → boxOf (p ∷ []) ≡ spot p
 unfolding grown
 box-one p h = box-first p [] h
 

@@ -15,7 +15,7 @@ use Rattle.rules.specs.Boxes.{lesser, greater, union, inPairs}
 use Rattle.rules.specs.Windows.{overlap, meets}
 use Rattle.float_order.proofs.Order.{trans, lt→le, nlt→le, refl-le}
 use Rattle.chain_laws.proofs.Counts.{cons}
-use Rattle.box_laws.specs.Sound.{Number, Sound, Sounds}
+use Rattle.box_laws.specs.Sound.{Number, BoxSound, Sounds}
 use Rattle.box_laws.specs.Rows.{nth}
 use Rattle.box_laws.proofs.Unions.{union-sound}
 
@@ -64,7 +64,7 @@ wider low high low′ high′ from to l h t =
     and-i (le low′ high′) (le low′ to && le from high′) (trans low′ low high′ l (trans low high high′ a h))
     (and-i (le low′ to) (le from high′) (trans low′ low to l b) (trans from high high′ c h))
 
-module _ (w : Window) (a b : Box) (p : Sound a) (q : Sound b) where
+module _ (w : Window) (a b : Box) (p : BoxSound a) (q : BoxSound b) where
   module _ (c : Box) where
     abbrev along-x : Bool
     along-x = overlap (float (c .«least_x»)) (float (c .«greatest_x»)) (w .«least_x») (w .«greatest_x»)

@@ -14,19 +14,19 @@ abbrev pub Number : ℕ → Type 0
 Number a = T (not (isNan (float a)))
 
 -- a point whose x and y are finite
-pub record Place (p : Point) : Type 0 where
+pub record BoxPlace (p : Point) : Type 0 where
   pub across : T (finite (float (p .x)))
   pub up : T (finite (float (p .y)))
 
 abbrev pub Places : List Point → Type 0
-Places l = Each Place l
+Places l = Each BoxPlace l
 
 -- a box without a NaN
-pub record Sound (b : Box) : Type 0 where
+pub record BoxSound (b : Box) : Type 0 where
   pub low-x : Number (b .«least_x»)
   pub low-y : Number (b .«least_y»)
   pub high-x : Number (b .«greatest_x»)
   pub high-y : Number (b .«greatest_y»)
 
 abbrev pub Sounds : List Box → Type 0
-Sounds l = Each Sound l
+Sounds l = Each BoxSound l

@@ -8,7 +8,7 @@ use lib.Ieee.Bits.{nanBits-is, toBits-ofBits}
 use Rattle.rules.specs.declared.Box.{Box}
 use Rattle.rules.specs.Plane.{Point, float}
 use Rattle.rules.specs.Boxes.{lesser, greater, union, empty, spot}
-use Rattle.box_laws.specs.Sound.{Number, Sound}
+use Rattle.box_laws.specs.Sound.{Number, BoxSound}
 use Rattle.box_laws.proofs.Unions.{union-sound}
 use Rattle.box_levels.specs.declared.Extent.{Extent}
 use Rattle.box_levels.specs.Extents.{lower, higher, joined, extentOf, boxedOf, Real, Boxed}
@@ -72,10 +72,10 @@ boxed-around {a = a} {b = b} z p q = subst (λ (x : Extent). Boxed x (union a b)
 pub bits-real : (a : ℕ) → Number a → T (not (nanBits binary64 a))
 bits-real a h = subst (λ (t : Bool). T (not t)) (sym (nanBits-is binary64 a)) h
 
-pub real-of : {e : Extent} {b : Box} → Boxed e b → Sound b → Real e
+pub real-of : {e : Extent} {b : Box} → Boxed e b → BoxSound b → Real e
 real-of {e} {b} p s = subst Real (sym (p .is)) (record { low-x = s .low-x; low-y = s .low-y; high-x = s .high-x; high-y = s .high-y })
 
-pub boxed-back : {e : Extent} {b : Box} → Boxed e b → Sound b → boxedOf e ≡ b
+pub boxed-back : {e : Extent} {b : Box} → Boxed e b → BoxSound b → boxedOf e ≡ b
 unfolding boxedOf
 boxed-back {e} {b} p s =
     ap boxedOf (p .is)
@@ -91,7 +91,7 @@ pub boxed-spot : {e : Extent} (p q : Point) → q .x ≡ p .x → q .y ≡ p .y 
 boxed-spot {e} p q h k b = subst (Boxed e) (sym (λ i. record { «least_x» = h i; «least_y» = k i; «greatest_x» = h i; «greatest_y» = k i })) b
 
 -- two boxes without a NaN, joined: what may be stored, and what that is
-module _ {d e r : Extent} {a b : Box} (z : r ≡ joined d e) (p : Boxed d a) (q : Boxed e b) (s : Sound a) (t : Sound b) where
+module _ {d e r : Extent} {a b : Box} (z : r ≡ joined d e) (p : Boxed d a) (q : Boxed e b) (s : BoxSound a) (t : BoxSound b) where
   pub pair-real : Real r
   pair-real = real-of (boxed-around z p q) (union-sound s t)
 

@@ -15,7 +15,7 @@ use Rattle.float_order.proofs.Order.{finite-num}
 use Rattle.point_numbers.specs.Width.{pointAt, Multiple, Whole}
 use Rattle.point_numbers.proofs.Points.{at-x, at-y, points-from, points-past, points-exact, reads-add, multiple-next}
 use Rattle.chain_laws.proofs.Counts.{nil, cons}
-use Rattle.box_laws.specs.Sound.{Number, Place, Places}
+use Rattle.box_laws.specs.Sound.{Number, BoxPlace, Places}
 use Rattle.box_laws.proofs.Unions.{box-append, box-one, box-overlap}
 use Rattle.box_levels.specs.declared.Extent.{Extent}
 use Rattle.box_levels.specs.Extents.{joined, Boxed}
@@ -25,7 +25,7 @@ use Rattle.box_levels.proofs.Extents.{boxed-spot, boxed-around}
 -- ---- a point where it stands
 
 module _ (w : ℕ) (l : List ℕ) (i : ℕ) (two : 2 ≤ w) where
-  pub here-real : Place (pointAt w l i) → Number (getD l i 0) × Number (getD l (i + 1) 0)
+  pub here-real : BoxPlace (pointAt w l i) → Number (getD l i 0) × Number (getD l (i + 1) 0)
   here-real h = (
     subst Number (at-x w two l i) (finite-num (float (pointAt w l i .x)) (h .across)),
     subst Number (at-y w two l i) (finite-num (float (pointAt w l i .y)) (h .up)),
@@ -64,10 +64,10 @@ module _ {w : ℕ} {part : List ℕ} {e : Extent} {i : ℕ} (two : 2 ≤ w) (g :
     opened : points w (drop i part) ≡ pointAt w part i ∷ points w (drop (i + w) part)
     opened = points-from w part i (omega arith) (next .0)
 
-    apart : Place (pointAt w part i) × Places (points w (drop (i + w) part))
+    apart : BoxPlace (pointAt w part i) × Places (points w (drop (i + w) part))
     apart = go (subst Places opened (g .places))
       where
-        go : Places (pointAt w part i ∷ points w (drop (i + w) part)) → Place (pointAt w part i) × Places (points w (drop (i + w) part))
+        go : Places (pointAt w part i ∷ points w (drop (i + w) part)) → BoxPlace (pointAt w part i) × Places (points w (drop (i + w) part))
         go (cons p ps) = (p, ps)
 
     pub grown-room : i + w ≤ length part
@@ -103,20 +103,20 @@ four-read w l i =
     let e₃ : drop w (drop w (drop w (drop i l))) ≡ drop (i + w + w + w) l = ap (drop w) e₂ ∙ drop-drop w (i + w + w) l in
     λ j. pointAt w l i ∷ pointOf (take w (e₁ j)) ∷ pointOf (take w (e₂ j)) ∷ pointOf (take w (e₃ j)) ∷ []
 
-four-box : (a b c d : Point) → Place a → Place b → Place c → Place d
+four-box : (a b c d : Point) → BoxPlace a → BoxPlace b → BoxPlace c → BoxPlace d
     → union (union (spot a) (spot b)) (union (spot c) (spot d)) ≡ boxOf (a ∷ b ∷ c ∷ d ∷ [])
 four-box a b c d p q r s =
     ap₂ union (two a b p q) (two c d r s) ∙ sym (box-append (a ∷ b ∷ []) (c ∷ d ∷ []) (cons p (cons q nil)) (cons r (cons s nil)))
   where
-    two : (a b : Point) → Place a → Place b → union (spot a) (spot b) ≡ boxOf (a ∷ b ∷ [])
+    two : (a b : Point) → BoxPlace a → BoxPlace b → union (spot a) (spot b) ≡ boxOf (a ∷ b ∷ [])
     two a b p q = ap₂ union (sym (box-one a p)) (sym (box-one b q)) ∙ sym (box-append (a ∷ []) (b ∷ []) (cons p nil) (cons q nil))
 
 module _ {w : ℕ} {l : List ℕ} {i : ℕ} (f : FourAt w l i) where
   record Fours : Type 0 where
-    pub first : Place (pointAt w l i)
-    pub second : Place (pointAt w l (i + w))
-    pub third : Place (pointAt w l (i + w + w))
-    pub fourth : Place (pointAt w l (i + w + w + w))
+    pub first : BoxPlace (pointAt w l i)
+    pub second : BoxPlace (pointAt w l (i + w))
+    pub third : BoxPlace (pointAt w l (i + w + w))
+    pub fourth : BoxPlace (pointAt w l (i + w + w + w))
 
   fours : Fours
   fours = go (subst Places (four-read w l i) (f .places))

@@ -9,7 +9,7 @@ use Rattle.rules.specs.declared.Box.{Box}
 use Rattle.rules.specs.Boxes.{union, inPairs, four, boxNumbers, boxAt}
 use Rattle.point_slices.specs.Holds.{HoldsFrom}
 use Rattle.point_slices.proofs.Laws.{from-start, from-set, from-then, from-length, from-below}
-use Rattle.box_laws.specs.Sound.{Sound}
+use Rattle.box_laws.specs.Sound.{BoxSound}
 use Rattle.box_laws.specs.Rows.{row}
 
 -- four numbers stored one behind another
@@ -83,14 +83,14 @@ module _ (b₀ : List ℕ) (at n : ℕ) where
     kept {b} {i} r j l = box-kept (r .holds) (omega (arith, r .pairs)) j (omega arith)
 
     -- no NaN has come into the level
-    pub raised-last : {b : List ℕ} {i : ℕ} → Raised b i → ((j : ℕ) → j < n → Sound (boxAt b₀ (at + j))) → i * 2 < n → Sound (boxAt b (at + i * 2))
-    raised-last {i = i} r s l = subst Sound (sym (kept r (at + i * 2) (omega arith))) (s (i * 2) l)
+    pub raised-last : {b : List ℕ} {i : ℕ} → Raised b i → ((j : ℕ) → j < n → BoxSound (boxAt b₀ (at + j))) → i * 2 < n → BoxSound (boxAt b (at + i * 2))
+    raised-last {i = i} r s l = subst BoxSound (sym (kept r (at + i * 2) (omega arith))) (s (i * 2) l)
 
-    pub raised-pair : {b : List ℕ} {i : ℕ} → Raised b i → ((j : ℕ) → j < n → Sound (boxAt b₀ (at + j))) → i * 2 + 1 < n
-        → Sound (boxAt b (at + i * 2)) × Sound (boxAt b (at + i * 2 + 1))
+    pub raised-pair : {b : List ℕ} {i : ℕ} → Raised b i → ((j : ℕ) → j < n → BoxSound (boxAt b₀ (at + j))) → i * 2 + 1 < n
+        → BoxSound (boxAt b (at + i * 2)) × BoxSound (boxAt b (at + i * 2 + 1))
     raised-pair {i = i} r s l =
         let e : at + (i * 2 + 1) ≡ at + i * 2 + 1 = omega arith in
-        (raised-last r s (omega arith), subst Sound (ap (boxAt b₀) e ∙ sym (kept r (at + i * 2 + 1) (omega arith))) (s (i * 2 + 1) l))
+        (raised-last r s (omega arith), subst BoxSound (ap (boxAt b₀) e ∙ sym (kept r (at + i * 2 + 1) (omega arith))) (s (i * 2 + 1) l))
 
     pub raised-more : {b b′ : List ℕ} {i : ℕ} (x : Box) → Raised b i → i * 2 + 1 < n → x ≡ union (boxAt b (at + i * 2)) (boxAt b (at + i * 2 + 1))
         → HoldsFrom b′ b ((at + n + i) * 4) 4 (four x) → Raised b′ (i + 1)

@@ -13,7 +13,7 @@ use Rattle.rules.specs.Calls.{written}
 use Rattle.point_slices.specs.Holds.{HoldsFrom}
 use Rattle.point_slices.proofs.Laws.{drop-beyond, from-length}
 use Rattle.chain_laws.proofs.Counts.{each-of, each-getD}
-use Rattle.box_laws.specs.Sound.{Sound, Sounds}
+use Rattle.box_laws.specs.Sound.{BoxSound, Sounds}
 use Rattle.box_laws.specs.Rows.{row, nth}
 use Rattle.box_laws.proofs.Rows.{boxes-append, boxes-length, pairs-length, row-length, row-numbers, row-back, row-at}
 use Rattle.box_laws.proofs.Levels.{levels-top, levels-more}
@@ -55,10 +55,10 @@ module _ (b₀ : List ℕ) (k : ℕ) where
     level = row b₀ 0 k;
     begins = refl;
     has = row-length b₀ 0 k;
-    sound = each-of Sound (row b₀ 0 k) empty (λ i h.
+    sound = each-of BoxSound (row b₀ 0 k) empty (λ i h.
         let e : i < k = omega (arith, row-length b₀ 0 k) in
         let z : i ≡ 0 + i = omega arith in
-        subst Sound (ap (boxAt b₀) z ∙ sym (row-at b₀ 0 k i e)) (s .sound i e));
+        subst BoxSound (ap (boxAt b₀) z ∙ sym (row-at b₀ 0 k i e)) (s .sound i e));
     fuel = k;
     enough = omega arith;
     goes = ap (λ (x : ℕ). levels x (row b₀ 0 k)) (sym (row-length b₀ 0 k));
@@ -76,9 +76,9 @@ module _ (b₀ : List ℕ) (k : ℕ) where
         ∙ drop-at (boxNumbers (s .before)) (boxNumbers (s .level) ++ drop ((at + n) * 4) b₀) (at * 4) (boxes-length (s .before) ∙ ap (λ (x : ℕ). x * 4) (s .begins)) in
         ap (row b at) (sym (s .has)) ∙ row-back b at (s .level) (drop ((at + n) * 4) b₀) e
 
-    pub stacking-sound : (i : ℕ) → i < n → Sound (boxAt b (at + i))
+    pub stacking-sound : (i : ℕ) → i < n → BoxSound (boxAt b (at + i))
     stacking-sound i h =
-        subst Sound (ap (λ (l : List Box). nth l i) (sym level-is) ∙ row-at b at n i h) (each-getD Sound (s .level) i empty (s .sound) (omega (arith, s .has)))
+        subst BoxSound (ap (λ (l : List Box). nth l i) (sym level-is) ∙ row-at b at n i h) (each-getD BoxSound (s .level) i empty (s .sound) (omega (arith, s .has)))
 
     pub stacking-room : 1 < n → k * 8 + 64 ≤ length b₀ → (at + n + (n + 1) / 2) * 4 ≤ length b
     stacking-room h r = omega (arith, s .room, s .size)

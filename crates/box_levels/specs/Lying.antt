@@ -5,7 +5,7 @@ use lib.ListN.{length, drop}
 use Rattle.rules.specs.Plane.{points, reads}
 use Rattle.rules.specs.Boxes.{boxAt, boxRoom}
 use Rattle.point_numbers.specs.Width.{Whole}
-use Rattle.box_laws.specs.Sound.{Places, Sound}
+use Rattle.box_laws.specs.Sound.{Places, BoxSound}
 
 -- whole points, and each a place
 pub record Lying (width : ℕ) (part : List ℕ) : Type 0 where
@@ -29,4 +29,4 @@ mostBoxes = 65536
 pub record Raisable (boxes : List ℕ) (k : ℕ) : Type 0 where
   pub room : boxRoom k ≤ length boxes
   pub few : k ≤ mostBoxes
-  pub sound : (i : ℕ) → i < k → Sound (boxAt boxes i)
+  pub sound : (i : ℕ) → i < k → BoxSound (boxAt boxes i)

@@ -8,7 +8,7 @@ ghost use Rattle.rules.specs.Plane.{point, points, reads};
 ghost use Rattle.rules.specs.Boxes.{spot as spot-of, empty, boxOf, four, inPairs, stacked, boxNumbers, boxAt, boxSize, boxRoom};
 ghost use Rattle.rules.specs.Calls.{written};
 ghost use Rattle.point_slices.specs.Holds.{HoldsFrom};
-ghost use Rattle.box_laws.specs.Sound.{Number, Sound};
+ghost use Rattle.box_laws.specs.Sound.{Number, BoxSound};
 ghost use Rattle.box_laws.specs.Rows.{row};
 ghost use Rattle.box_levels.specs.Extents.{lower, higher, joined, boxedOf, Real, Boxed};
 ghost use Rattle.box_levels.specs.Lying.{Lying, FourAt, Raisable, mostBoxes};
@@ -134,7 +134,7 @@ pub fn extent_of(part: &[u64], width: usize) -> Extent
 
 // Box j as numbers.
 fn extent_at(boxes: &[u64], j: usize) -> Extent
-    requires { ⌜ (j * boxSize + boxSize ≤ length (now boxes)) × Sound (boxAt (now boxes) j) ⌝ }
+    requires { ⌜ (j * boxSize + boxSize ≤ length (now boxes)) × BoxSound (boxAt (now boxes) j) ⌝ }
     ensures { λ r. ⌜ Boxed r (boxAt (now (boxes .entry)) j) ⌝ }
 {
     let at = j * BOX;
@@ -160,7 +160,7 @@ pub fn put(boxes: &mut [u64], j: usize, e: Extent)
 
 // Above a level of n boxes that begins with box `at`, and right behind it, the boxes of its pairs, an odd last one alone.
 fn raise(boxes: &mut [u64], at: usize, n: usize)
-    requires { ⌜ ((at + n + (n + 1) / 2) * boxSize ≤ length (now boxes)) × ((i : ℕ) → i < n → Sound (boxAt (now boxes) (at + i))) ⌝ }
+    requires { ⌜ ((at + n + (n + 1) / 2) * boxSize ≤ length (now boxes)) × ((i : ℕ) → i < n → BoxSound (boxAt (now boxes) (at + i))) ⌝ }
     ensures { λ _. ⌜ HoldsFrom (now (boxes .exit)) (now (boxes .entry)) ((at + n) * boxSize) ((n + 1) / 2 * boxSize)
         (boxNumbers (inPairs (row (now (boxes .entry)) at n))) ⌝ }
 {

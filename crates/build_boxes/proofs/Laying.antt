@@ -17,7 +17,7 @@ use Rattle.point_numbers.specs.Width.{Whole}
 use Rattle.point_slices.specs.Holds.{HoldsFrom}
 use Rattle.point_slices.proofs.Laws.{from-start, from-then, from-length, drop-beyond}
 use Rattle.chain_laws.proofs.Counts.{upto-length}
-use Rattle.box_laws.specs.Sound.{Sound}
+use Rattle.box_laws.specs.Sound.{BoxSound}
 use Rattle.box_laws.specs.Rows.{row, nth}
 use Rattle.box_laws.proofs.Runs.{upto-more}
 use Rattle.box_laws.proofs.Rows.{boxes-append, boxes-length, row-back, row-at}
@@ -118,7 +118,7 @@ module _ (w : ℕ) (input merged table : List ℕ) where
       few = y .few;
       sound = λ i h.
           let z : 0 + i ≡ i = omega arith in
-          subst Sound (sym (ap (boxAt b) (sym z) ∙ sym (row-at b 0 k i h) ∙ ap (λ (x : List Box). nth x i) row-is ∙ nth-own i h))
+          subst BoxSound (sym (ap (boxAt b) (sym z) ∙ sym (row-at b 0 k i h) ∙ ap (λ (x : List Box). nth x i) row-is ∙ nth-own i h))
           (box-sound (chainPoints w input merged table i) (y .places i h));
     }
 

@@ -22,22 +22,22 @@ use Rattle.build_layout.specs.Laying.{passingOf, leftOf, Layable, Outputs}
 use Rattle.build_layout.proofs.Left.{pieces-all, members-all, left-low, left-size, merged-left}
 use Rattle.build_chains.specs.Building.{Buildable, partFrom, AllLeft}
 use Rattle.build_chains.proofs.Parts.{cleared-same}
-use Rattle.build_chains.proofs.Boxes.{boxable, boxes-are}
+use Rattle.build_chains.proofs.Boxes.{chains-boxing, boxable, boxes-are}
 
-unless-refused : {A : Type 0} (k : ℕ) (a b : A) → (k ≡ 0 → ⊥) → a ≡ unless k a b
+pub unless-refused : {A : Type 0} (k : ℕ) (a b : A) → (k ≡ 0 → ⊥) → a ≡ unless k a b
 unfolding unless
 unless-refused zero a b d = absurd (d refl)
 unless-refused (suc k) a b d = refl
 
-unless-fine : {A : Type 0} (k : ℕ) (a b : A) → k ≡ 0 → b ≡ unless k a b
+pub unless-fine : {A : Type 0} (k : ℕ) (a b : A) → k ≡ 0 → b ≡ unless k a b
 unfolding unless
 unless-fine k a b z = sym (ap (λ (m : ℕ). unless m a b) z)
 
-refused-is : (refusal k result : ℕ) → k ≡ refusal → (k ≡ 0 → ⊥) → Refused k ≡ answerOf refusal result
+pub refused-is : (refusal k result : ℕ) → k ≡ refusal → (k ≡ 0 → ⊥) → Refused k ≡ answerOf refusal result
 unfolding answerOf
 refused-is refusal k result e d = unless-refused k (Refused k) (Accepted result) d ∙ ap (λ (m : ℕ). answerOf m result) e
 
-accepted-is : (refusal k result : ℕ) → k ≡ result → refusal ≡ 0 → Accepted k ≡ answerOf refusal result
+pub accepted-is : (refusal k result : ℕ) → k ≡ result → refusal ≡ 0 → Accepted k ≡ answerOf refusal result
 unfolding answerOf
 accepted-is refusal k result e z = ap Accepted e ∙ unless-fine refusal (Refused refusal) (Accepted result) z
 
@@ -122,7 +122,8 @@ module _ (t : ℕ) (l : Lines) (s : Settings) (o : Rooms) where
 
         -- the boxes of what was laid out
         pub boxed : Boxable w (l .coordinates) merged′ table′ r (o .boxes)
-        boxed = boxable a e (outputs .records) copies-are (outputs .number)
+        unfolding build
+        boxed = boxable (chains-boxing a) (o .table) (o .merged) e (outputs .records) copies-are (outputs .number)
 
         -- and clears what it used
         pub accepted : {boxes′ spare′ workspace′ : List ℕ}
@@ -130,7 +131,7 @@ module _ (t : ℕ) (l : Lines) (s : Settings) (o : Rooms) where
             → spare′ ≡ cleared (length (l .coordinates)) spare₁
             → workspace′ ≡ cleared (length (l .counts) * lineRoom) workspace₁
             → Built t l s o (Accepted r) (rooms table′ members′ marks′ listing′ merged′ boxes′ spare′ workspace′)
-        unfolding filled
+        unfolding filled build
         accepted b p c =
             record {
               answer = accepted-is (refusalOf t l s o) _ (builtOf t l s .number) (outputs .number) z;
@@ -141,7 +142,7 @@ module _ (t : ℕ) (l : Lines) (s : Settings) (o : Rooms) where
                   (outputs .turned i)
                   (outputs .passed i)
                   (copies-are i)
-                  ((b ∙ ap (λ (x : List ℕ). written x (o .boxes)) (boxes-are a e (outputs .records) copies-are (outputs .number))) i)
+                  ((b ∙ ap (λ (x : List ℕ). written x (o .boxes)) (boxes-are (chains-boxing a) (o .table) (o .merged) e (outputs .records) copies-are (outputs .number))) i)
                   ((p ∙ cleared-same (length (l .coordinates)) spare₁ (o .spare) (L .spare-rest)) i)
                   ((c ∙ cleared-same (length (l .counts) * lineRoom) workspace₁ (o .workspace) (L .left .rest)) i))
                   ∙ unless-fine (refusalOf t l s o) o (filled t l s o) z;

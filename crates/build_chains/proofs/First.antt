@@ -18,7 +18,7 @@ use Rattle.rules.specs.Layout.{Lines, linesIn}
 use Rattle.rules.specs.Refusals.{lineRoom, limitBad}
 use Rattle.build_refusals.specs.Tests.{switchBad}
 use Rattle.chain_laws.proofs.Room.{size, join-size, pieces-size, lines-size}
-use Rattle.chain_pieces.specs.Held.{Held}
+use Rattle.chain_pieces.specs.Held.{Held, Packed}
 use Rattle.chain_pieces.specs.Map.{roundRoom, takenBlock}
 use Rattle.build_lines.specs.Taken.{Takable, plainOf, Taken}
 use Rattle.chain_round.specs.Round as round
@@ -121,7 +121,7 @@ module _ {width : ℕ} {l : Lines} {s : Settings} {out w₀ : List ℕ} (J : Bui
       one-left =
           record {
             within = omega arith;
-            held = subst (λ (v : List ℕ). Held width v 0 n (l .coordinates) out′ (l .counts) (roundOne s plainPieces)) (sym part₂) (R .held);
+            held = subst (λ (v : List ℕ). Packed width v 0 n (l .coordinates) out′ (l .counts) (roundOne s plainPieces)) (sym part₂) (R .held);
             number-is = R .number;
             copied-is = R .merged-is;
             rest =

@@ -7,11 +7,9 @@ use lib.ListN.{length, take, drop, replicate, length-append, length-drop}
 use lib.Seq.{slice, length-take-le, take-at, drop-at, drop-drop}
 use borrow.Rule.Slice.PartMut.{midOf, putMid}
 use Rattle.rules.specs.Chaining.{Piece}
-use Rattle.rules.specs.Refusals.{pieceSize}
 use Rattle.rules.specs.Calls.{written, cleared}
-use Rattle.point_slices.proofs.Laws.{slice-part}
-use Rattle.chain_pieces.specs.Held.{linesOf, marksOf, listingOf, Held}
-use Rattle.chain_pieces.specs.Map.{listingBlock, markBlock, memberBlock}
+use Rattle.chain_pieces.specs.Held.{Held}
+use Rattle.chain_pieces.proofs.Reading.{held-block}
 
 module _ (w sub : List ℕ) (a k : ℕ) (fits : a + k ≤ length w) where
   pub mid-length : length (midOf a k w) ≡ k
@@ -45,30 +43,7 @@ module _ (w sub : List ℕ) (a k : ℕ) (fits : a + k ≤ length w) where
 
 -- pieces at the front of a part stand in the whole from where the part begins
 pub held-shift : (width : ℕ) (w : List ℕ) (a n : ℕ) (input copies counts : List ℕ) (ps : List Piece) → a ≤ length w → Held width (drop a w) 0 n input copies counts ps → Held width w a n input copies counts ps
-held-shift width w a n input copies counts ps l h =
-    let d = length-drop a w in
-    record {
-      few = h .few;
-      listed = h .listed;
-      room = omega (arith, h .room);
-      records =
-          slice-part a (length ps * pieceSize) w ∙ sym (slice-part 0 (length ps * pieceSize) (drop a w)) ∙ h .records;
-      members = shifted memberBlock (length (linesOf ps)) ∙ h .members;
-      marks = shifted markBlock (length (marksOf ps)) ∙ h .marks;
-      listing = shifted listingBlock (length (listingOf ps)) ∙ h .listing;
-      drawn = h .drawn;
-      full = h .full;
-      own = h .own;
-      wide = h .wide;
-      copied = h .copied;
-    }
-  where
-    shifted : (block k : ℕ) → slice (a + n * block) (a + n * block + k) w ≡ slice (0 + n * block) (0 + n * block + k) (drop a w)
-    shifted block k =
-        let nought : 0 + n * block ≡ n * block = omega arith in
-        slice-part (a + n * block) k w
-        ∙ ap (take k) (sym (drop-drop (n * block) a w) ∙ ap (λ (i : ℕ). drop i (drop a w)) (sym nought))
-        ∙ sym (slice-part (0 + n * block) k (drop a w))
+held-shift width w a n input copies counts ps l h = held-block width w (drop a w) a 0 n input copies counts ps refl (omega (arith, h .room, length-drop a w)) h
 
 -- ---- what is written at the front
 

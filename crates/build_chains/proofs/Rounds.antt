@@ -15,7 +15,8 @@ use Rattle.rules.specs.Refusals.{lineRoom}
 use Rattle.rules.specs.Calls.{written}
 use Rattle.point_numbers.proofs.Points.{flat-length}
 use Rattle.chain_laws.proofs.Room.{copies-size}
-use Rattle.chain_pieces.specs.Held.{linesOf, Held}
+use Rattle.chain_pieces.specs.Held.{linesOf, Packed}
+use Rattle.chain_pieces.proofs.Packed.{packed-held}
 use Rattle.chain_pieces.specs.Map.{takenBlock}
 use Rattle.build_lines.specs.Taken.{plainOf}
 use Rattle.build_layout.specs.Laying.{leftOf}
@@ -25,11 +26,11 @@ use Rattle.build_chains.proofs.Parts.{written-rest}
 use Rattle.build_chains.proofs.Good.{good-grouped}
 use Rattle.build_chains.proofs.First.{limit-fair, good₂, joined-fits}
 
-two-on : (s : Settings) (ps : List Piece) → lt nought (s .tolerance) ≡ true → join (ruleOf (cellsOf s) s) ps ≡ roundTwo s ps
+pub two-on : (s : Settings) (ps : List Piece) → lt nought (s .tolerance) ≡ true → join (ruleOf (cellsOf s) s) ps ≡ roundTwo s ps
 unfolding roundTwo
 two-on s ps e = rw (e, roundTwo)
 
-two-off : (s : Settings) (ps : List Piece) → lt nought (s .tolerance) ≡ false → ps ≡ roundTwo s ps
+pub two-off : (s : Settings) (ps : List Piece) → lt nought (s .tolerance) ≡ false → ps ≡ roundTwo s ps
 unfolding roundTwo
 two-off s ps e = rw (e, roundTwo)
 
@@ -88,7 +89,9 @@ module _ {width : ℕ} {l : Lines} {s : Settings} {merged w₀ : List ℕ} (J : 
           two = J .adds .two;
           few = J .few;
           number = L .number-is;
-          held = subst (λ (i : ℕ). Held width (partFrom n i w₁) 0 n (l .coordinates) spare′ (l .counts) first) there (L .held);
+          held =
+              packed-held width (partFrom n (n * takenBlock) w₁) 0 n (l .coordinates) spare′ (l .counts) first
+              (subst (λ (i : ℕ). Packed width (partFrom n i w₁) 0 n (l .coordinates) spare′ (l .counts) first) there (L .held));
           grouped = good-grouped (points width (l .coordinates)) (l .counts) (l .groups) (l .kinds) first (J .groups-long) (good₂ J);
           fair = limit-fair (s .switch) (s .limit) (J .switched);
           fits = omega (arith, joined-fits J, J .out-long);

@@ -6,10 +6,10 @@ use native.Mathlib.Omega.{arith}
 use lib.ListN.{length, take, drop}
 use borrow.Rule.Slice.PartMut.{midOf, putMid}
 use Rattle.rules.specs.declared.Settings.{Settings}
-use Rattle.rules.specs.Chaining.{cellsOf, Piece, join, ruleOf}
+use Rattle.rules.specs.Chaining.{Piece}
 use Rattle.rules.specs.Refusals.{lineRoom}
 use Rattle.point_slices.proofs.Laws.{slice-part}
-use Rattle.chain_pieces.specs.Held.{Held}
+use Rattle.chain_pieces.specs.Held.{Held, Packed}
 use Rattle.chain_pieces.specs.Map.{roundRoom, takenBlock}
 use Rattle.chain_round.specs.Round as round
 use Rattle.chain_round.specs.Round.{Rounded}
@@ -48,23 +48,21 @@ module _ {width n m : ℕ} {s : Settings} {coordinates groups copies merged w₀
         fits = y .fits;
       }
 
-  module _ {r : ℕ} {sub merged′ : List ℕ} (size : length sub ≡ length (midOf 0 (n * lineRoom - 0) w₀))
-      (R : Rounded width sub (midOf 0 (n * lineRoom - 0) w₀) n r coordinates merged′ merged (y .counts) (join (ruleOf (cellsOf s) s) (y .ps))) where
+  -- whatever pieces come out
+  module _ {r : ℕ} {sub merged′ : List ℕ} {qs : List Piece} (size : length sub ≡ length (midOf 0 (n * lineRoom - 0) w₀))
+      (R : Rounded width sub (midOf 0 (n * lineRoom - 0) w₀) n r coordinates merged′ merged (y .counts) qs) where
     abbrev w₁ : List ℕ
     w₁ = putMid 0 (n * lineRoom - 0) w₀ sub
-
-    abbrev qs : List Piece
-    qs = join (ruleOf (cellsOf s) s) (y .ps)
 
     part : midOf 0 k₂ w₁ ≡ sub
     part = put-mid w₀ sub 0 k₂ room₂ size
 
-    pub two-left : Left width n coordinates (y .counts) (join (ruleOf (cellsOf s) s) (y .ps)) 0 r merged′ merged w₁ w₀
+    pub two-left : Left width n coordinates (y .counts) qs 0 r merged′ merged w₁ w₀
     two-left =
         let p : 0 + k₂ ≡ n * lineRoom = omega arith in
         record {
           within = omega arith;
-          held = subst (λ (v : List ℕ). Held width v 0 n coordinates merged′ (y .counts) qs) (sym part) (R .held);
+          held = subst (λ (v : List ℕ). Packed width v 0 n coordinates merged′ (y .counts) qs) (sym part) (R .held);
           number-is = R .number;
           copied-is = R .merged-is;
           rest = ap (λ (i : ℕ). drop i w₁) (sym p) ∙ put-rest w₀ sub 0 k₂ room₂ size ∙ ap (λ (i : ℕ). drop i w₀) p;

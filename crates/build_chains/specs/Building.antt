@@ -1,19 +1,24 @@
 -- The rounds of an accepted call: what they ask, and what they leave. Points have a width, to which the counts add up.
-use Prim.Native.Nat.{ℕ, _-_, _*_, _≤_}
+use Prim.Native.Nat.{ℕ, _-_, _*_, _≤_, _<_}
 use mathlib.Core.Path.{_≡_}
 use mathlib.Core.Bool.{true, false}
 use mathlib.Core.List.{List, map, flatMap}
 use lib.Dec.{eqb}
-use lib.ListN.{length, take, drop}
+use lib.ListN.{length, getD, take, drop}
 use Rattle.rules.specs.declared.Settings.{Settings}
 use Rattle.rules.specs.Lists.{total}
-use Rattle.rules.specs.Plane.{flat}
-use Rattle.rules.specs.Chaining.{Piece}
-use Rattle.rules.specs.Layout.{Lines, copy}
+use Rattle.rules.specs.Plane.{points, flat}
+use Rattle.rules.specs.Boxes.{boxRoom}
+use Rattle.rules.specs.Chaining.{Piece, nothing}
+use Rattle.rules.specs.Types.{widthOf}
+use Rattle.rules.specs.Layout.{Lines, linesIn, copy}
 use Rattle.rules.specs.Refusals.{mostLines, lineRoom, limitBad}
 use Rattle.build_refusals.specs.Tests.{switchBad}
 use Rattle.rules.specs.Calls.{written}
-use Rattle.chain_pieces.specs.Held.{linesOf, Held}
+use Rattle.chain_laws.proofs.Counts.{Each}
+use Rattle.chain_laws.proofs.Sound.{Sound}
+use Rattle.box_laws.specs.Sound.{Places}
+use Rattle.chain_pieces.specs.Held.{linesOf, Held, Packed}
 use Rattle.chain_pieces.specs.Map.{takenBlock}
 use Rattle.chain_keys.specs.Tells.{OneGroup}
 use Rattle.build_lines.specs.Taken.{Adds}
@@ -28,7 +33,7 @@ partFrom n at workspace = take (n * lineRoom - at) (drop at workspace)
 -- the pieces ps of n lines stand in the workspace from `at` on, and what they copy in `out`; beyond its named length the workspace is as before
 pub record Left (width n : ℕ) (coordinates counts : List ℕ) (ps : List Piece) (at number : ℕ) (out′ out workspace′ workspace : List ℕ) : Type 0 where
   pub within : at ≤ n * lineRoom
-  pub held : Held width (partFrom n at workspace′) 0 n coordinates out′ counts ps
+  pub held : Packed width (partFrom n at workspace′) 0 n coordinates out′ counts ps
   pub number-is : number ≡ length ps
   pub copied-is : out′ ≡ written (flat width (flatMap copy ps)) out
   pub rest : drop (n * lineRoom) workspace′ ≡ drop (n * lineRoom) workspace
@@ -59,6 +64,18 @@ pub record Second (width n m : ℕ) (s : Settings) (coordinates groups copies me
   pub fair : eqb (s .switch) 1 ≡ true → limitBad (s .limit) ≡ false
   pub fits : total (map (λ (p : Piece). length (p .points)) ps) * width ≤ length merged
   pub workspace-long : n * lineRoom ≤ length workspace
+
+-- ---- the boxes
+
+-- chains ps of a call's lines, of type t, whose points are places and are read as they are written; and room for the boxes of all lines
+pub record Boxing (t : ℕ) (l : Lines) (ps : List Piece) (boxes : List ℕ) : Type 0 where
+  pub few : length (l .counts) ≤ mostLines
+  pub adds : Adds (widthOf t) (l .counts) (l .coordinates)
+  pub fit : length ps ≤ length (l .counts)
+  pub sound : Each (Sound (linesIn (widthOf t) l)) ps
+  pub read : (j : ℕ) → j < length ps → points (widthOf t) (flat (widthOf t) (getD ps j nothing .points)) ≡ getD ps j nothing .points
+  pub placed : Each (λ (p : Piece). Places (p .points)) ps
+  pub room : boxRoom (length (l .counts)) ≤ length boxes
 
 -- ---- both
 

@@ -23,7 +23,7 @@ pub struct Pieces {
 }
 
 // Round one: the plain lines of a call as pieces, joined where their ends are the same place. What the pieces copy goes into `out`.
-fn round_one(
+pub fn round_one(
     coordinates: &[u64],
     width: usize,
     counts: &[u32],
@@ -60,7 +60,7 @@ fn round_one(
 }
 
 // Round two, of the m pieces of n lines that stand where round one leaves its own: joined where their ends are in one cell. Returns how many there are then.
-fn round_two<'a>(
+pub fn round_two<'a>(
     coordinates: &'a [u64],
     width: usize,
     n: usize,

@@ -3,7 +3,7 @@
 use Prim.Native.Nat.{ℕ, zero, suc, _^_, _≤_, _<_, zero-le}
 use mathlib.Core.Path.{_≡_, refl, sym, subst}
 use mathlib.Core.Bool.{Bool, true, false, _&&_, and-eq-true-iff}
-use mathlib.Core.List.{List, [], _∷_}
+use mathlib.Core.List.{List, [], _∷_, _++_}
 use native.Mathlib.Omega.{arith}
 use lib.Dec.{leb}
 use borrow.Author.Tests.{leb-true}
@@ -12,10 +12,10 @@ use Rattle.rules.specs.declared.Answer.the-variants.{Accepted, Refused}
 use Rattle.rules.specs.declared.Settings.{Settings}
 use Rattle.rules.specs.Types.{widthOf}
 use Rattle.rules.specs.Layout.{Lines, linesIn}
-use Rattle.rules.specs.Refusals.{Rooms, refusalOf, firstOf}
+use Rattle.rules.specs.Refusals.{Rooms, refusalOf, firstOf, lineTests}
 use Rattle.rules.specs.Calls.{unless, answerOf, numberOf, Numbered, builtOf, Built}
 use Rattle.chain_districts.specs.Districts.{districtLines}
-use Rattle.build_refusals.proofs.Laws.{tests, opened}
+use Rattle.build_refusals.proofs.Laws.{restTests, opened}
 use Rattle.build_reading.specs.Reading.{readAll}
 use Rattle.build_districts.specs.Reading.{districtRead}
 use Rattle.build_districts.proofs.Calls.{calls-district}
@@ -41,7 +41,7 @@ first-small m (t ∷ l) h =
     go false q here later = rw (q, firstOf) later
 
 refusal-small : (t : ℕ) (l : Lines) (s : Settings) (o : Rooms) → refusalOf t l s o ≤ mostRefusal
-refusal-small t l s o = subst (λ (k : ℕ). k ≤ mostRefusal) (sym (opened t l s o .is)) (first-small mostRefusal (tests t l s o) refl)
+refusal-small t l s o = subst (λ (k : ℕ). k ≤ mostRefusal) (sym (opened t l s o .is)) (first-small mostRefusal (lineTests t l ++ restTests l s o) refl)
 
 refused-is : (refusal result k : ℕ) → Refused k ≡ answerOf refusal result → k ≡ refusal
 unfolding answerOf unless

@@ -18,6 +18,7 @@ use Rattle.point_slices.specs.Holds.{HoldsFrom}
 use Rattle.point_slices.proofs.Laws.{from-start, from-set, from-length, slice-part}
 use Rattle.chain_pieces.specs.Held.{linesOf, coordinatesAt, Recorded}
 use Rattle.chain_pieces.proofs.Reading.{part-part, points-are, recorded}
+use Rattle.chain_pieces.proofs.Packed.{packed-held}
 use Rattle.build_layout.specs.Laying.{Narrow, PiecesLayable}
 use Rattle.build_layout.proofs.Parts.{behind}
 
@@ -81,13 +82,13 @@ module _ {width : ℕ} {w : List ℕ} {p : ℕ} {coordinates copies table₀ : L
     -- ---- its coordinates
 
     pub part-there : Recorded width w (q * pieceSize) coordinates copies
-    part-there = rw zero-add at (recorded width w 0 (y .n) coordinates copies counts (y .ps) (y .held) q below)
+    part-there = rw zero-add at (recorded width w 0 (y .n) coordinates copies counts (y .ps) (packed-held width w 0 (y .n) coordinates copies counts (y .ps) (y .held)) q below)
 
     closed : {mark : ℕ} {part : List ℕ} → part ≡ coordinatesAt width w (q * pieceSize) coordinates copies → mark ≡ one (loop (points width part)) → mark ≡ one (loop (piece .points))
     closed {mark} {part} e f =
         let z : 0 + q * pieceSize ≡ q * pieceSize = omega arith in
         f ∙ ap (λ (l : List ℕ). one (loop (points width l))) (e ∙ ap (λ (i : ℕ). coordinatesAt width w i coordinates copies) (sym z))
-        ∙ ap (λ l. one (loop l)) (points-are width w 0 (y .n) coordinates copies counts (y .ps) (y .held) q below (y .two))
+        ∙ ap (λ l. one (loop l)) (points-are width w 0 (y .n) coordinates copies counts (y .ps) (packed-held width w 0 (y .n) coordinates copies counts (y .ps) (y .held)) q below (y .two))
 
     -- ---- one chain more
 

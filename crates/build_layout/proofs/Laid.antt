@@ -5,35 +5,21 @@ use mathlib.Core.Path.{_≡_, sym, ap, ap₂, _∙_}
 use mathlib.Core.List.{List, _++_, flatMap}
 use native.Mathlib.Omega.{arith}
 use native.Mathlib.Nat.{zero-add}
-use lib.ListN.{length, getD, length-append}
+use lib.ListN.{length, length-append}
 use lib.Seq.{slice}
 use Rattle.rules.specs.Chaining.{Piece}
-use Rattle.rules.specs.Layout.{copy, six, pieceTable, table as table-of, laidOut, lent}
-use Rattle.rules.specs.Refusals.{mostLines, mostPoints, recordSize, pieceSize}
+use Rattle.rules.specs.Layout.{copy, six, table as table-of, laidOut, lent}
+use Rattle.rules.specs.Refusals.{recordSize}
 use Rattle.rules.specs.Calls.{written}
-use Rattle.chain_laws.proofs.Counts.{Each, each-getD}
-use Rattle.chain_laws.proofs.Drawn.{Low, Drawn, marks-all, low-all, listing-all, listings-long}
 use Rattle.chain_laws.proofs.Records.{rows-behind}
 use Rattle.chain_laws.proofs.Lines.{flatMap-append}
 use Rattle.point_slices.specs.Holds.{HoldsFrom}
-use Rattle.point_slices.proofs.Laws.{from-length, part-length}
+use Rattle.point_slices.proofs.Laws.{from-length}
 use Rattle.chain_pieces.specs.Held.{linesOf, marksOf, listingOf}
-use Rattle.chain_pieces.proofs.Reading.{getD-part, each-drawn}
-use Rattle.build_layout.specs.Laying.{passingOf, Narrow, PiecesLayable, Rest, Rested, Layable, Outputs}
+use Rattle.build_layout.specs.Laying.{passingOf, Narrow, SmallPieces, PiecesLayable, Rest, Rested, Layable, Outputs}
 use Rattle.build_layout.proofs.Parts.{written-on}
-use Rattle.build_layout.proofs.Small.{table-low, low-same}
+use Rattle.build_layout.proofs.Numbers.{members-are, marks-are, listing-is, records-small, members-in, marks-in, listing-in, members-small, marks-small, listing-small}
 use Rattle.chain_pieces.specs.Map.{listingBlock, markBlock, memberBlock}
-
--- a part of small numbers
-part-small : (w : List ℕ) (from k most b : ℕ) (out : List ℕ) → slice from (from + k) w ≡ out → Low b out → b < most → from + k ≤ length w
-    → (i : ℕ) → i < k → getD w (from + i) 0 < most
-part-small w from k most b out e a h i j g =
-    omega (
-      arith,
-      getD-part from k w j g,
-      ap (λ (l : List ℕ). getD l j 0) e,
-      each-getD (λ (x : ℕ). x ≤ b) out j 0 a (omega (arith, ap length e, part-length from k w i)),
-    )
 
 module _ {width : ℕ} {w : List ℕ} {n p l : ℕ} {coordinates copies counts kinds table members marks listing : List ℕ}
     (y : Layable width w n p l coordinates copies counts kinds table members marks listing) where
@@ -51,29 +37,18 @@ module _ {width : ℕ} {w : List ℕ} {n p l : ℕ} {coordinates copies counts k
 
   -- ---- what stands in w
 
-  records-are : slice 0 (0 + p * pieceSize) w ≡ pieceTable counts 0 0 qs
-  records-are = ap (λ (i : ℕ). slice 0 (0 + i * pieceSize) w) (y .number) ∙ y .held .records
-
-  members-are : slice (n * memberBlock) (n * memberBlock + l) w ≡ linesOf qs
-  members-are = ap₂ (λ (i j : ℕ). slice i (i + j) w) (sym (zero-add (n * memberBlock))) (y .listed) ∙ y .held .members
-
-  drawn : Each Drawn qs
-  drawn = each-drawn (y .held)
-
-  marks-are : slice (n * markBlock) (n * markBlock + l) w ≡ marksOf qs
-  marks-are = ap₂ (λ (i j : ℕ). slice i (i + j) w) (sym (zero-add (n * markBlock))) (y .listed ∙ sym (marks-all qs drawn)) ∙ y .held .marks
-
-  listing-is : slice (n * listingBlock) (n * listingBlock + l) w ≡ listingOf qs
-  listing-is = ap₂ (λ (i j : ℕ). slice i (i + j) w) (sym (zero-add (n * listingBlock))) (y .listed ∙ sym (listings-long qs drawn)) ∙ y .held .listing
-
-  -- ---- it is small
-
-  records-small : (i : ℕ) → i < p * pieceSize → getD w i 0 < 2 ^ 32
-  records-small i h =
-      rw zero-add at
-      (part-small w 0 (p * pieceSize) (2 ^ 32) mostPoints (pieceTable counts 0 0 qs) records-are
-      (table-low mostPoints counts (omega arith) (y .small) 0 0 qs (omega (arith, y .held .listed, y .few)) (omega (arith, y .points-few)))
-      (omega arith) (omega (arith, y .held .room, pieces-fit)) i h)
+  abbrev standing : SmallPieces width w n p l coordinates copies counts
+  standing =
+      record {
+        ps = y .ps;
+        held = y .held;
+        number = y .number;
+        listed = y .listed;
+        members-low = y .members-low;
+        points-few = y .points-few;
+        few = y .few;
+        small = y .small;
+      }
 
   pub pieces-layable : PiecesLayable width w p coordinates copies table
   pieces-layable =
@@ -84,44 +59,18 @@ module _ {width : ℕ} {w : List ℕ} {n p l : ℕ} {coordinates copies counts k
         two = y .adds .two;
         held = y .held;
         number = y .number;
-        small = records-small;
+        small = records-small standing;
         room = omega (arith, y .table-long, pieces-fit);
       }
 
   pub members-narrow : Narrow w (n * memberBlock) l (2 ^ 32) members 0
-  members-narrow =
-      record {
-        inside = inside;
-        room = omega (arith, y .members-long, members-fit);
-        below = part-small w (n * memberBlock) l (2 ^ 32) mostLines (linesOf qs) members-are (y .members-low) (omega arith) inside;
-      }
-    where
-      inside : n * memberBlock + l ≤ length w
-      inside = omega (arith, y .held .room, members-fit)
+  members-narrow = record { inside = members-in standing; room = omega (arith, y .members-long, members-fit); below = members-small standing }
 
   pub marks-narrow : Narrow w (n * markBlock) l (2 ^ 8) marks 0
-  marks-narrow =
-      record {
-        inside = inside;
-        room = omega (arith, y .marks-long, members-fit);
-        below = part-small w (n * markBlock) l (2 ^ 8) 1 (marksOf qs) marks-are (low-all qs drawn) (omega arith) inside;
-      }
-    where
-      inside : n * markBlock + l ≤ length w
-      inside = omega (arith, y .held .room, members-fit)
+  marks-narrow = record { inside = marks-in standing; room = omega (arith, y .marks-long, members-fit); below = marks-small standing }
 
   pub listing-narrow : Narrow w (n * listingBlock) l (2 ^ 32) listing 0
-  listing-narrow =
-      record {
-        inside = inside;
-        room = omega (arith, y .listing-long, members-fit);
-        below =
-            part-small w (n * listingBlock) l (2 ^ 32) mostLines (listingOf qs) listing-is
-            (low-same mostLines (linesOf qs) (listingOf qs) (listing-all qs drawn) (y .members-low)) (omega arith) inside;
-      }
-    where
-      inside : n * listingBlock + l ≤ length w
-      inside = omega (arith, y .held .room, members-fit)
+  listing-narrow = record { inside = listing-in standing; room = omega (arith, y .listing-long, members-fit); below = listing-small standing }
 
   -- ---- and the lines that pass through fit behind it
 
@@ -179,13 +128,13 @@ module _ {width : ℕ} {w : List ℕ} {n p l : ℕ} {coordinates copies counts k
             listed =
                 written-on b (s .listed) members-fits
                 ∙ ap (λ (t : List ℕ). written t members)
-                (ap (λ (t : List ℕ). t ++ linesOf rest) members-are ∙ sym (flatMap-append (λ (p : Piece). p .lines) qs rest));
+                (ap (λ (t : List ℕ). t ++ linesOf rest) (members-are standing) ∙ sym (flatMap-append (λ (p : Piece). p .lines) qs rest));
             turned =
                 written-on d (s .turned) marks-fits
                 ∙ ap (λ (t : List ℕ). written t marks)
-                (ap (λ (t : List ℕ). t ++ marksOf rest) marks-are ∙ sym (flatMap-append (λ (p : Piece). p .marks) qs rest));
+                (ap (λ (t : List ℕ). t ++ marksOf rest) (marks-are standing) ∙ sym (flatMap-append (λ (p : Piece). p .marks) qs rest));
             passed =
                 written-on e (s .passed) listing-fits
                 ∙ ap (λ (t : List ℕ). written t listing)
-                (ap (λ (t : List ℕ). t ++ listingOf rest) listing-is ∙ sym (flatMap-append (λ (p : Piece). p .listing) qs rest));
+                (ap (λ (t : List ℕ). t ++ listingOf rest) (listing-is standing) ∙ sym (flatMap-append (λ (p : Piece). p .listing) qs rest));
           }

@@ -22,7 +22,7 @@ use Rattle.build_layout.specs.Laying.{passingOf, leftOf}
 use Rattle.build_layout.proofs.Small.{members-low}
 
 -- a line is plain, or it passes through
-pieces-both : (k : ℕ) (ls : List Line) → length (pieces true k ls) + length (pieces false k ls) ≡ length ls
+pub pieces-both : (k : ℕ) (ls : List Line) → length (pieces true k ls) + length (pieces false k ls) ≡ length ls
 unfolding pieces
 pieces-both k [] = refl
 pieces-both k (l ∷ ls) = go (plain l) refl (pieces-both (suc k) ls)

@@ -14,7 +14,7 @@ use Rattle.rules.specs.Refusals.{mostLines, mostPoints, recordSize, pieceSize}
 use Rattle.rules.specs.Calls.{written}
 use Rattle.point_slices.specs.Holds.{HoldsFrom}
 use Rattle.chain_laws.proofs.Drawn.{Low}
-use Rattle.chain_pieces.specs.Held.{linesOf, marksOf, listingOf, Held}
+use Rattle.chain_pieces.specs.Held.{linesOf, marksOf, listingOf, Packed}
 use Rattle.build_lines.specs.Taken.{Adds, plainOf}
 
 -- ---- the pieces of a call
@@ -35,6 +35,19 @@ pub record Narrow (w : List ℕ) (from k most : ℕ) (out : List ℕ) (at : ℕ)
   pub room : at + k ≤ length out
   pub below : (i : ℕ) → i < k → getD w (from + i) 0 < most
 
+-- ---- pieces whose numbers are small
+
+-- p pieces with l members in all stand at the front of w, one after another
+pub record SmallPieces (width : ℕ) (w : List ℕ) (n p l : ℕ) (coordinates copies counts : List ℕ) : Type 0 where
+  pub ps : List Piece
+  pub held : Packed width w 0 n coordinates copies counts ps
+  pub number : p ≡ length ps
+  pub listed : l ≡ length (linesOf ps)
+  pub members-low : Low mostLines (linesOf ps)
+  pub points-few : total (map (λ (q : Piece). length (q .points)) ps) ≤ mostPoints
+  pub few : n ≤ mostLines
+  pub small : total counts ≤ mostPoints
+
 -- ---- the pieces as chains
 
 -- the p pieces ps of n lines stand at the front of w in small words, with what they copy, and the table has room for them
@@ -43,7 +56,7 @@ pub record PiecesLayable (width : ℕ) (w : List ℕ) (p : ℕ) (coordinates cop
   pub counts : List ℕ
   pub ps : List Piece
   pub two : 2 ≤ width
-  pub held : Held width w 0 n coordinates copies counts ps
+  pub held : Packed width w 0 n coordinates copies counts ps
   pub number : p ≡ length ps
   pub small : (i : ℕ) → i < p * pieceSize → getD w i 0 < 2 ^ 32
   pub room : p * recordSize ≤ length table
@@ -94,7 +107,7 @@ pub record Rested (counts : List ℕ) (j m : ℕ) (ps : List Piece) (table′ ta
 pub record Layable (width : ℕ) (w : List ℕ) (n p l : ℕ) (coordinates copies counts kinds table members marks listing : List ℕ) : Type 0 where
   pub groups : List ℕ
   pub ps : List Piece
-  pub held : Held width w 0 n coordinates copies counts ps
+  pub held : Packed width w 0 n coordinates copies counts ps
   pub number : p ≡ length ps
   pub listed : l ≡ length (linesOf ps)
   pub members-low : Low mostLines (linesOf ps)

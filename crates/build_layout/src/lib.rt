@@ -13,7 +13,7 @@ ghost use Rattle.point_slices.specs.Holds.{HoldsFrom};
 ghost use Rattle.build_layout.specs.Laying.{Narrow, PiecesLayable, ChainLayable, Chained, Rest, passingOf, Rested, Layable, Outputs};
 
 // The k words of w from `from` on, as u32, in `out` from `at` on.
-fn lay_words(w: &[u64], from: usize, k: usize, out: &mut [u32], at: usize)
+pub fn lay_words(w: &[u64], from: usize, k: usize, out: &mut [u32], at: usize)
     requires { ⌜ Narrow (now w) from k (2 ^ 32) (now out) at ⌝ }
     ensures { λ _. ⌜ HoldsFrom (now (out .exit)) (now (out .entry)) at k (slice from (from + k) (now (w .entry))) ⌝ }
 {
@@ -25,7 +25,7 @@ fn lay_words(w: &[u64], from: usize, k: usize, out: &mut [u32], at: usize)
 }
 
 // The k words of w from `from` on, as u8.
-fn lay_marks(w: &[u64], from: usize, k: usize, out: &mut [u8])
+pub fn lay_marks(w: &[u64], from: usize, k: usize, out: &mut [u8])
     requires { ⌜ Narrow (now w) from k (2 ^ 8) (now out) 0 ⌝ }
     ensures { λ _. ⌜ HoldsFrom (now (out .exit)) (now (out .entry)) 0 k (slice from (from + k) (now (w .entry))) ⌝ }
 {

@@ -19,7 +19,8 @@ use Rattle.chain_laws.proofs.Sound.{noLine}
 use Rattle.chain_laws.proofs.Room.{lines-length}
 use Rattle.point_slices.specs.Holds.{HoldsFrom}
 use Rattle.point_slices.proofs.Laws.{from-length, take-before, drop-past, slice-below, slice-beyond, slice-more}
-use Rattle.chain_pieces.specs.Held.{linesOf, marksOf, listingOf, Own, Held}
+use Rattle.chain_pieces.specs.Held.{linesOf, marksOf, listingOf, Own, Packed}
+use Rattle.chain_pieces.proofs.Packed.{packed-held}
 use Rattle.build_lines.specs.Taken.{Adds, Takable, plainOf, Taken}
 use Rattle.build_lines.proofs.Passing.{plainAt, every, passed, passed-all, pieces-few, pieces-lone, lone-lines, lone-copies, total-next}
 use Rattle.build_lines.proofs.Rows.{More, one-wanted, none-wanted}
@@ -224,9 +225,9 @@ module _ (width : ℕ) (w : List ℕ) (n : ℕ) (input copies counts groups kind
   one-line : length (linesOf qs) ≡ length qs
   one-line = lone-lines qs (pieces-lone true 0 (lines (points width input) counts groups kinds))
 
-  pub standing-held : {m : ℕ} → Standing w n m counts (plainOf width (lent input counts groups kinds)) → Held width w (n * takenBlock) n input copies counts (plainOf width (lent input counts groups kinds))
+  standing-packed : {m : ℕ} → Standing w n m counts (plainOf width (lent input counts groups kinds)) → Packed width w (n * takenBlock) n input copies counts (plainOf width (lent input counts groups kinds))
   unfolding flat
-  standing-held {m} s =
+  standing-packed {m} s =
       record {
         few = few;
         listed = omega (arith, one-line, few);
@@ -272,7 +273,9 @@ taking-done {w} {w₀} {n} {k} {m} {first} {counts} {kinds} s y h =
       front = s .front;
       rest = s .rest;
       number = λ width input groups a. all width input groups a .number;
-      held = λ width input groups copies a. standing-held width w n input copies counts groups kinds ready a (all width input groups a);
+      held = λ width input groups copies a.
+          packed-held width w (n * takenBlock) n input copies counts (plainOf width (lent input counts groups kinds))
+          (standing-packed width w n input copies counts groups kinds ready a (all width input groups a));
     }
   where
     ready : Takable w n counts kinds

@@ -23,7 +23,7 @@ use Rattle.rules.specs.Calls.{unless, answerOf, written, builtOf, filled, viewe
 use Rattle.rules.specs.Windows.{boxesAs, windowBad, windowRefusalOf, inWindow, foundOf, Windowed}
 use Rattle.chain_laws.proofs.Counts.{Each, each-map}
 use Rattle.chain_laws.proofs.Room.{lines-length, chains-fit}
-use Rattle.box_laws.specs.Sound.{Place, Places}
+use Rattle.box_laws.specs.Sound.{BoxPlace, Places}
 use Rattle.box_laws.specs.Spans.{spans}
 use Rattle.box_laws.proofs.Places.{places-of}
 use Rattle.box_laws.proofs.Runs.{keep-same}
@@ -47,7 +47,7 @@ module _ {t : ℕ} {l : Lines} {s : Settings} {o o′ : Rooms} {n : ℕ} (built 
   -- the chains' points are places
   chains-places : Each Places (map (λ (p : Piece). p .points) ps)
   chains-places =
-      each-map (λ (p : Piece). p .points) Places ps (chains-have w l s Place (places-of (points w (l .coordinates)) (a .places)))
+      each-map (λ (p : Piece). p .points) Places ps (chains-have w l s BoxPlace (places-of (points w (l .coordinates)) (a .places)))
 
   -- what stands in the boxes
   abbrev rest : List ℕ

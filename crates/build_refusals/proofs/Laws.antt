@@ -1,7 +1,7 @@
 -- Laws of the refusals of building: one more number summed or passed, and what a call has that no refusal meets.
 use mathlib.Core.Path.{_≡_, refl, sym, ap, subst, _∙_}
 use mathlib.Core.Bool.{Bool, true, false, not, _&&_, _||_, true≢false}
-use mathlib.Core.List.{List, [], _∷_}
+use mathlib.Core.List.{List, [], _∷_, _++_}
 use Prim.Native.Nat.{ℕ, zero, suc, _+_, _*_, _/_, _^_, _≤_, _<_}
 use native.Mathlib.Nat.{add-assoc, mul-le-mul-right}
 use native.Mathlib.Numerals.{add-one}
@@ -21,9 +21,8 @@ use Rattle.point_numbers.proofs.Widths.{width-two}
 use Rattle.rules.specs.Boxes.{boxRoom}
 use Rattle.rules.specs.Layout.{Lines}
 use Rattle.rules.specs.Types.{widthOf, noType}
-use Rattle.rules.specs.Districts.{overLines, overPoints}
-use Rattle.build_refusals.specs.Admitted.{Admitted}
-use Rattle.rules.specs.Refusals.{Rooms, anyAbove, nowhere, anyNowhere, originBad, firstOf, refusalOf, mostLines, mostPoints, lineRoom, recordSize}
+use Rattle.build_refusals.specs.Admitted.{LinesAdmitted, Admitted}
+use Rattle.rules.specs.Refusals.{Rooms, anyAbove, nowhere, anyNowhere, originBad, firstOf, lineTests, refusalOf, mostLines, mostPoints, lineRoom, recordSize}
 use Rattle.build_refusals.specs.Tests.{wildOf, switchBad, roomShort}
 
 -- ---- sums and kinds
@@ -150,22 +149,12 @@ places-end w l i two h = ap anyNowhere (points-past w l i (omega arith) (omega a
 
 -- ---- the ladder
 
--- the tests of a call, in order
-abbrev pub tests : ℕ → Lines → Settings → Rooms → List (ℕ × Bool)
-tests t l s o =
+-- the tests of a call behind those of its lines, in order
+abbrev pub restTests : Lines → Settings → Rooms → List (ℕ × Bool)
+restTests l s o =
     let n = length (l .counts) in
-    let c = total (l .counts) in
     let numbers = length (l .coordinates) in
-    (12, noType t)
-    ∷ (1, ltb mostLines n)
-    ∷ (2, not (eqb (length (l .groups)) n) || not (eqb (length (l .kinds)) n))
-    ∷ (3, anyAbove 1 (l .kinds))
-    ∷ (4, not (eqb (c * widthOf t) numbers))
-    ∷ (5, ltb mostPoints c)
-    ∷ (20, overLines (l .groups))
-    ∷ (21, overPoints (l .counts) (l .groups))
-    ∷ (15, anyNowhere (points (widthOf t) (l .coordinates)))
-    ∷ (6, switchBad (s .switch) (s .limit))
+    (6, switchBad (s .switch) (s .limit))
     ∷ (17, originBad (s .«origin_x») (s .«origin_y»))
     ∷ (
       7,
@@ -196,7 +185,7 @@ stop a b e = ap (λ (t : Bool). t || b) e
 pub record Left (r : ℕ) (l : List (ℕ × Bool)) : Type 0 where
   pub is : r ≡ firstOf l
 
-pub opened : (t : ℕ) (l : Lines) (s : Settings) (o : Rooms) → Left (refusalOf t l s o) (tests t l s o)
+pub opened : (t : ℕ) (l : Lines) (s : Settings) (o : Rooms) → Left (refusalOf t l s o) (lineTests t l ++ restTests l s o)
 unfolding refusalOf switchBad roomShort
 opened t l s o = record { is = refl }
 
@@ -230,6 +219,47 @@ pub top : {r : ℕ} → Left r [] → 0 ≡ r
 unfolding firstOf
 top e = sym (e .is)
 
+-- ---- two ladders, one behind the other
+
+-- every number is above 0
+abbrev pub Numbered : List (ℕ × Bool) → Type 0
+Numbered [] = Unit {0}
+Numbered (t ∷ l) = (0 < t .0) × Numbered l
+
+pub lines-numbered : (t : ℕ) (l : Lines) → Numbered (lineTests t l)
+lines-numbered t l = (omega arith, (omega arith, (omega arith, (omega arith, (omega arith, (omega arith, (omega arith, (omega arith, (omega arith, tt)))))))))
+
+firstOf-on : (a b : List (ℕ × Bool)) → Numbered a → firstOf a ≡ 0 → firstOf (a ++ b) ≡ firstOf b
+unfolding firstOf
+firstOf-on [] b n e = refl
+firstOf-on ((k, true) ∷ a) b n e = absurd (omega (arith, n .0))
+firstOf-on ((k, false) ∷ a) b n e = firstOf-on a b (n .1) e
+
+firstOf-stop : (a b : List (ℕ × Bool)) → (firstOf a ≡ 0 → ⊥) → firstOf (a ++ b) ≡ firstOf a
+unfolding firstOf
+firstOf-stop [] b n = absurd (n refl)
+firstOf-stop ((k, true) ∷ a) b n = refl
+firstOf-stop ((k, false) ∷ a) b n = firstOf-stop a b n
+
+firstOf-none : (a b : List (ℕ × Bool)) → firstOf (a ++ b) ≡ 0 → Numbered a → firstOf a ≡ 0
+unfolding firstOf
+firstOf-none [] b e n = refl
+firstOf-none ((k, true) ∷ a) b e n = e
+firstOf-none ((k, false) ∷ a) b e n = firstOf-none a b e (n .1)
+
+-- the first ladder is passed, or gives its number
+pub climbed : {r k : ℕ} (a b : List (ℕ × Bool)) → Left r (a ++ b) → Numbered a → k ≡ firstOf a → k ≡ 0 → Left r b
+climbed a b e n f z = record { is = e .is ∙ firstOf-on a b n (sym f ∙ z) }
+
+pub stayed : {r k : ℕ} (a b : List (ℕ × Bool)) → Left r (a ++ b) → k ≡ firstOf a → (k ≡ 0 → ⊥) → k ≡ r
+stayed a b e f d = f ∙ sym (e .is ∙ firstOf-stop a b (λ z. d (f ∙ z)))
+
+-- neither refuses
+pub parted : (a b : List (ℕ × Bool)) → Numbered a → Left 0 (a ++ b) → Left 0 a × Left 0 b
+parted a b n e =
+    let z = firstOf-none a b (sym (e .is)) n in
+    (record { is = sym z }, record { is = e .is ∙ firstOf-on a b n z })
+
 -- the tests of 12, 4, 5 and 15, from a width and a sum that are at hand
 pub typed : (t w : ℕ) {b : Bool} → w ≡ widthOf t → eqb w 0 ≡ b → noType t ≡ b
 typed t w e f = rw (← e, f)
@@ -260,10 +290,10 @@ unfolding firstOf
 off-first k true l e = absurd (omega arith)
 off-first k false l e = (refl, record { is = e })
 
-off : {k : ℕ} {b : Bool} {l : List (ℕ × Bool)} → Left 0 ((suc k, b) ∷ l) → (b ≡ false) × Left 0 l
+pub off : {k : ℕ} {b : Bool} {l : List (ℕ × Bool)} → Left 0 ((suc k, b) ∷ l) → (b ≡ false) × Left 0 l
 off {k} {b} {l} e = off-first k b l (e .is)
 
-or-off : (a b : Bool) → a || b ≡ false → (a ≡ false) × (b ≡ false)
+pub or-off : (a b : Bool) → a || b ≡ false → (a ≡ false) × (b ≡ false)
 or-off true b e = absurd (true≢false e)
 or-off false b e = (refl, e)
 
@@ -271,12 +301,12 @@ or-off false b e = (refl, e)
 pub same-groups : (g n : ℕ) (b : Bool) {r : Bool} → r ≡ (not (eqb g n) || b) → r ≡ false → g ≡ n
 same-groups g n b e f = eqb-true g n (not-false _ (or-off (not (eqb g n)) b (sym e ∙ f) .0))
 
-pub admitted : (t : ℕ) (l : Lines) (s : Settings) (o : Rooms) → refusalOf t l s o ≡ 0 → Admitted t l s o
-unfolding roomShort
-admitted t l s o z =
+-- of its lines
+pub lines-admitted : (t : ℕ) (l : Lines) → Left 0 (lineTests t l) → LinesAdmitted t l
+lines-admitted t l e =
     let n = length (l .counts) in
     let numbers = length (l .coordinates) in
-    let t₀ = off (record { is = sym z ∙ opened t l s o .is }) in
+    let t₀ = off e in
     let t₁ = off (t₀ .1) in
     let t₂ = off (t₁ .1) in
     let t₃ = off (t₂ .1) in
@@ -285,17 +315,7 @@ admitted t l s o z =
     let t₆ = off (t₅ .1) in
     let t₇ = off (t₆ .1) in
     let t₈ = off (t₇ .1) in
-    let t₉ = off (t₈ .1) in
-    let t₁₀ = off (t₉ .1) in
-    let t₁₁ = off (t₁₀ .1) in
     let both = or-off (not (eqb (length (l .groups)) n)) (not (eqb (length (l .kinds)) n)) (t₂ .0) in
-    let r₁ = or-off (ltb (length (o .table)) (n * recordSize)) _ (t₁₁ .0) in
-    let r₂ = or-off (ltb (length (o .members)) n) _ (r₁ .1) in
-    let r₃ = or-off (ltb (length (o .marks)) n) _ (r₂ .1) in
-    let r₄ = or-off (ltb (length (o .listing)) n) _ (r₃ .1) in
-    let r₅ = or-off (ltb (length (o .merged)) numbers) _ (r₄ .1) in
-    let r₆ = or-off (ltb (length (o .boxes)) (boxRoom n)) _ (r₅ .1) in
-    let r₇ = or-off (ltb (length (o .spare)) numbers) (ltb (length (o .workspace)) (n * lineRoom)) (r₆ .1) in
     record {
       two = width-two t (eqb-false (widthOf t) 0 (t₀ .0));
       few = ltb-false 4096 n (t₁ .0);
@@ -306,8 +326,37 @@ admitted t l s o z =
       lines-shared = t₆ .0;
       points-shared = t₇ .0;
       places = t₈ .0;
-      switched = t₉ .0;
-      cornered = t₁₀ .0;
+    }
+
+pub admitted : (t : ℕ) (l : Lines) (s : Settings) (o : Rooms) → refusalOf t l s o ≡ 0 → Admitted t l s o
+unfolding roomShort
+admitted t l s o z =
+    let n = length (l .counts) in
+    let numbers = length (l .coordinates) in
+    let parts = parted (lineTests t l) (restTests l s o) (lines-numbered t l) (record { is = sym z ∙ opened t l s o .is }) in
+    let a = lines-admitted t l (parts .0) in
+    let t₀ = off (parts .1) in
+    let t₁ = off (t₀ .1) in
+    let t₂ = off (t₁ .1) in
+    let r₁ = or-off (ltb (length (o .table)) (n * recordSize)) _ (t₂ .0) in
+    let r₂ = or-off (ltb (length (o .members)) n) _ (r₁ .1) in
+    let r₃ = or-off (ltb (length (o .marks)) n) _ (r₂ .1) in
+    let r₄ = or-off (ltb (length (o .listing)) n) _ (r₃ .1) in
+    let r₅ = or-off (ltb (length (o .merged)) numbers) _ (r₄ .1) in
+    let r₆ = or-off (ltb (length (o .boxes)) (boxRoom n)) _ (r₅ .1) in
+    let r₇ = or-off (ltb (length (o .spare)) numbers) (ltb (length (o .workspace)) (n * lineRoom)) (r₆ .1) in
+    record {
+      two = a .two;
+      few = a .few;
+      groups-long = a .groups-long;
+      kinds-long = a .kinds-long;
+      adds = a .adds;
+      small = a .small;
+      lines-shared = a .lines-shared;
+      points-shared = a .points-shared;
+      places = a .places;
+      switched = t₀ .0;
+      cornered = t₁ .0;
       table-long = ltb-false (length (o .table)) (n * recordSize) (r₁ .0);
       members-long = ltb-false (length (o .members)) n (r₂ .0);
       marks-long = ltb-false (length (o .marks)) n (r₃ .0);

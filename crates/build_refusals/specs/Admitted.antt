@@ -13,6 +13,19 @@ use Rattle.rules.specs.Districts.{overLines, overPoints}
 use Rattle.rules.specs.Refusals.{Rooms, anyNowhere, originBad, mostLines, mostPoints, recordSize, lineRoom}
 use Rattle.build_refusals.specs.Tests.{switchBad}
 
+-- of its lines
+pub record LinesAdmitted (t : ℕ) (l : Lines) : Type 0 where
+  pub two : 2 ≤ widthOf t
+  pub few : length (l .counts) ≤ mostLines
+  pub groups-long : length (l .groups) ≡ length (l .counts)
+  pub kinds-long : length (l .kinds) ≡ length (l .counts)
+  pub adds : total (l .counts) * widthOf t ≡ length (l .coordinates)
+  pub small : total (l .counts) ≤ mostPoints
+  pub lines-shared : overLines (l .groups) ≡ false
+  pub points-shared : overPoints (l .counts) (l .groups) ≡ false
+  pub places : anyNowhere (points (widthOf t) (l .coordinates)) ≡ false
+
+-- of all
 pub record Admitted (t : ℕ) (l : Lines) (s : Settings) (o : Rooms) : Type 0 where
   pub two : 2 ≤ widthOf t
   pub few : length (l .counts) ≤ mostLines

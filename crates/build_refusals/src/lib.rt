@@ -15,7 +15,7 @@ ghost use lib.ListN.{length};
 ghost use Rattle.rules.specs.Lists.{total as total-of};
 ghost use Rattle.rules.specs.Plane.{points};
 ghost use Rattle.rules.specs.Layout.{lent};
-ghost use Rattle.rules.specs.Refusals.{anyAbove, anyNowhere, limitBad, originBad, rooms, refusalOf, mostLines};
+ghost use Rattle.rules.specs.Refusals.{anyAbove, anyNowhere, limitBad, originBad, rooms, firstOf, lineTests, refusalOf, mostLines};
 ghost use Rattle.point_numbers.specs.Width.{Whole};
 ghost use Rattle.build_refusals.specs.Tests.{wildOf, switchBad, roomShort};
 
@@ -79,7 +79,7 @@ fn any_nowhere_wide(numbers: &[u64], width: usize) -> bool
 }
 
 // Whether a coordinate is no place. Without extras every number is an x or a y.
-fn any_nowhere(numbers: &[u64], width: usize) -> bool
+pub fn any_nowhere(numbers: &[u64], width: usize) -> bool
     requires { ⌜ (2 ≤ width) × Whole width (now numbers) ⌝ }
     ensures { λ r. ⌜ r ≡ anyNowhere (points width (now (numbers .entry))) ⌝ }
 {
@@ -112,7 +112,7 @@ pub fn limit_bad(limit: f64) -> bool
 }
 
 // With the switch at 0 the limit isn't looked at.
-fn switch_bad(switch: u8, limit: f64) -> bool
+pub fn switch_bad(switch: u8, limit: f64) -> bool
     ensures { λ r. ⌜ r ≡ switchBad switch limit ⌝ }
 {
     if 1 < switch {
@@ -125,7 +125,7 @@ fn switch_bad(switch: u8, limit: f64) -> bool
 }
 
 // Whether an origin is NaN or infinite.
-fn origin_bad(x: f64, y: f64) -> bool
+pub fn origin_bad(x: f64, y: f64) -> bool
     ensures { λ r. ⌜ r ≡ originBad x y ⌝ }
 {
     if float_order::is_finite(x) {
@@ -174,27 +174,15 @@ fn room_short(
     workspace < n * LINE_ROOM
 }
 
-// The number of the first refusal that applies, or 0.
-pub fn refusal(
+// The number of the first refusal of a call's lines, of a type, that applies, or 0.
+pub fn line_refusal(
     wkb_type: u32,
     coordinates: &[u64],
     counts: &[u32],
     groups: &[u32],
     kinds: &[u8],
-    settings: Settings,
-    table: &[u32],
-    members: &[u32],
-    marks: &[u8],
-    listing: &[u32],
-    merged: &[u64],
-    boxes: &[u64],
-    spare: &[u64],
-    workspace: &[u64],
 ) -> u64
-    ensures { λ r. ⌜ r ≡ refusalOf «wkb_type»
-        (lent (now (coordinates .entry)) (now (counts .entry)) (now (groups .entry)) (now (kinds .entry))) settings
-        (rooms (now (table .entry)) (now (members .entry)) (now (marks .entry)) (now (listing .entry))
-        (now (merged .entry)) (now (boxes .entry)) (now (spare .entry)) (now (workspace .entry))) ⌝ }
+    ensures { λ r. ⌜ r ≡ firstOf (lineTests «wkb_type» (lent (now (coordinates .entry)) (now (counts .entry)) (now (groups .entry)) (now (kinds .entry)))) ⌝ }
 {
     let width = point_numbers::width_of(wkb_type);
     if width == 0 {
@@ -225,6 +213,35 @@ pub fn refusal(
     if any_nowhere(coordinates, width) {
         return 15;
     }
+    0
+}
+
+// The number of the first refusal that applies, or 0.
+pub fn refusal(
+    wkb_type: u32,
+    coordinates: &[u64],
+    counts: &[u32],
+    groups: &[u32],
+    kinds: &[u8],
+    settings: Settings,
+    table: &[u32],
+    members: &[u32],
+    marks: &[u8],
+    listing: &[u32],
+    merged: &[u64],
+    boxes: &[u64],
+    spare: &[u64],
+    workspace: &[u64],
+) -> u64
+    ensures { λ r. ⌜ r ≡ refusalOf «wkb_type»
+        (lent (now (coordinates .entry)) (now (counts .entry)) (now (groups .entry)) (now (kinds .entry))) settings
+        (rooms (now (table .entry)) (now (members .entry)) (now (marks .entry)) (now (listing .entry))
+        (now (merged .entry)) (now (boxes .entry)) (now (spare .entry)) (now (workspace .entry))) ⌝ }
+{
+    let refused = line_refusal(wkb_type, coordinates, counts, groups, kinds);
+    if refused != 0 {
+        return refused;
+    }
     if switch_bad(settings.switch, settings.limit) {
         return 6;
     }
@@ -232,8 +249,8 @@ pub fn refusal(
         return 17;
     }
     if room_short(
-        n,
-        numbers,
+        counts.len(),
+        coordinates.len(),
         table.len(),
         members.len(),
         marks.len(),

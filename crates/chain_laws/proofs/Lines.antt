@@ -2,7 +2,7 @@
 -- It is true because a sum over all walks has each piece once, so that a round keeps how often each line stands in its pieces; and a line is plain,
 -- or it passes through.
 use Prim.Native.Nat.{ℕ, zero, suc, _+_, _≤_, _<_}
-use mathlib.Core.Path.{_≡_, refl, sym, ap, _∙_, fun-ext}
+use mathlib.Core.Path.{_≡_, refl, sym, ap, ap₂, _∙_, fun-ext}
 use mathlib.Core.Bool.{Bool, true, false, Bool·beq}
 use mathlib.Core.List.{List, [], _∷_, _++_, map, flatMap, flatten, map-append, append-assoc}
 use native.Mathlib.Omega.{arith}
@@ -38,7 +38,7 @@ module _ {A : Type 0} where
   map-from f k (suc n) = ap {B = List A} (λ l. f (suc k) ∷ l) (map-from f (suc k) n)
 
   -- a list, element by element
-  by-place : (d : A) (l : List A) → map (λ i. getD l i d) (upto (length l)) ≡ l
+  pub by-place : (d : A) (l : List A) → map (λ i. getD l i d) (upto (length l)) ≡ l
   unfolding upto from
   by-place d [] = refl
   by-place d (a ∷ l) = ap {B = List A} (λ r. a ∷ r) (map-from (λ i. getD (a ∷ l) i d) 0 (length l) ∙ by-place d l)
@@ -46,6 +46,19 @@ module _ {A : Type 0} where
 pub map-map : {A B C : Type 0} (g : B → C) (f : A → B) (l : List A) → map g (map f l) ≡ map (λ a. g (f a)) l
 map-map g f [] = refl
 map-map g f (a ∷ l) = ap {B = List _} (λ r. g (f a) ∷ r) (map-map g f l)
+
+-- a list made number by number, each what stands there, is the list
+made-from : {A : Type 0} (f : ℕ → A) (k : ℕ) (xs : List A) (d : A) → ((q : ℕ) → q < length xs → f (k + q) ≡ getD xs q d) → map f (from k (length xs)) ≡ xs
+unfolding from
+made-from f k [] d h = refl
+made-from {A} f k (x ∷ xs) d h =
+    let z : k ≡ k + 0 = omega arith in
+    ap₂ (λ (a : A) (t : List A). a ∷ t) (ap f z ∙ h 0 (omega arith))
+    (made-from f (suc k) xs d (λ q b. let e : suc k + q ≡ k + suc q = omega arith in ap f e ∙ h (suc q) (omega arith)))
+
+pub made-all : {A : Type 0} (f : ℕ → A) (xs : List A) (d : A) → ((q : ℕ) → q < length xs → f q ≡ getD xs q d) → map f (upto (length xs)) ≡ xs
+unfolding upto
+made-all f xs d h = made-from f 0 xs d (λ q b. let e : 0 + q ≡ q = omega arith in ap f e ∙ h q b)
 
 -- ---- a round keeps the lines
 

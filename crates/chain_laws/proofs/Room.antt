@@ -123,7 +123,7 @@ pub members-fit : (s : Settings) (ls : List Line) → length (linesOf (chains s 
 members-fit s ls = same-length (linesOf (chains s ls)) (upto (length ls)) (chains-count s ls) ∙ upto-length (length ls)
 
 -- no more chains than lines: each has one
-full-long : (ls : List Line) (ps : List Piece) → Each (Sound ls) ps → length ps ≤ length (linesOf ps)
+pub full-long : (ls : List Line) (ps : List Piece) → Each (Sound ls) ps → length ps ≤ length (linesOf ps)
 unfolding flatMap
 full-long ls ps nil = zero-le
 full-long ls ps (cons {a = p} {l = qs} s a) = omega (arith, length-append (p .lines) (linesOf qs), s .full, full-long ls qs a)

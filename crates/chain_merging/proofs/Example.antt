@@ -14,7 +14,8 @@ use Rattle.rules.specs.Layout.{copied, copy, five, rows}
 use Rattle.point_numbers.specs.Width.{AllWide, none-wide, more-wide}
 use Rattle.chain_laws.proofs.Counts.{nil, cons}
 use Rattle.chain_laws.proofs.Drawn.{Drawn}
-use Rattle.chain_pieces.specs.Held.{Own, Held}
+use Rattle.chain_pieces.specs.Held.{Own, Packed}
+use Rattle.chain_pieces.proofs.Packed.{packed-held}
 use Rattle.chain_merging.specs.Emit.{Walks}
 
 abbrev line : ℕ → ℕ → ℕ → Piece
@@ -56,9 +57,9 @@ drawn zero h = record { marked = refl; low = cons {a = 0} (omega arith) nil; pas
 drawn (suc zero) h = record { marked = refl; low = cons {a = 0} (omega arith) nil; passes = λ y. refl }
 drawn (suc (suc q)) h = absurd (omega arith)
 
-held : Held 2 work 16 2 input [] counts pieces
+packed : Packed 2 work 16 2 input [] counts pieces
 unfolding flatMap rows copied copy five flat numbersOf total
-held =
+packed =
     record {
       few = omega arith;
       listed = omega arith;
@@ -91,7 +92,7 @@ example =
       counts = counts;
       ps = pieces;
       ws = (0 ∷ 2 ∷ []) ∷ [];
-      held = held;
+      held = packed-held 2 work 16 2 input [] counts pieces packed;
       two = omega arith;
       front = omega arith;
       all = refl;

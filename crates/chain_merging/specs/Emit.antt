@@ -15,7 +15,7 @@ use Rattle.rules.specs.Layout.{copy, five, pieceTable}
 use Rattle.rules.specs.Refusals.{pieceSize}
 use Rattle.rules.specs.Calls.{written}
 use Rattle.chain_laws.proofs.Drawn.{Low}
-use Rattle.chain_pieces.specs.Held.{linesOf, Held}
+use Rattle.chain_pieces.specs.Held.{linesOf, Held, Packed}
 use Rattle.point_slices.specs.Holds.{HoldsFrom}
 use Rattle.chain_pieces.specs.Map.{joinBlock, listingBlock, markBlock, memberBlock}
 
@@ -156,6 +156,6 @@ pub record Tabled (width : ℕ) (w′ w : List ℕ) (n : ℕ) (merged′ merged 
 -- THE PIECES THAT COME OUT: they stand in the block at the front; beyond it w is as before
 pub record Done (width : ℕ) (w′ w : List ℕ) (n : ℕ) (input merged′ merged counts : List ℕ) (qs : List Piece) : Type 0 where
   pub size : length w′ ≡ length w
-  pub held : Held width w′ 0 n input merged′ counts qs
+  pub held : Packed width w′ 0 n input merged′ counts qs
   pub rest : drop (n * joinBlock) w′ ≡ drop (n * joinBlock) w
   pub merged-is : merged′ ≡ written (flat width (flatMap copy qs)) merged

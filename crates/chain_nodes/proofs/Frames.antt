@@ -9,16 +9,14 @@ use lib.ListN.{length, getD, drop}
 use lib.Seq.{slice}
 use Rattle.rules.specs.Plane.{sameKey}
 use Rattle.rules.specs.Chaining.{Piece, keyAt}
-use Rattle.rules.specs.Refusals.{pieceSize}
-use Rattle.chain_laws.proofs.Drawn.{marks-all, listings-long}
-use Rattle.chain_pieces.specs.Held.{linesOf, marksOf, listingOf, Held}
-use Rattle.chain_pieces.proofs.Reading.{each-drawn}
+use Rattle.chain_pieces.specs.Held.{Held}
+use Rattle.chain_pieces.proofs.Reading.{held-block}
 use Rattle.point_slices.specs.Holds.{HoldsFrom}
-use Rattle.point_slices.proofs.Laws.{from-length, from-beyond, from-part}
+use Rattle.point_slices.proofs.Laws.{slice-part, from-length, from-beyond, from-part}
 use Rattle.chain_grouping.specs.Group.{sameWords, wordsOf, Nodes}
 use Rattle.chain_joins.proofs.Regions.{slice-same, drop-same}
 use Rattle.chain_nodes.specs.Noded.{Noded, Joined}
-use Rattle.chain_pieces.specs.Map.{groupBlock, joinBlock, listingBlock, markBlock, memberBlock, nodeBlock, takenBlock}
+use Rattle.chain_pieces.specs.Map.{groupBlock, joinBlock, nodeBlock, takenBlock}
 
 -- pieces in a block that stays
 pub held-same : (width : ℕ) (w′ w : List ℕ) (base n : ℕ) (input copies counts : List ℕ) (ps : List Piece) → length w′ ≡ length w
@@ -26,24 +24,9 @@ pub held-same : (width : ℕ) (w′ w : List ℕ) (base n : ℕ) (input copies c
     → Held width w base n input copies counts ps → Held width w′ base n input copies counts ps
 held-same width w′ w base n input copies counts ps z s h =
     let r = h .room in
-    let f = h .few in
-    let l = h .listed in
-    let marked : length (marksOf ps) ≡ length (linesOf ps) = marks-all ps (each-drawn h) in
-    let passed : length (listingOf ps) ≡ length (linesOf ps) = listings-long ps (each-drawn h) in
-    record {
-      few = f;
-      listed = l;
-      room = omega arith;
-      records = slice-same w′ w base (length ps * pieceSize) z (omega arith) (λ j a b. s j a (omega arith)) ∙ h .records;
-      members = slice-same w′ w (base + n * memberBlock) (length (linesOf ps)) z (omega arith) (λ j a b. s j (omega arith) (omega arith)) ∙ h .members;
-      marks = slice-same w′ w (base + n * markBlock) (length (marksOf ps)) z (omega arith) (λ j a b. s j (omega arith) (omega arith)) ∙ h .marks;
-      listing = slice-same w′ w (base + n * listingBlock) (length (listingOf ps)) z (omega arith) (λ j a b. s j (omega arith) (omega arith)) ∙ h .listing;
-      drawn = h .drawn;
-      full = h .full;
-      own = h .own;
-      wide = h .wide;
-      copied = h .copied;
-    }
+    held-block width w′ w base base n input copies counts ps
+    (sym (slice-part base (n * joinBlock) w′) ∙ slice-same w′ w base (n * joinBlock) z (omega arith) s ∙ slice-part base (n * joinBlock) w)
+    (omega arith) h
 
 pub joined-own : (w : List ℕ) (n m : ℕ) → Joined w w n m (slice (n * joinBlock) (n * joinBlock + m) w)
 joined-own w n m = record { size = refl; joins = refl; kept = λ j a b. refl; beyond = λ j a. refl }

@@ -15,7 +15,7 @@ use Rattle.rules.specs.Chaining.{Piece, Rule, keyAt, partner}
 use Rattle.rules.specs.Layout.{copy}
 use Rattle.rules.specs.Refusals.{mostLines, limitBad}
 use Rattle.rules.specs.Calls.{written}
-use Rattle.chain_pieces.specs.Held.{Held}
+use Rattle.chain_pieces.specs.Held.{Held, Packed}
 use Rattle.chain_grouping.specs.Group.{sameWords, wordsOf, Nodes}
 use Rattle.chain_keys.specs.Tells.{OneGroup}
 use Rattle.chain_pieces.specs.Map.{groupBlock, joinBlock, roundRoom, takenBlock}
@@ -58,5 +58,5 @@ pub record Joinable (width : ℕ) (w : List ℕ) (n m : ℕ) (s : Settings) (gro
 pub record Rounded (width : ℕ) (w′ w : List ℕ) (n r : ℕ) (input merged′ merged counts : List ℕ) (qs : List Piece) : Type 0 where
   pub size : length w′ ≡ length w
   pub number : r ≡ length qs
-  pub held : Held width w′ 0 n input merged′ counts qs
+  pub held : Packed width w′ 0 n input merged′ counts qs
   pub merged-is : merged′ ≡ written (flat width (flatMap copy qs)) merged

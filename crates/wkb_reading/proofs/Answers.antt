@@ -13,7 +13,7 @@ use Rattle.rules.specs.declared.Answer.the-variants.{Accepted, Refused}
 use Rattle.rules.specs.Calls.{unless, answerOf, written}
 use Rattle.rules.specs.Wkb.{recordsOf, runType, recordsRefusal, runRefusal, coordinatesOf, LentRun, lentRecords, readRefusalOf, Read}
 use Rattle.wkb_records.proofs.Records.{run-numbers}
-use Rattle.wkb_reading.specs.Storing.{Storable, Stored}
+use Rattle.wkb_reading.specs.Storing.{Storable, RunStored}
 use Rattle.wkb_reading.proofs.Storing.{headed}
 
 -- ---- the refusal of a run
@@ -92,7 +92,7 @@ module _ (i : LentRun) where
   read-refused zero e n = absurd (n refl)
   read-refused (suc k) e n = record { answer = rw e; coordinates = rw e; counts = rw e; type = rw e }
 
-  pub read-accepted : {coordinates′ counts′ type′ : List ℕ} → readRefusalOf i ≡ 0 → Stored (i .run) (i .lengths) coordinates′ (i .coordinates) counts′ (i .counts)
+  pub read-accepted : {coordinates′ counts′ type′ : List ℕ} → readRefusalOf i ≡ 0 → RunStored (i .run) (i .lengths) coordinates′ (i .coordinates) counts′ (i .counts)
       → type′ ≡ written (runType (lentRecords i) ∷ []) (i .type) → Read i (Accepted (length (i .lengths))) coordinates′ counts′ type′
   unfolding answerOf unless lentRecords
   read-accepted e s t = record { answer = rw e; coordinates = rw e (s .numbers); counts = rw e (s .tally); type = rw e t }

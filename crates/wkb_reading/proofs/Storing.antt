@@ -12,7 +12,7 @@ use Rattle.point_slices.proofs.Laws.{from-length}
 use Rattle.point_slices.proofs.Beginnings.{holds-more, holds-set, whole}
 use Rattle.rules.specs.Wkb.{countOf, doublesOf, recordsOf, recordsRefusal, coordinatesOf, countsOf}
 use Rattle.wkb_records.proofs.Records.{record-numbers, records-none, first-good}
-use Rattle.wkb_reading.specs.Storing.{Headed, Storable, Stored}
+use Rattle.wkb_reading.specs.Storing.{Headed, Storable, RunStored}
 use Rattle.wkb_reading.proofs.Laws.{next, total-drop}
 
 -- ---- the headers
@@ -115,7 +115,7 @@ module _ {run lengths coordinates₀ counts₀ coordinates counts : List ℕ} {a
   }
 
 pub stop : {run lengths coordinates₀ counts₀ coordinates counts : List ℕ} {at have i : ℕ}
-    → Storing run lengths coordinates₀ counts₀ coordinates counts at have i → length lengths ≤ i → Stored run lengths coordinates coordinates₀ counts counts₀
+    → Storing run lengths coordinates₀ counts₀ coordinates counts at have i → length lengths ≤ i → RunStored run lengths coordinates coordinates₀ counts counts₀
 unfolding coordinatesOf countsOf
 stop {run} {lengths} {coordinates₀} {counts₀} {coordinates} {counts} {at} {have} {i} s b = record {
   numbers = whole (s .holds) (sym (append-nil (s .numbers)) ∙ ap (λ (t : List ℕ). s .numbers ++ t) (sym nothing) ∙ s .numbers-left);

@@ -24,6 +24,6 @@ pub record Storable (run lengths coordinates counts : List ℕ) : Type 0 where
   pub room : length (coordinatesOf (recordsOf lengths run)) ≤ length coordinates
   pub rows : length lengths ≤ length counts
 
-pub record Stored (run lengths coordinates′ coordinates counts′ counts : List ℕ) : Type 0 where
+pub record RunStored (run lengths coordinates′ coordinates counts′ counts : List ℕ) : Type 0 where
   pub numbers : coordinates′ ≡ written (coordinatesOf (recordsOf lengths run)) coordinates
   pub tally : counts′ ≡ written (countsOf (recordsOf lengths run)) counts

@@ -8,7 +8,7 @@ ghost use lib.Dec.{eqb, ltb};
 ghost use lib.ListN.{length, take, drop, getD};
 ghost use Rattle.rules.specs.Lists.{total};
 ghost use Rattle.rules.specs.Wkb.{little, numberBy, byteOrder, recordsOf, runType, recordRefusal, recordsRefusal, runRefusal, runAs, Read};
-ghost use Rattle.wkb_reading.specs.Storing.{Storable, Stored, RecordStored};
+ghost use Rattle.wkb_reading.specs.Storing.{Storable, RunStored, RecordStored};
 
 // The bytes of a record before its coordinates, and of each number there.
 const HEADER: usize = 9;
@@ -163,7 +163,7 @@ fn store_record(bytes: &[u8], coordinates: &mut [u64], at: usize) -> usize
 // The coordinates and counts of a run's records.
 fn store(run: &[u8], lengths: &[u64], coordinates: &mut [u64], counts: &mut [u32])
     requires { ⌜ Storable (now run) (now lengths) (now coordinates) (now counts) ⌝ }
-    ensures { λ _. ⌜ Stored (now (run .entry)) (now (lengths .entry))
+    ensures { λ _. ⌜ RunStored (now (run .entry)) (now (lengths .entry))
         (now (coordinates .exit)) (now (coordinates .entry)) (now (counts .exit)) (now (counts .entry)) ⌝ }
 {
     let mut at: usize = 0;

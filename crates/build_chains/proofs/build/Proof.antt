@@ -2,7 +2,6 @@
 use borrow.Author.Needs.{needs}
 use Rattle.build_chains.proofs.build.Statement.{statement}
 use Rattle.build_chains.proofs.build.Tie as tie
-use mathlib.Core.Path.{sym, _∙_}
 use Rattle.build_chains.proofs.Built.{refused}
 
 refusal-requires : tie.Need-refusal-requires

@@ -1,33 +1,21 @@
 -- `build_admitted` does what the book's record says of a call without a refusal: the rounds, the layout, the boxes and the two clearings write each slice once.
-use native.Mathlib.Omega.{arith}
-use Rattle.build_chains.proofs.Built.{joinable, joinable-by, spare-long, layable, boxed, accepted}
 use borrow.Author.Needs.{needs}
 use Rattle.build_chains.proofs.build_admitted.Statement.{statement}
 use Rattle.build_chains.proofs.build_admitted.Tie as tie
-
--- the start of a place behind the width, behind the rounds and behind the layout
-abbrev typed : tie.After-width-of → tie.Start
-typed c = c .before .before .before .before .before .before .before .before .before .before .before .before .before
-
-abbrev widened : tie.After-join-lines → tie.After-width-of
-widened c = c .before .before .before .before
-
-abbrev joined : tie.After-lay-out → tie.After-join-lines
-joined c = c .before .before .before .before .before .before .before .before .before .before .before .before .before .before
+use native.Mathlib.Omega.{arith}
+use Rattle.build_chains.proofs.Built.{joinable, joinable-by, spare-long, layable, boxed, accepted}
 
 width-of-requires : tie.Need-width-of-requires
 width-of-requires c κs = search needs
 
 join-lines-requires : tie.Need-join-lines-requires
-join-lines-requires c κs =
-    let wide = c .before .before .before in
-    (joinable-by _ _ _ _ (typed wide .pre) (wide .width-of .ensures .0), spare-long _ _ _ _ (typed wide .pre))
+join-lines-requires c κs = (joinable-by _ _ _ _ (c .before .before .before .before .before .before .before .before .before .before .before .before .before .before .before .before .pre) (c .before .before .before .width-of .ensures .0), spare-long _ _ _ _ (c .before .before .before .before .before .before .before .before .before .before .before .before .before .before .before .before .pre))
 
 mul-end : tie.Need-mul-end
-mul-end c = omega (arith, joinable _ _ _ _ (typed (widened (c .before .before .before .before .before .before)) .pre) .few)
+mul-end c = omega (arith, joinable _ _ _ _ (c .before .before .before .before .before .before .before .before .before .before .before .before .before .before .before .before .before .before .before .before .before .before .before .pre) .few)
 
 mul-lay-out : tie.Need-mul-lay-out
-mul-lay-out c = omega (arith, joinable _ _ _ _ (typed (widened (c .before .before .before .before .before .before)) .pre) .few)
+mul-lay-out c = omega (arith, joinable _ _ _ _ (c .before .before .before .before .before .before .before .before .before .before .before .before .before .before .before .before .before .before .before .before .before .before .before .pre) .few)
 
 sub-lay-out : tie.Need-sub-lay-out
 sub-lay-out c = search needs
@@ -36,28 +24,24 @@ part-lay-out-start : tie.Need-part-lay-out-start
 part-lay-out-start c = search needs
 
 part-lay-out-end : tie.Need-part-lay-out-end
-part-lay-out-end c = omega (arith, joinable _ _ _ _ (typed (widened (c .before .before .before .before .before .before .before)) .pre) .workspace-long)
+part-lay-out-end c = omega (arith, joinable _ _ _ _ (c .before .before .before .before .before .before .before .before .before .before .before .before .before .before .before .before .before .before .before .before .before .before .before .before .pre) .workspace-long)
 
 lay-out-requires : tie.Need-lay-out-requires
-lay-out-requires c κs =
-    let j = c .before .before .before .before .before .before .before .before .before .before .before .before .before in
-    layable _ _ _ _ (typed (widened j) .pre) (widened j .width-of .ensures .0) (j .join-lines .ensures)
+lay-out-requires c κs = layable _ _ _ _ (c .before .before .before .before .before .before .before .before .before .before .before .before .before .before .before .before .before .before .before .before .before .before .before .before .before .before .before .before .before .before .pre) (c .before .before .before .before .before .before .before .before .before .before .before .before .before .before .before .before .before .width-of .ensures .0) (c .before .before .before .before .before .before .before .before .before .before .before .before .before .join-lines .ensures)
 
 lay-boxes-requires : tie.Need-lay-boxes-requires
 unfolding layable
 lay-boxes-requires c κs =
-    let laid = c .before .before .before .before .before .before .before .before .before .before .before in
-    let j = joined laid in
-    let z = typed (widened j) .pre in
-    let w = widened j .width-of .ensures .0 in
-    let l = j .join-lines .ensures in
-    boxed _ _ _ _ z w l (laid .lay-out .ensures (layable _ _ _ _ z w l))
+    let z = c .before .before .before .before .before .before .before .before .before .before .before .before .before .before .before .before .before .before .before .before .before .before .before .before .before .before .before .before .before .before .before .before .before .before .before .before .before .before .before .before .before .before .pre in
+    let w = c .before .before .before .before .before .before .before .before .before .before .before .before .before .before .before .before .before .before .before .before .before .before .before .before .before .before .before .before .before .width-of .ensures .0 in
+    let l = c .before .before .before .before .before .before .before .before .before .before .before .before .before .before .before .before .before .before .before .before .before .before .before .before .before .join-lines .ensures in
+    boxed _ _ _ _ z w l (c .before .before .before .before .before .before .before .before .before .before .before .lay-out .ensures (layable _ _ _ _ z w l))
 
 clear-requires : tie.Need-clear-requires
-clear-requires c κs = omega (arith, spare-long _ _ _ _ (typed (widened (joined (c .before .before .before .before .before .before .before .before .before .before .before .before .before .before .before))) .pre))
+clear-requires c κs = omega (arith, spare-long _ _ _ _ (c .before .before .before .before .before .before .before .before .before .before .before .before .before .before .before .before .before .before .before .before .before .before .before .before .before .before .before .before .before .before .before .before .before .before .before .before .before .before .before .before .before .before .before .before .before .before .pre))
 
 clear-requires-2 : tie.Need-clear-requires-2
-clear-requires-2 c κs = omega (arith, joinable _ _ _ _ (typed (widened (joined (c .before .before .before .before .before .before .before .before .before .before .before .before .before .before .before .before .before .before .before))) .pre) .workspace-long)
+clear-requires-2 c κs = omega (arith, joinable _ _ _ _ (c .before .before .before .before .before .before .before .before .before .before .before .before .before .before .before .before .before .before .before .before .before .before .before .before .before .before .before .before .before .before .before .before .before .before .before .before .before .before .before .before .before .before .before .before .before .before .before .before .before .before .pre) .workspace-long)
 
 same-length : tie.Need-same-length
 same-length c = search needs
@@ -72,7 +56,7 @@ same-length-4 : tie.Need-same-length-4
 same-length-4 c = search needs
 
 same-length-5 : tie.Need-same-length-5
-same-length-5 c = joined (c .before .before .before .before .before .before .before .before .before .before .before .before .before .before .before .before .before .before .before .before .before .before) .join-lines .kept .1 .1 .1 .1 .1 .1 .0
+same-length-5 c = c .before .before .before .before .before .before .before .before .before .before .before .before .before .before .before .before .before .before .before .before .before .before .before .before .before .before .before .before .before .before .before .before .before .before .before .before .join-lines .kept .1 .1 .1 .1 .1 .1 .0
 
 same-length-6 : tie.Need-same-length-6
 same-length-6 c = search needs
@@ -86,13 +70,10 @@ same-length-8 c = search needs
 returns : tie.Need-returns
 unfolding layable
 returns c =
-    let laid = c .before .before .before .before .before .before .before .before .before .before .before .before .before .before .before .before .before .before .before .before .before .before in
-    let j = joined laid in
-    let z = typed (widened j) .pre in
-    let w = widened j .width-of .ensures .0 in
-    let l = j .join-lines .ensures in
-    accepted _ _ _ _ z w l (laid .lay-out .ensures (layable _ _ _ _ z w l)) (c .before .before .before .before .before .before .before .before .before .before .lay-boxes .ensures) (c .before .before .before .before .before .before .clear .ensures)
-    (c .before .before .clear2 .ensures)
+    let z = c .before .before .before .before .before .before .before .before .before .before .before .before .before .before .before .before .before .before .before .before .before .before .before .before .before .before .before .before .before .before .before .before .before .before .before .before .before .before .before .before .before .before .before .before .before .before .before .before .before .before .before .before .before .pre in
+    let w = c .before .before .before .before .before .before .before .before .before .before .before .before .before .before .before .before .before .before .before .before .before .before .before .before .before .before .before .before .before .before .before .before .before .before .before .before .before .before .before .before .width-of .ensures .0 in
+    let l = c .before .before .before .before .before .before .before .before .before .before .before .before .before .before .before .before .before .before .before .before .before .before .before .before .before .before .before .before .before .before .before .before .before .before .before .before .join-lines .ensures in
+    accepted _ _ _ _ z w l (c .before .before .before .before .before .before .before .before .before .before .before .before .before .before .before .before .before .before .before .before .before .before .lay-out .ensures (layable _ _ _ _ z w l)) (c .before .before .before .before .before .before .before .before .before .before .lay-boxes .ensures) (c .before .before .before .before .before .before .clear .ensures) (c .before .before .clear2 .ensures)
 
 pub build-admitted-spec : {M : Type 1} → statement M
 build-admitted-spec =

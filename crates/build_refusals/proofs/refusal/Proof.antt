@@ -1,16 +1,16 @@
--- `refusal` is the book's. After each test that doesn't hold, the refusal is that of the tests that are left; where one holds, it is that test's number.
+-- `refusal` is the book's. Where the lines are refused, it is their refusal; else that of the tests that are left, one by one.
 use borrow.Author.Needs.{needs}
 use Rattle.build_refusals.proofs.refusal.Statement.{statement}
 use Rattle.build_refusals.proofs.refusal.Tie as tie
-use Prim.Native.Nat.{ℕ, _*_}
+use Prim.Native.Nat.{ℕ}
 use mathlib.Core.Path.{sym, _∙_}
 use denote.Ref.{now}
+use mathlib.Core.List.{_++_}
 use lib.ListN.{drop}
-use native.Mathlib.Omega.{arith}
-use borrow.Author.Tests.{lt-ltb, le-ltb, eq-eqb, ne-eqb}
 use Rattle.rules.specs.Layout.{Lines, lent}
-use Rattle.rules.specs.Refusals.{Rooms, rooms, refusalOf}
-use Rattle.build_refusals.proofs.Laws.{tests, Left, opened, rung, halt, rungs, halts, top, typed, sums, many, placed, has-two, product-short, same-groups}
+use Rattle.rules.specs.Refusals.{Rooms, rooms, refusalOf, lineTests}
+use Rattle.build_refusals.specs.Admitted.{LinesAdmitted}
+use Rattle.build_refusals.proofs.Laws.{restTests, Left, opened, rung, halt, top, climbed, stayed, lines-numbered, lines-admitted}
 
 abbrev start : tie.Else1 → tie.Start
 start c = c .before .before .before .before .before .before .before .before .before .before .before .before .before .before
@@ -23,134 +23,70 @@ rooms-of s =
     rooms (now (s .args .table)) (now (s .args .members)) (now (s .args .marks)) (now (s .args .listing)) (now (s .args .merged)) (now (s .args .boxes))
     (now (s .args .spare)) (now (s .args .workspace))
 
--- after k tests that don't hold, the refusal is that of the others
-abbrev After : ℕ → tie.Start → Type 0
-After k s =
-    Left (refusalOf (s .args .wkb-type) (lines-of s) (s .args .settings) (rooms-of s)) (drop k (tests (s .args .wkb-type) (lines-of s) (s .args .settings) (rooms-of s)))
+abbrev refused : tie.Start → ℕ
+refused s = refusalOf (s .args .wkb-type) (lines-of s) (s .args .settings) (rooms-of s)
 
-all : (s : tie.Start) → After 0 s
+-- after the tests of the lines and k more that don't hold, the refusal is that of the others
+abbrev After : ℕ → tie.Start → Type 0
+After k s = Left (refused s) (drop k (restTests (lines-of s) (s .args .settings) (rooms-of s)))
+
+all : (s : tie.Start) → Left (refused s) (lineTests (s .args .wkb-type) (lines-of s) ++ restTests (lines-of s) (s .args .settings) (rooms-of s))
 all s = opened (s .args .wkb-type) (lines-of s) (s .args .settings) (rooms-of s)
 
-left1 : (c : tie.Else1) → After 1 (start c)
-left1 c = rung (all (start c)) (typed _ _ (c .before .width-of .ensures .0) (ne-eqb _ _ (c .if1 .left)))
+left1 : (c : tie.Else1) → After 0 (start c)
+left1 c =
+    climbed (lineTests (start c .args .wkb-type) (lines-of (start c))) (restTests (lines-of (start c)) (start c .args .settings) (rooms-of (start c)))
+    (all (start c))
+    (lines-numbered (start c .args .wkb-type) (lines-of (start c))) (c .before .line-refusal .ensures) (c .if1 .left)
 
-left2 : (c : tie.Else2) → After 2 (start (c .before))
-left2 c = rung (left1 (c .before)) (le-ltb _ _ (c .if2 .left))
+left2 : (c : tie.Else2) → After 1 (start (c .before .before))
+left2 c = rung (left1 (c .before .before)) (sym (c .before .switch-bad .ensures) ∙ c .if2 .left)
 
-left3 : (c : tie.Else3) → After 3 (start (c .before .before .before))
-left3 c = rung (left2 (c .before .before)) (sym (c .before .tables-differ .ensures) ∙ c .if3 .left)
+left3 : (c : tie.Else3) → After 2 (start (c .before .before .before .before))
+left3 c = rung (left2 (c .before .before)) (sym (c .before .origin-bad .ensures) ∙ c .if3 .left)
 
-left4 : (c : tie.Else4) → After 4 (start (c .before .before .before .before .before))
-left4 c = rung (left3 (c .before .before)) (sym (c .before .any-above-one .ensures) ∙ c .if4 .left)
+admitted-lines : (c : tie.Else1) → LinesAdmitted (start c .args .wkb-type) (lines-of (start c))
+admitted-lines c = lines-admitted (start c .args .wkb-type) (lines-of (start c)) (record { is = sym (c .if1 .left) ∙ c .before .line-refusal .ensures })
 
-left5 : (c : tie.Else5) → After 5 (start (c .before .before .before .before .before .before .before))
-left5 c = rung (left4 (c .before .before)) (sums _ _ _ _ _ (c .before .total .ensures .0) (c .before .before .before .before .before .before .before .before .width-of .ensures .0) (eq-eqb _ _ (c .if5 .left)))
-
-left6 : (c : tie.Else6) → After 6 (start (c .before .before .before .before .before .before .before .before))
-left6 c = rung (left5 (c .before)) (many _ _ _ (c .before .before .total .ensures .0) (le-ltb _ _ (c .if6 .left)))
-
-left7 : (c : tie.Else7) → After 8 (start (c .before .before .before .before .before .before .before .before .before .before))
-left7 c = rungs (left6 (c .before .before)) (c .before .share-refusal .ensures) (c .if7 .left)
-
-left8 : (c : tie.Else8) → After 9 (start (c .before .before .before .before .before .before .before .before .before .before .before .before))
-left8 c = rung (left7 (c .before .before)) (placed _ _ _ (c .before .before .before .before .before .before .before .before .before .before .before .before .before .width-of .ensures .0) (c .before .any-nowhere .ensures) (c .if8 .left))
-
-left9 : (c : tie.Else9) → After 10 (start (c .before .before .before .before .before .before .before .before .before .before .before .before .before .before))
-left9 c = rung (left8 (c .before .before)) (sym (c .before .switch-bad .ensures) ∙ c .if9 .left)
-
-left10 : (c : tie.Else10) → After 11 (start (c .before .before .before .before .before .before .before .before .before .before .before .before .before .before .before .before))
-left10 c = rung (left9 (c .before .before)) (sym (c .before .origin-bad .ensures) ∙ c .if10 .left)
-
-width-of-requires : tie.Need-width-of-requires
-width-of-requires c κs = search needs
+line-refusal-requires : tie.Need-line-refusal-requires
+line-refusal-requires c κs = search needs
 
 returns : tie.Need-returns
-returns c = halt (all (c .before .before .before .before .before .before .before .before .before .before .before .before .before .before)) (typed _ _ (c .before .width-of .ensures .0) (eq-eqb _ _ (c .if1 .taken)))
-
-returns-2 : tie.Need-returns-2
-returns-2 c = halt (left1 (c .before)) (lt-ltb _ _ (c .if2 .taken))
-
-tables-differ-requires : tie.Need-tables-differ-requires
-tables-differ-requires c κs = search needs
-
-returns-3 : tie.Need-returns-3
-returns-3 c = halt (left2 (c .before .before)) (sym (c .before .tables-differ .ensures) ∙ c .if3 .taken)
-
-any-above-one-requires : tie.Need-any-above-one-requires
-any-above-one-requires c κs = search needs
-
-returns-4 : tie.Need-returns-4
-returns-4 c = halt (left3 (c .before .before)) (sym (c .before .any-above-one .ensures) ∙ c .if4 .taken)
-
-total-requires : tie.Need-total-requires
-total-requires c κs = search needs
-
-mul-if5 : tie.Need-mul-if5
-mul-if5 c = omega (arith, product-short (c .total .result) (c .before .before .before .before .before .before .before .width-of .result) (c .total .ensures .1) (c .before .before .before .before .before .before .before .width-of .ensures .1))
-
-returns-5 : tie.Need-returns-5
-returns-5 c = halt (left4 (c .before .before)) (sums _ _ _ _ _ (c .before .total .ensures .0) (c .before .before .before .before .before .before .before .before .width-of .ensures .0) (ne-eqb _ _ (c .if5 .taken)))
-
-returns-6 : tie.Need-returns-6
-returns-6 c = halt (left5 (c .before)) (many _ _ _ (c .before .before .total .ensures .0) (lt-ltb _ _ (c .if6 .taken)))
-
-share-refusal-requires : tie.Need-share-refusal-requires
-share-refusal-requires c κs = (c .before .before .before .before .before .before .before .if2 .left, same-groups _ _ _ (c .before .before .before .before .before .before .tables-differ .ensures) (c .before .before .before .before .before .if3 .left), c .before .before .total .ensures .0)
-
-returns-7 : tie.Need-returns-7
-returns-7 c = halts (left6 (c .before .before)) (c .before .share-refusal .ensures) (c .if7 .taken)
-
-any-nowhere-requires : tie.Need-any-nowhere-requires
-any-nowhere-requires c κs =
-    (has-two _ _ (c .before .before .before .before .before .before .before .before .before .before .before .width-of .ensures .0) (c .before .before .before .before .before .before .before .before .before .before .if1 .left), record { number = c .before .before .before .before .total .result; long = sym (c .before .before .before .if5 .left) })
-
-returns-8 : tie.Need-returns-8
-returns-8 c = halt (left7 (c .before .before)) (placed _ _ _ (c .before .before .before .before .before .before .before .before .before .before .before .before .before .width-of .ensures .0) (c .before .any-nowhere .ensures) (c .if8 .taken))
+returns c =
+    let s = c .before .before .before .before .before .before .before .before .before .before .before .before .before .before in
+    stayed (lineTests (s .args .wkb-type) (lines-of s)) (restTests (lines-of s) (s .args .settings) (rooms-of s)) (all s) (c .before .line-refusal .ensures) (c .if1 .taken)
 
 switch-bad-requires : tie.Need-switch-bad-requires
 switch-bad-requires c κs = search needs
 
-returns-9 : tie.Need-returns-9
-returns-9 c = halt (left8 (c .before .before)) (sym (c .before .switch-bad .ensures) ∙ c .if9 .taken)
+returns-2 : tie.Need-returns-2
+returns-2 c = halt (left1 (c .before .before)) (sym (c .before .switch-bad .ensures) ∙ c .if2 .taken)
 
 origin-bad-requires : tie.Need-origin-bad-requires
 origin-bad-requires c κs = search needs
 
-returns-10 : tie.Need-returns-10
-returns-10 c = halt (left9 (c .before .before)) (sym (c .before .origin-bad .ensures) ∙ c .if10 .taken)
+returns-3 : tie.Need-returns-3
+returns-3 c = halt (left2 (c .before .before)) (sym (c .before .origin-bad .ensures) ∙ c .if3 .taken)
 
 room-short-requires : tie.Need-room-short-requires
-room-short-requires c κs = search needs
+room-short-requires c κs = admitted-lines (c .before .before .before .before) .few
 
-returns-11 : tie.Need-returns-11
-returns-11 c = halt (left10 (c .before .before)) (sym (c .before .room-short .ensures) ∙ c .if11 .taken)
+returns-4 : tie.Need-returns-4
+returns-4 c = halt (left3 (c .before .before)) (sym (c .before .room-short .ensures) ∙ c .if4 .taken)
 
-returns-12 : tie.Need-returns-12
-returns-12 c = top (rung (left10 (c .before .before)) (sym (c .before .room-short .ensures) ∙ c .if11 .left))
+returns-5 : tie.Need-returns-5
+returns-5 c = top (rung (left3 (c .before .before)) (sym (c .before .room-short .ensures) ∙ c .if4 .left))
 
 pub refusal-spec : {M : Type 1} → statement M
 refusal-spec =
     tie.close
     (tie.spec
-    width-of-requires
+    line-refusal-requires
     returns
-    returns-2
-    tables-differ-requires
-    returns-3
-    any-above-one-requires
-    returns-4
-    total-requires
-    mul-if5
-    returns-5
-    returns-6
-    share-refusal-requires
-    returns-7
-    any-nowhere-requires
-    returns-8
     switch-bad-requires
-    returns-9
+    returns-2
     origin-bad-requires
-    returns-10
+    returns-3
     room-short-requires
-    returns-11
-    returns-12)
+    returns-4
+    returns-5)

@@ -1,0 +1,5 @@
+pub mod Counts
+pub mod Lines
+pub mod Single
+pub mod Pieces
+pub mod All
