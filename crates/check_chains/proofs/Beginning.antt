@@ -25,7 +25,7 @@ use Rattle.check_chains.specs.Chains.{ChainGround, FirstLineLies}
 -- ---- the ground
 
 module _ (w : ℕ) (chain line : List ℕ) (g : ChainGround w chain line) where
-  pub places-ground : places.Ground w chain line
+  pub places-ground : places.PlaceGround w chain line
   places-ground =
       record {
         two = g .two;
