@@ -100,6 +100,8 @@ enum lovasuku_refusal {
     LOVASUKU_PIECE_TOO_OFTEN = 8,      /* A piece number occurs more than twice. */
     LOVASUKU_NOT_FINITE = 9,           /* The indexed route was given a present direction that is not finite. */
     LOVASUKU_NO_SUCH_CHAIN = 10,       /* The table has no such chain. */
+    LOVASUKU_BAD_RECORD = 23,          /* A record of chains made elsewhere names no chain, or no lines of these. */
+    LOVASUKU_NOT_ACCEPTABLE = 24,      /* Chains made elsewhere are not acceptable otherwise. */
     LOVASUKU_BAD_BYTE_ORDER = 11,      /* A WKB record's byte order is neither 0 nor 1. */
     LOVASUKU_BAD_TYPE = 12,            /* A type, given or a WKB record's, is none of 2, 1002, 2002 and 3002. */
     LOVASUKU_MIXED_TYPES = 25,         /* A WKB record's type differs from the first record's. */
@@ -328,6 +330,43 @@ int64_t lovasuku_chain(uint32_t wkb_type, const double *coordinates, size_t coor
 int64_t lovasuku_window(const double *boxes, size_t boxes_length, uint64_t k,
                         double least_x, double least_y, double greatest_x, double greatest_y,
                         uint32_t *found, size_t found_length);
+
+/* Chains made elsewhere: are these chains of these lines acceptable? The result is 0, which says yes.
+ *
+ * Lent are the type of all lines, the lines as in building, a tolerance with the origin of its cells, and the chains:
+ * the first k records of a table, as building writes them, of which the last number, the loop's, is not looked at;
+ * listing, positions of lines, of which a record's first two numbers name a part, in the order of travel; and merged,
+ * the coordinates of source 1. Any of them may come from anywhere. Records may stand in any order, share parts of
+ * listing and merged and leave gaps in them; what lies behind record k - 1 is not looked at.
+ *
+ * They are acceptable where every line stands in exactly one chain, once, and every chain fits its lines. A chain of no
+ * lines has no coordinates. A chain of one line has that line's coordinates, bit for bit, with their extras, as the line
+ * was drawn; they may stand in either source. The lines of any other chain are of one group, none of them passes
+ * through, and a direction can be chosen for each such that, one behind another as they are listed, they meet: where a
+ * line is left and the next is entered, x and y agree bit for bit, or, where tolerance is above 0, lie in one cell; and
+ * such that these lines, each in its direction, laid end to end without repeats of x and y, are the chain's coordinates:
+ * as many, and equal in x and y by ==. Their extras are not looked at.
+ *
+ * So what lovasuku_build has made in one call, with its listing (and not with its members), is acceptable under the same
+ * tolerance and origin; that is proved. Acceptable too are chains that it would have cut, turned or joined otherwise, as
+ * long as their lines meet: no switch and no limit are asked for.
+ *
+ * Nothing is written.
+ *
+ * Rooms: workspace 192n.
+ *
+ * Refusals: 12, 1 to 5, 20, 21, 15 and 17 as of building. 7 workspace is too short. 23 one of the records 0 to k - 1 is
+ * none that lovasuku_chain answers with 0 for, reaches outside the listing, or lists a position that is not below n. 24
+ * the chains are not acceptable otherwise. All records are looked at for 23 before one is for 24. */
+int64_t lovasuku_check(uint32_t wkb_type, const double *coordinates, size_t coordinates_length,
+                       const uint32_t *counts, size_t counts_length,
+                       const uint32_t *groups, size_t groups_length,
+                       const uint8_t *kinds, size_t kinds_length,
+                       double tolerance, double origin_x, double origin_y,
+                       const uint32_t *table, size_t table_length, uint64_t k,
+                       const uint32_t *listing, size_t listing_length,
+                       const double *merged, size_t merged_length,
+                       uint64_t *workspace, size_t workspace_length);
 
 /* WKB in: reads lines from records of OGC 06-103r4. The result is the number of records.
  *

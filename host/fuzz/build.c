@@ -281,6 +281,7 @@ static void require_rooms(struct building *call, const struct lengths *lengths, 
     call->merged = (const uint64_t *)rooms[MERGED].fill;
     call->boxes = (const uint64_t *)rooms[BOXES].fill;
     size_t merged = require_built(call, chains);
+    require_acceptable(call, lengths->numbers, chains, merged);
     require_untouched_from(&rooms[TABLE], 4 * LOVASUKU_RECORD * chains,
                            "table is as before beyond what is written");
     require_untouched_from(&rooms[MEMBERS], 4 * call->n, "members are as before beyond what is written");

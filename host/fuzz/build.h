@@ -36,4 +36,8 @@ size_t require_boxes(const struct building *call, size_t chains);
 /* Looks into a window of the bytes over the chains of an accepted call, by its boxes of so many numbers. */
 void look_into(struct bytes *bytes, const struct building *call, const void *lent, size_t numbers, size_t chains);
 
+/* Requires the chains of an accepted call of so many numbers, with so many merged ones, to be acceptable as if they had
+ * been made elsewhere. */
+void require_acceptable(const struct building *call, size_t numbers, size_t chains, size_t merged_numbers);
+
 #endif

@@ -95,6 +95,7 @@ void fuzz_build(struct bytes *bytes);
 void fuzz_pairs(struct bytes *bytes);
 void fuzz_chain(struct bytes *bytes);
 void fuzz_window(struct bytes *bytes);
+void fuzz_check(struct bytes *bytes);
 void fuzz_read_wkb(struct bytes *bytes);
 void fuzz_write_wkb(struct bytes *bytes);
 

@@ -147,12 +147,16 @@ bool limit_is_bad(double limit) {
 
 int LLVMFuzzerTestOneInput(const uint8_t *data, size_t size) {
     struct bytes bytes = {data, size};
-    switch (next_byte(&bytes) % 11) {
+    switch (next_byte(&bytes) % 13) {
     case 0:
         fuzz_chain(&bytes);
         break;
     case 10:
         fuzz_window(&bytes);
+        break;
+    case 11:
+    case 12:
+        fuzz_check(&bytes);
         break;
     case 8:
         fuzz_read_wkb(&bytes);

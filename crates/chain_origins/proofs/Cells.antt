@@ -65,7 +65,7 @@ sum-zeros s t a b c e f h tolerance = go (Bool·beq s t)
         (ap (λ (x : Float). floor64 (div binary64 x tolerance)) (round-nothing (s && false) (a - b) c taken h) ∙ quotient-zero (s && false) tolerance)
 
 -- a zero that a double holds
-held-zero : (t : Bool) (e : ℤ) → T (fits binary64 (fin t 0 e)) → fin t 0 e ≡ zeroOf t
+pub held-zero : (t : Bool) (e : ℤ) → T (fits binary64 (fin t 0 e)) → fin t 0 e ≡ zeroOf t
 unfolding fits
 held-zero t e h =
     value-only (fin t 0 e) (zeroOf t) t 0 1 (omega arith) h tt

@@ -35,10 +35,10 @@ laidValues l = laid same none (map value l)
 laid-turned : (l : List Point) → laidValues (reverse l) ≡ reverse (laidValues l)
 laid-turned l = ap (laid same none) (map-turned value l []) ∙ laid-reverse same one self (map value l)
 
-drawn-as-before : (m : ℕ) (l : List Point) → m ≤ 1 → drawn ((m + 0) % 2) l ≡ drawn m l
+pub drawn-as-before : (m : ℕ) (l : List Point) → m ≤ 1 → drawn ((m + 0) % 2) l ≡ drawn m l
 drawn-as-before m l h = ap (λ (i : ℕ). drawn i l) (omega arith)
 
-drawn-turned : (m : ℕ) (l : List Point) → m ≤ 1 → drawn ((m + 1) % 2) l ≡ reverse (drawn m l)
+pub drawn-turned : (m : ℕ) (l : List Point) → m ≤ 1 → drawn ((m + 1) % 2) l ≡ reverse (drawn m l)
 unfolding drawn
 drawn-turned zero l h = refl
 drawn-turned (suc zero) l h = sym (reverse-reverse l)
@@ -72,22 +72,22 @@ module _ (ls : List Line) where
 
   module _ (p : Piece) (keeps : Passes p) where
     -- a line of the listing has a mark, 0 or 1
-    listed-in : (k : ℕ) → 0 < count k (p .listing) → 0 < count k (p .lines)
+    pub listed-in : (k : ℕ) → 0 < count k (p .listing) → 0 < count k (p .lines)
     listed-in k h = omega (arith, keeps .drawn .passes k)
 
-    mark-low : (k : ℕ) → 0 < count k (p .listing) → markOf (p .lines) (p .marks) k ≤ 1
+    pub mark-low : (k : ℕ) → 0 < count k (p .listing) → markOf (p .lines) (p .marks) k ≤ 1
     mark-low k h = mark-each k (p .lines) (p .marks) (keeps .drawn .marked) (λ m. m ≤ 1) (keeps .drawn .low) (listed-in k h)
 
-    abbrev marksFrom : ℕ → List ℕ
+    abbrev pub marksFrom : ℕ → List ℕ
     marksFrom side = map (λ mark. (mark + side) % 2) (p .marks)
 
-    abbrev listingFrom : ℕ → List ℕ
+    abbrev pub listingFrom : ℕ → List ℕ
     listingFrom side = cond (eqb side 0) (p .listing) (reverse (p .listing))
 
     abbrev pub wayFrom : ℕ → List Point
     wayFrom side = cond (eqb side 0) (way p) (reverse (way p))
 
-    drawn-from : (side k : ℕ) → 0 < count k (p .listing) → drawn (markOf (p .lines) (marksFrom side) k) (ownPoints ls k)
+    pub drawn-from : (side k : ℕ) → 0 < count k (p .listing) → drawn (markOf (p .lines) (marksFrom side) k) (ownPoints ls k)
         ≡ drawn ((markOf (p .lines) (p .marks) k + side) % 2) (ownPoints ls k)
     drawn-from side k h =
         ap (λ (m : ℕ). drawn m (ownPoints ls k)) (mark-changed k (p .lines) (p .marks) (keeps .drawn .marked) (λ mark. (mark + side) % 2) (listed-in k h))
@@ -120,24 +120,24 @@ module _ (ls : List Line) where
     passes-at qs zero (cons h a) = h
     passes-at qs (suc i) (cons {l = rs} h a) = passes-at rs i a
 
-    at : (e : ℕ) → Passes (pieceAt rule ps e)
+    pub at : (e : ℕ) → Passes (pieceAt rule ps e)
     unfolding pieceAt
     at e = passes-at ps (pieceOf e) keeps
 
-    abbrev linesOn : List ℕ → List ℕ
+    abbrev pub linesOn : List ℕ → List ℕ
     linesOn w = flatMap (λ e. pieceAt rule ps e .lines) w
 
-    abbrev wayOn : ℕ → List Point
+    abbrev pub wayOn : ℕ → List Point
     wayOn e = wayFrom (pieceAt rule ps e) (at e) (sideOf e)
 
-    drawn-on : (w : List ℕ) → Each (λ e. Drawn (pieceAt rule ps e)) w
+    pub drawn-on : (w : List ℕ) → Each (λ e. Drawn (pieceAt rule ps e)) w
     drawn-on [] = nil
     drawn-on (e ∷ w) = cons (at e .drawn) (drawn-on w)
 
-    turned-length : (e : ℕ) → length (turned rule ps e) ≡ length (pieceAt rule ps e .lines)
+    pub turned-length : (e : ℕ) → length (turned rule ps e) ≡ length (pieceAt rule ps e .lines)
     turned-length e = turned-long rule ps e ∙ at e .drawn .marked
 
-    run-numbers : (e : ℕ) → Each Number (run rule ps e)
+    pub run-numbers : (e : ℕ) → Each Number (run rule ps e)
     unfolding run
     run-numbers e = go (eqb (sideOf e) 0)
       where
@@ -175,7 +175,7 @@ module _ (ls : List Line) where
         ∙ walk-way w (λ y. omega (arith, h y, count-append y m n)))
 
     -- and its points lay as they do
-    run-lays : (e : ℕ) → laidValues (run rule ps e) ≡ laidValues (wayOn e)
+    pub run-lays : (e : ℕ) → laidValues (run rule ps e) ≡ laidValues (wayOn e)
     unfolding run
     run-lays e = lays-from (pieceAt rule ps e) (at e) (sideOf e)
 

@@ -30,7 +30,7 @@ use Rattle.chain_travel.proofs.Joining.{laidValues, way, Passes, join-p
 module _ (ls : List Line) (places : Each (λ l. anyNowhere (l .points) ≡ false) ls) where
   -- ---- the lines' points
 
-  lines-numbers : (ms : List Line) → Each (λ l. anyNowhere (l .points) ≡ false) ms → (k : ℕ) → Each Number (ownPoints ms k)
+  pub lines-numbers : (ms : List Line) → Each (λ l. anyNowhere (l .points) ≡ false) ms → (k : ℕ) → Each Number (ownPoints ms k)
   lines-numbers ms nil k = nil
   lines-numbers ms (cons {a = l} h a) zero = places-numbers (l .points) h
   lines-numbers ms (cons {l = rs} h a) (suc k) = lines-numbers rs a k
@@ -72,7 +72,7 @@ module _ (ls : List Line) (places : Each (λ l. anyNowhere (l .points) ≡ false
         lone = λ i. refl;
       }
 
-  alones-pass : (want : Bool) (k : ℕ) (ms : List Line) → ((i : ℕ) → getD ls (k + i) noLine ≡ getD ms i noLine) → Each (Passes ls) (pieces want k ms)
+  pub alones-pass : (want : Bool) (k : ℕ) (ms : List Line) → ((i : ℕ) → getD ls (k + i) noLine ≡ getD ms i noLine) → Each (Passes ls) (pieces want k ms)
   unfolding pieces
   alones-pass want k [] h = nil
   alones-pass want k (l ∷ ms) h =
@@ -82,26 +82,26 @@ module _ (ls : List Line) (places : Each (λ l. anyNowhere (l .points) ≡ false
       go true e ih = rw (pieces-take want k l ms e) (cons (alone-passes k l (ap (λ (m : ℕ). getD ls m noLine) (omega arith) ∙ h 0)) ih)
       go false e ih = rw (pieces-leave want k l ms e) ih
 
-  from-first : (i : ℕ) → getD ls (0 + i) noLine ≡ getD ls i noLine
+  pub from-first : (i : ℕ) → getD ls (0 + i) noLine ≡ getD ls i noLine
   from-first i = ap (λ (m : ℕ). getD ls m noLine) (omega arith)
 
   -- ---- the rounds
 
-  plain-once : (y : ℕ) → count y (linesOf (pieces true 0 ls)) ≤ 1
+  pub plain-once : (y : ℕ) → count y (linesOf (pieces true 0 ls)) ≤ 1
   unfolding upto
   plain-once y = omega (arith, pieces-count y 0 ls, upto-once (length ls) y)
 
   module _ (s : Settings) where
-    abbrev left : List Piece
+    abbrev pub left : List Piece
     left = join (ruleOf Exact s) (pieces true 0 ls)
 
-    left-sound : Each (Sound ls) left
+    pub left-sound : Each (Sound ls) left
     left-sound = join-sound (ruleOf Exact s) (pieces true 0 ls) ls (alones ls true 0 ls from-first)
 
-    left-once : (y : ℕ) → count y (linesOf left) ≤ 1
+    pub left-once : (y : ℕ) → count y (linesOf left) ≤ 1
     left-once y = omega (arith, join-count (ruleOf Exact s) (pieces true 0 ls) y, plain-once y)
 
-    left-passes : Each (Passes ls) left
+    pub left-passes : Each (Passes ls) left
     left-passes = join-passes ls (ruleOf Exact s) (pieces true 0 ls) (alones-pass true 0 ls from-first) (alones ls true 0 ls from-first) plain-once
 
     two-passes : Each (Passes ls) (roundTwo s left)
@@ -112,7 +112,7 @@ module _ (ls : List Line) (places : Each (λ l. anyNowhere (l .points) ≡ false
         go true e = rw (e, roundTwo) (join-passes ls (ruleOf (cellsOf s) s) left left-passes left-sound left-once)
         go false e = rw (e, roundTwo) left-passes
 
-    chains-pass : Each (Passes ls) (chains s ls)
+    pub chains-pass : Each (Passes ls) (chains s ls)
     unfolding chains roundOne
     chains-pass = each-append two-passes (alones-pass false 0 ls from-first)
 

@@ -1,6 +1,7 @@
 // The door: what a C or Rust host calls. A slice passes as a pointer and a length in elements. Every call answers one 64-bit number: its result,
 // or minus the number of the refusal.
 use rules::Answer;
+use rules::Meeting;
 use rules::Settings;
 use rules::Window;
 ghost use mathlib.Core.Path.{_≡_};
@@ -12,6 +13,7 @@ ghost use Rattle.rules.specs.Calls.{numberOf, Numbered, Built, Paired, asked};
 ghost use Rattle.rules.specs.Pieces.{lentPieces, firstRooms, FirstLeft, finishRooms, Finished};
 ghost use Rattle.rules.specs.Reasons.{Why};
 ghost use Rattle.rules.specs.Windows.{boxesAs, Windowed};
+ghost use Rattle.rules.specs.Check.{delivery, Checked};
 ghost use Rattle.rules.specs.Wkb.{Read, runAs, Wrote, chainsAs};
 ghost use Rattle.rules.specs.Offset.{offsetAsked, BuiltOffset, PairedOffset, endsFor};
 
@@ -188,6 +190,48 @@ pub extern "C" fn lovasuku_window(
             greatest_y,
         },
         found,
+    ))
+}
+
+// Chains made elsewhere: 0 where they are acceptable.
+#[no_mangle]
+pub extern "C" fn lovasuku_check<'a>(
+    wkb_type: u32,
+    coordinates: &'a [u64],
+    counts: &[u32],
+    groups: &[u32],
+    kinds: &[u8],
+    tolerance: f64,
+    origin_x: f64,
+    origin_y: f64,
+    table: &[u32],
+    k: u64,
+    listing: &[u32],
+    merged: &'a [u64],
+    workspace: &mut [u64],
+) -> u64
+    ensures { λ r. ⌜ Numbered (λ a. Checked (delivery «wkb_type»
+        (lent (now (coordinates .entry)) (now (counts .entry)) (now (groups .entry)) (now (kinds .entry)))
+        (record { tolerance = tolerance; «origin_x» = «origin_x»; «origin_y» = «origin_y» })
+        (now (table .entry)) k (now (listing .entry)) (now (merged .entry)) (now (workspace .entry)))
+        a (now (workspace .exit))) r ⌝ }
+{
+    number(check_calls::check(
+        wkb_type,
+        coordinates,
+        counts,
+        groups,
+        kinds,
+        Meeting {
+            tolerance,
+            origin_x,
+            origin_y,
+        },
+        table,
+        k,
+        listing,
+        merged,
+        workspace,
     ))
 }
 

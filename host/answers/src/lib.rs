@@ -2,6 +2,7 @@
 //!
 //! - [`call`]: what a call lends and what it answers, all floats as their 64 bits, and the
 //!   trait [`Port`] that everything which answers calls implements.
+//! - [`delivered`]: chains made elsewhere, as a call lends them.
 //! - [`format`]: the recorded files, reading and writing.
 //! - [`model`]: the rules, written down in plain Rust.
 //! - [`offset`]: the limit of an offset, in whole numbers.
@@ -14,6 +15,7 @@
 
 pub mod call;
 pub mod check;
+pub mod delivered;
 pub mod format;
 pub mod model;
 pub mod offset;
@@ -26,3 +28,4 @@ pub use call::{stride_of, Record, RECORD, TYPES};
 pub use call::{BuildCall, Built, Pair, PairingCall, Port, Refusal, Route, WhyCall, WindowCall};
 pub use call::{BAD_ORIGIN, DISTRICT_OVER_COORDINATES, DISTRICT_OVER_LINES, NO_PLACE, NO_TYPE};
 pub use call::{BORDER, MOST_DISTRICT_LINES, MOST_DISTRICT_POINTS};
+pub use delivered::{CheckCall, BAD_RECORD, NOT_ACCEPTABLE};

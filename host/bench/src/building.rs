@@ -75,7 +75,7 @@ pub fn zeroing(call: &BuildCall, patience: Patience) -> f64 {
 }
 
 /// The port's call, with the rooms as the call before left them.
-fn build(call: &BuildCall, coordinates: &[f64], rooms: &mut Rooms) -> i64 {
+pub(crate) fn build(call: &BuildCall, coordinates: &[f64], rooms: &mut Rooms) -> i64 {
     let lines = Lines {
         dimension: Dimension::of_wkb_type(call.wkb_type).unwrap_or_default(),
         coordinates,
@@ -93,7 +93,7 @@ fn build(call: &BuildCall, coordinates: &[f64], rooms: &mut Rooms) -> i64 {
 }
 
 /// The rooms of a call, each as long as the rules ask for.
-struct Rooms {
+pub(crate) struct Rooms {
     table: Vec<u32>,
     members: Vec<u32>,
     marks: Vec<u8>,
@@ -106,7 +106,7 @@ struct Rooms {
 
 impl Rooms {
     /// Rooms in which no number is 0, so that it shows what a call clears.
-    fn dirty(call: &BuildCall) -> Self {
+    pub(crate) fn dirty(call: &BuildCall) -> Self {
         let (n, numbers) = (call.lines(), call.coordinates.len());
         Rooms {
             table: vec![u32::MAX; RECORD * n],
@@ -118,6 +118,13 @@ impl Rooms {
             spare: vec![f64::NAN; numbers],
             workspace: vec![u64::MAX; LINE_WORKSPACE * n],
         }
+    }
+
+    /// The table of so many chains, the listing and the merged coordinates, as a delivery of chains has
+    /// them.
+    pub(crate) fn delivered(&self, chains: i64) -> (Vec<u32>, Vec<u32>, Vec<f64>) {
+        let table = self.table.iter().take(RECORD * chains.max(0) as usize).copied().collect();
+        (table, self.listing.clone(), self.merged.clone())
     }
 
     fn lent(&mut self) -> door::BuildRooms<'_> {

@@ -3,6 +3,7 @@
 //! - [`workloads`] and [`ends`]: what is built, and what is paired.
 //! - [`building`] and [`pairing`]: both sides of a comparison, seen to answer alike and then timed.
 //! - [`wkb`]: WKB records read and written, and the same in plain Rust, [`plain_wkb`].
+//! - [`checking`]: chains made elsewhere, checked.
 //! - [`windows`]: what lies in a window, and the same by a look at all boxes in plain Rust.
 //! - [`geos`]: GEOS's LineMerger, WKBReader and WKBWriter as a third side, where it is installed, and
 //!   [`geos_tree`], its tree of boxes.
@@ -12,6 +13,7 @@
 
 pub mod about;
 pub mod building;
+pub mod checking;
 pub mod clock;
 pub mod ends;
 pub mod geos;
@@ -21,6 +23,7 @@ pub mod options;
 pub mod pairing;
 pub mod plain_wkb;
 pub mod report;
+mod report_checking;
 mod report_windows;
 pub mod summary;
 pub mod table;

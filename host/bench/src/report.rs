@@ -77,6 +77,7 @@ impl Report<'_> {
         self.building()?;
         self.pairing()?;
         self.windows()?;
+        self.checking()?;
         self.wkb()?;
         self.extras()
     }

@@ -17,6 +17,9 @@ pub const MOST_OF_BYTES: f64 = 1.1;
 pub const MOST_OF_ALL_BOXES: f64 = 0.25;
 pub const MOST_OF_TREE: f64 = 1.0;
 
+/// No check of a network of many chains may take more than this part of building it.
+pub const MOST_OF_BUILDING: f64 = 1.0;
+
 /// The geometric mean of building may not be above this.
 pub const MOST_MEAN: f64 = 0.5;
 
@@ -69,6 +72,10 @@ pub struct Summary {
     /// Windows that meet a hundredth of the chains.
     pub windows: Ratios,
     pub windows_geos: Ratios,
+    /// Checks of what was built, as parts of building it: of networks, and of one long chain, few lines and
+    /// long ones.
+    pub checking: Ratios,
+    pub checking_beside: Ratios,
 }
 
 impl Summary {
@@ -83,6 +90,8 @@ impl Summary {
             ("extras, of their bytes", &self.extras),
             ("windows, of all boxes in plain Rust", &self.windows),
             ("windows, of GEOS's tree", &self.windows_geos),
+            ("checking networks, of building", &self.checking),
+            ("checking others, of building", &self.checking_beside),
         ];
         let mut lines: Vec<_> =
             titles.iter().filter_map(|(title, ratios)| ratios.line(title)).collect();
@@ -95,7 +104,7 @@ impl Summary {
     }
 
     /// The ratios that the gate looks at one by one, with the most that each may be.
-    fn gated(&self) -> [(&Ratios, f64); 7] {
+    fn gated(&self) -> [(&Ratios, f64); 8] {
         [
             (&self.building, MOST_RATIO),
             (&self.pairing, MOST_RATIO),
@@ -104,6 +113,7 @@ impl Summary {
             (&self.extras, MOST_OF_BYTES),
             (&self.windows, MOST_OF_ALL_BOXES),
             (&self.windows_geos, MOST_OF_TREE),
+            (&self.checking, MOST_OF_BUILDING),
         ]
     }
 

@@ -5,9 +5,10 @@
 
 use answers::random::Random;
 use answers::styles::{
-    districts, heights, junctions, origins, pairing, wild, windows, Style, BUILDING, PAIRING,
+    deliveries, districts, heights, junctions, origins, pairing, wild, windows, Style, BUILDING,
+    PAIRING,
 };
-use answers::{offset, BuildCall, PairingCall, WhyCall, WindowCall, TYPES};
+use answers::{offset, BuildCall, CheckCall, PairingCall, WhyCall, WindowCall, TYPES};
 use lovasuku_chains::size::{MOST_DISTRICT_POINTS, MOST_ENDS, MOST_LINES, MOST_POINTS};
 
 /// A call of either sort.
@@ -21,6 +22,8 @@ pub enum Call {
     Why(WhyCall),
     /// A question what lies in a window.
     Window(WindowCall),
+    /// Chains made elsewhere, to be judged.
+    Check(CheckCall),
 }
 
 /// A call with the name of its style, and the seed of the rooms that are lent to it.
@@ -44,6 +47,14 @@ const LOST: usize = 16;
 const WINDOWS: u64 = 8;
 const AT: u64 = 3;
 const LARGE: usize = 256;
+
+/// One call in so many judges chains made elsewhere: those at this place of each run of so many. Half of them
+/// are of few points, which may be travelled in many ways.
+const CHECKS: u64 = 8;
+const CHECKED_AT: u64 = 5;
+
+/// The most lines of such a delivery of few points.
+const AMBIGUOUS: usize = 10;
 
 /// One building call in so many has an origin, beside those whose style has.
 const ORIGINS: usize = 3;
@@ -84,6 +95,10 @@ pub fn numbered(seed: u64, number: u64) -> Numbered {
         let call = Call::Window(windows::boxes(&mut random, size));
         return Numbered { style: "boxes", call, rooms };
     }
+    if number % CHECKS == CHECKED_AT {
+        let (style, call) = delivery(&mut random, &mut Random::new(!rooms));
+        return Numbered { style, call: Call::Check(call), rooms };
+    }
     if random.one_in(3) {
         let styles: Vec<Style<PairingCall>> = PAIRING.into_iter().chain(ADDED_PAIRS).collect();
         let (style, make) = random.pick(&styles);
@@ -101,6 +116,20 @@ pub fn numbered(seed: u64, number: u64) -> Numbered {
     }
     let (style, call) = building(&mut random, real, &mut Random::new(!rooms));
     Numbered { style, call: Call::Build(call), rooms }
+}
+
+/// A delivery of chains, with the name of what they were made by or of what was done to them.
+fn delivery(random: &mut Random, apart: &mut Random) -> (&'static str, CheckCall) {
+    match random.one_in(2) {
+        true => {
+            let lines = random.below(AMBIGUOUS + 1);
+            deliveries::ambiguous(random, lines)
+        }
+        false => {
+            let (_, lines) = building(random, false, apart);
+            deliveries::delivered(random, lines)
+        }
+    }
 }
 
 /// A building call with the name of its style. Districts are of a chance of their own.

@@ -3,9 +3,9 @@
 use crate::building::BuildRooms;
 use crate::pairing::PairRooms;
 use crate::room::Room;
-use answers::{offset, BuildCall, PairingCall, Route, WhyCall, WindowCall};
+use answers::{offset, BuildCall, CheckCall, PairingCall, Route, WhyCall, WindowCall};
 use lovasuku_chains::door::{self, RawOffset, RawSettings};
-use lovasuku_chains::{Dimension, Ends, Lines, Window};
+use lovasuku_chains::{Delivered, Dimension, Ends, Lines, Window};
 
 /// Whatever takes calls in the form of the door: rooms are lent, the answer is a number.
 pub trait Door: Sync {
@@ -20,6 +20,9 @@ pub trait Door: Sync {
 
     /// Lists the chains that lie in a window.
     fn window(&self, call: &WindowCall, found: &mut Room<u32>) -> i64;
+
+    /// Judges chains made elsewhere.
+    fn check(&self, call: &CheckCall, workspace: &mut Room<u64>) -> i64;
 
     /// The same with an offset in the limit's place, where there are such calls.
     fn by_offset(&self) -> Option<&dyn Door> {
@@ -59,6 +62,15 @@ impl Door for Library {
         door::window(&floats(&call.boxes), call.k, window, found.lent())
     }
 
+    fn check(&self, call: &CheckCall, workspace: &mut Room<u64>) -> i64 {
+        let (coordinates, merged) = (floats(&call.lines.coordinates), floats(&call.merged));
+        let CheckCall { lines: of, table, k, listing, .. } = call;
+        let meeting = (f64::from_bits(of.tolerance), of.origin.map(f64::from_bits));
+        let chains = Delivered { table, listing, merged: &merged };
+        let lines = lines(of, &coordinates);
+        door::check(of.wkb_type, lines, meeting, chains, *k, workspace.lent())
+    }
+
     fn by_offset(&self) -> Option<&dyn Door> {
         Some(&ByOffset)
     }
@@ -94,6 +106,11 @@ impl Door for ByOffset {
     fn window(&self, call: &WindowCall, found: &mut Room<u32>) -> i64 {
         Library.window(call, found)
     }
+
+    /// Chains made elsewhere are judged without a limit.
+    fn check(&self, call: &CheckCall, workspace: &mut Room<u64>) -> i64 {
+        Library.check(call, workspace)
+    }
 }
 
 /// The offset of a limit; where it is the limit of none, one above 1,000 that its bits determine.
@@ -102,7 +119,7 @@ pub fn offset_of(limit: u64) -> u32 {
     offset::of_limit(limit).unwrap_or_else(above)
 }
 
-fn lines<'a>(call: &'a BuildCall, coordinates: &'a [f64]) -> Lines<'a> {
+pub(crate) fn lines<'a>(call: &'a BuildCall, coordinates: &'a [f64]) -> Lines<'a> {
     Lines {
         dimension: Dimension::of_wkb_type(call.wkb_type).unwrap_or_default(),
         coordinates,
@@ -141,6 +158,6 @@ fn by(route: Route) -> lovasuku_chains::Route {
     }
 }
 
-fn floats(bits: &[u64]) -> Vec<f64> {
+pub(crate) fn floats(bits: &[u64]) -> Vec<f64> {
     bits.iter().map(|&bits| f64::from_bits(bits)).collect()
 }

@@ -10,7 +10,7 @@
 //! - [`calls`]: the calls of a run.
 //! - [`judge`]: who says what the answer is.
 //! - [`room`]: rooms that show what was written into them.
-//! - [`building`], [`pairing`], [`why`], [`windows`]: one call, compared.
+//! - [`building`], [`pairing`], [`why`], [`windows`], [`checks`]: one call, compared.
 //! - [`extras`]: what holds of heights and measures, judged apart from the model.
 //! - [`laying`]: that lines laid by listing and marks are their chain, judged apart from it too.
 //! - [`shrink`]: a call that differs, made small.
@@ -21,6 +21,7 @@
 
 pub mod building;
 pub mod calls;
+pub mod checks;
 pub mod door;
 pub mod extras;
 pub mod judge;

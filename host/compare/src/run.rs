@@ -2,6 +2,7 @@
 
 use crate::building::compare_build;
 use crate::calls::{numbered, Call, Numbered};
+use crate::checks::compare_check;
 use crate::pairing::compare_pairs;
 use crate::shrink::shrink;
 use crate::why::compare_why;
@@ -44,6 +45,10 @@ pub struct Tally {
     pub told: Styles,
     /// The questions what lies in a window, beside those over the chains of building calls.
     pub windows: Styles,
+    /// The deliveries of chains made elsewhere, by what they were made by or what was done to them.
+    pub checks: Styles,
+    /// What these were answered with.
+    pub verdicts: Styles,
     /// The building and pairing calls whose limit is that of an offset.
     pub offsets: u64,
     /// The building calls with an origin other than 0,0.
@@ -74,6 +79,7 @@ impl Tally {
             // The question has no call with an offset.
             Call::Why(call) => (&mut self.why, [0, 0, call.pairing.ends()], None),
             Call::Window(_) => (&mut self.windows, [0; 3], None),
+            Call::Check(_) => (&mut self.checks, [0; 3], None),
         };
         self.offsets += u64::from(limit.and_then(of_limit).is_some());
         *styles.entry(numbered.style).or_default() += 1;
@@ -93,6 +99,8 @@ impl Tally {
             (&mut self.why, other.why),
             (&mut self.told, other.told),
             (&mut self.windows, other.windows),
+            (&mut self.checks, other.checks),
+            (&mut self.verdicts, other.verdicts),
         ] {
             for (style, calls) in styles {
                 *sum.entry(style).or_default() += calls;
@@ -111,7 +119,7 @@ impl Tally {
 
     /// The number of calls.
     pub fn calls(&self) -> u64 {
-        let all = [&self.building, &self.pairing, &self.why, &self.windows];
+        let all = [&self.building, &self.pairing, &self.why, &self.windows, &self.checks];
         all.iter().flat_map(|styles| styles.values()).sum()
     }
 }
@@ -135,6 +143,8 @@ impl fmt::Display for Tally {
         write!(f, "pairing, up to {ends} ends: {}", list(&self.pairing))?;
         writeln!(f, "; {} of all with an offset in the limit's place too", self.offsets)?;
         writeln!(f, "windows over any boxes, beside those over chains: {}", list(&self.windows))?;
+        writeln!(f, "chains made elsewhere: {}", list(&self.checks))?;
+        writeln!(f, "judged: {}", list(&self.verdicts))?;
         writeln!(f, "two ends asked about: {}", list(&self.why))?;
         write!(f, "answered with: {}", list(&self.told))
     }
@@ -162,6 +172,7 @@ impl fmt::Display for Difference {
             Call::Pairs(call) => write!(f, "{call}"),
             Call::Why(call) => write!(f, "{call}"),
             Call::Window(call) => write!(f, "{call}"),
+            Call::Check(call) => write!(f, "{call}"),
         }
     }
 }
@@ -186,7 +197,13 @@ pub fn run(
             watch(number);
             let numbered = numbered(plan.seed, number);
             match compare(door, judge, &numbered.call, numbered.rooms) {
-                Ok(Some(told)) => *tally.told.entry(told).or_default() += 1,
+                Ok(Some(told)) => {
+                    let of = match numbered.call {
+                        Call::Check(_) => &mut tally.verdicts,
+                        _ => &mut tally.told,
+                    };
+                    *of.entry(told).or_default() += 1;
+                }
                 Ok(None) => (),
                 Err(_) => {
                     end.fetch_min(number, Ordering::Relaxed);
@@ -207,7 +224,7 @@ pub fn run(
     (tally, (!whole).then(|| difference(door, judge, plan.seed, stopped)))
 }
 
-/// Compares a call, and names what a question was answered with. The error is a sentence about the
+/// Compares a call, and names what a question or a delivery was answered with. The error is a sentence about the
 /// first difference.
 pub fn compare(
     door: &dyn Door,
@@ -220,6 +237,7 @@ pub fn compare(
         Call::Pairs(call) => compare_pairs(door, judge, call, rooms).map(|()| None),
         Call::Why(call) => compare_why(door, judge, call, rooms).map(|told| Some(told.name())),
         Call::Window(call) => compare_window(door, call, rooms).map(|()| None),
+        Call::Check(call) => compare_check(door, call, rooms).map(|verdict| Some(verdict.name())),
     }
 }
 
@@ -238,6 +256,9 @@ fn difference(door: &dyn Door, judge: Judge, seed: u64, number: u64) -> Differen
         }
         Call::Window(call) => {
             Call::Window(shrink(call, |call| compare_window(door, call, rooms).is_err()))
+        }
+        Call::Check(call) => {
+            Call::Check(shrink(call, |call| compare_check(door, call, rooms).is_err()))
         }
     };
     let sentence = compare(door, judge, &call, rooms).err().unwrap_or_default();

@@ -14,7 +14,8 @@ fn a_run_without_differences() {
     let text = String::from_utf8_lossy(&output.stdout);
     let lines: Vec<_> = text.lines().collect();
     assert!(lines[0].starts_with("compare: the judge is the "), "{text}");
-    assert!(lines[7].starts_with("compare: 60 calls of seed 2, 0 differ, "), "{text}");
+    let last = lines[lines.len() - 1];
+    assert!(last.starts_with("compare: 60 calls of seed 2, 0 differ, "), "{text}");
 }
 
 #[test]

@@ -93,6 +93,30 @@ extern "C" {
         found_length: usize,
     ) -> i64;
 
+    pub fn lovasuku_check(
+        wkb_type: u32,
+        coordinates: *const f64,
+        coordinates_length: usize,
+        counts: *const u32,
+        counts_length: usize,
+        groups: *const u32,
+        groups_length: usize,
+        kinds: *const u8,
+        kinds_length: usize,
+        tolerance: f64,
+        origin_x: f64,
+        origin_y: f64,
+        table: *const u32,
+        table_length: usize,
+        k: u64,
+        listing: *const u32,
+        listing_length: usize,
+        merged: *const f64,
+        merged_length: usize,
+        workspace: *mut u64,
+        workspace_length: usize,
+    ) -> i64;
+
     pub fn lovasuku_why(
         present: *const u8,
         present_length: usize,

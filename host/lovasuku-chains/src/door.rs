@@ -10,7 +10,7 @@
 #![allow(unsafe_code)]
 
 use crate::declared::{self, PairsFunction, PairsOffsetFunction};
-use crate::{Ends, Lines, Refusal, Route, Window};
+use crate::{Delivered, Ends, Lines, Refusal, Route, Window};
 
 /// Tolerance, origin, switch and limit as they are lent, unchecked.
 #[derive(Clone, Copy, Debug, PartialEq)]
@@ -288,6 +288,43 @@ pub fn window(boxes: &[f64], k: u64, window: Window, found: &mut [u32]) -> i64 {
             greatest_y,
             found.as_mut_ptr(),
             found.len(),
+        )
+    }
+}
+
+/// Asks whether k chains of a table, made elsewhere, are acceptable as chains of lines of a type, which
+/// meet by a tolerance and the origin of its cells. The result is 0.
+pub fn check(
+    wkb_type: u32,
+    lines: Lines<'_>,
+    (tolerance, [origin_x, origin_y]): (f64, [f64; 2]),
+    chains: Delivered<'_>,
+    k: u64,
+    workspace: &mut [u64],
+) -> i64 {
+    unsafe {
+        declared::lovasuku_check(
+            wkb_type,
+            lines.coordinates.as_ptr(),
+            lines.coordinates.len(),
+            lines.counts.as_ptr(),
+            lines.counts.len(),
+            lines.groups.as_ptr(),
+            lines.groups.len(),
+            lines.kinds.as_ptr(),
+            lines.kinds.len(),
+            tolerance,
+            origin_x,
+            origin_y,
+            chains.table.as_ptr(),
+            chains.table.len(),
+            k,
+            chains.listing.as_ptr(),
+            chains.listing.len(),
+            chains.merged.as_ptr(),
+            chains.merged.len(),
+            workspace.as_mut_ptr(),
+            workspace.len(),
         )
     }
 }

@@ -30,6 +30,7 @@
 //! | join lines | [`Rooms::build`], which gives [`Chains`] |
 //! | follow a chain through its lines, and see which way each was drawn | [`Chain::path`] |
 //! | find the chains in a window | [`Chains::window`], [`window_question`] for stored boxes |
+//! | check chains made elsewhere | [`Rooms::check`] of [`Delivered`] chains, [`find`] for what is wrong with them |
 //! | pair the ends at one node | [`Rooms::pairs`] |
 //! | ask why two ends are joined or not | [`Rooms::why`], which gives a [`Reason`] |
 //! | state a bend as an offset per metre | [`Offset`], whose limit any call takes |
@@ -51,9 +52,11 @@
 
 mod arrow;
 mod chains;
+mod checking;
 mod declared;
 mod dimension;
 pub mod door;
+mod finding;
 pub mod large;
 mod lines;
 mod nearest;
@@ -73,7 +76,9 @@ mod wkb;
 
 pub use arrow::{read_wkb_offsets, RunOffset};
 pub use chains::{Chain, Chains, Iter, PathLine};
+pub use checking::{Delivered, DeliveredBuf};
 pub use dimension::Dimension;
+pub use finding::{find, Finding, Unacceptable};
 pub use lines::{Lines, LinesBuf, PASSING, PLAIN};
 pub use nearest::Nearest;
 pub use offset::Offset;

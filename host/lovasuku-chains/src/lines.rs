@@ -73,6 +73,16 @@ impl Lines<'_> {
         }
     }
 
+    /// The first coordinate of each line.
+    pub(crate) fn firsts(&self) -> Vec<usize> {
+        let after = |sum: &mut usize, &count: &u32| {
+            let first = *sum;
+            *sum = first.saturating_add(count as usize);
+            Some(first)
+        };
+        self.counts.iter().scan(0, after).collect()
+    }
+
     /// The sum of the counts.
     fn points(&self) -> u64 {
         self.counts.iter().map(|&count| u64::from(count)).sum()
@@ -160,6 +170,13 @@ impl LinesBuf {
             self.coordinates.extend(rest.by_ref().take(width));
         }
         self.end_line(first, group, PLAIN);
+    }
+
+    /// Adds a line of a kind by all numbers of its coordinates.
+    pub(crate) fn push_numbers(&mut self, numbers: &[f64], group: u32, kind: u8) {
+        let first = self.coordinates.len();
+        self.coordinates.extend(numbers);
+        self.end_line(first, group, kind);
     }
 
     fn push_kind<const N: usize>(

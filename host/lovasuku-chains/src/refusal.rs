@@ -54,6 +54,11 @@ pub enum Refusal {
     NotFinite,
     /// 10: there is no such chain.
     NoSuchChain,
+    /// 23: of chains made elsewhere, a record names no chain, reaches outside the listing, or lists a
+    /// position that is none of a line's.
+    BadRecord,
+    /// 24: chains made elsewhere are not acceptable otherwise; [`find`](crate::find) tells where.
+    NotAcceptable,
     /// 11: a record's byte order is neither 0 nor 1.
     BadByteOrder,
     /// 12: a record's type is none of a line's, 2, 1002, 2002 and 3002. At the
@@ -102,6 +107,8 @@ impl Refusal {
             20 => Refusal::DistrictOverLines,
             21 => Refusal::DistrictOverCoordinates,
             22 => Refusal::BadOffset,
+            23 => Refusal::BadRecord,
+            24 => Refusal::NotAcceptable,
             25 => Refusal::MixedTypes,
             26 => Refusal::NoTwoEnds,
             unknown => Refusal::Unknown(unknown),
@@ -127,6 +134,8 @@ impl Refusal {
             Refusal::PieceTooOften => 8,
             Refusal::NotFinite => 9,
             Refusal::NoSuchChain => 10,
+            Refusal::BadRecord => 23,
+            Refusal::NotAcceptable => 24,
             Refusal::BadByteOrder => 11,
             Refusal::BadType => 12,
             Refusal::MixedTypes => 25,
@@ -159,6 +168,10 @@ impl Refusal {
                 "a direction is not finite, which the indexed route does not take"
             }
             Refusal::NoSuchChain => "there is no such chain",
+            Refusal::BadRecord => {
+                "a record names no chain, reaches outside the listing or lists what is no line"
+            }
+            Refusal::NotAcceptable => "the chains are not acceptable as chains of these lines",
             Refusal::BadByteOrder => "a record's byte order is neither 0 nor 1",
             Refusal::BadType => "a record's type is none of 2, 1002, 2002 and 3002",
             Refusal::MixedTypes => "a record's type differs from the first record's",
@@ -190,7 +203,7 @@ mod tests {
         for number in 1..=30 {
             let refusal = Refusal::of_number(number);
             assert_eq!(refusal.number(), number);
-            let known = number <= 18 || [20, 21, 22, 25, 26].contains(&number);
+            let known = number <= 18 || [20, 21, 22, 23, 24, 25, 26].contains(&number);
             assert_eq!(!known, matches!(refusal, Refusal::Unknown(_)));
         }
     }

@@ -242,6 +242,12 @@ impl Rooms {
         grow(&mut self.workspace, LINE_WORKSPACE * lines);
     }
 
+    /// The workspace of a call that needs no other room, for so many lines.
+    pub(crate) fn workspace_for(&mut self, lines: usize) -> &mut [u64] {
+        grow(&mut self.workspace, LINE_WORKSPACE * lines);
+        &mut self.workspace
+    }
+
     fn grow_for_pairing(&mut self, ends: usize) {
         grow(&mut self.pairs, ends);
         grow(&mut self.workspace, END_WORKSPACE * ends);

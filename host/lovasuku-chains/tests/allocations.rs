@@ -1,8 +1,8 @@
-//! Once the rooms have grown, building, pairing, asking, reading and writing allocate nothing.
+//! Once the rooms have grown, building, checking, pairing, asking, reading and writing allocate nothing.
 
 use lovasuku_chains::{
-    chain_coordinates, read_wkb, read_wkb_offsets, ByteOrder, Dimension, Ends, LinesBuf, Rooms,
-    Route, Settings, Window, WindowBuf, WkbBuf, WkbRooms,
+    chain_coordinates, read_wkb, read_wkb_offsets, ByteOrder, DeliveredBuf, Dimension, Ends,
+    LinesBuf, Rooms, Route, Settings, Window, WindowBuf, WkbBuf, WkbRooms,
 };
 use std::alloc::{GlobalAlloc, Layout, System};
 use std::cell::Cell;
@@ -87,6 +87,25 @@ fn a_window_with_a_grown_buffer_allocates_nothing() {
     assert!(asked(|| look(&large)) > 0);
     assert_eq!(asked(|| look(&small)), 0);
     assert_eq!(asked(|| look(&large)), 0);
+}
+
+#[test]
+fn checking_in_grown_rooms_allocates_nothing() {
+    let (large, small) = (road(300), road(7));
+    let (mut rooms, mut built, mut chains) = (Rooms::new(), Rooms::new(), DeliveredBuf::default());
+    let mut check = |lines: &LinesBuf, rooms: &mut Rooms| {
+        let made = built.build(lines.lines(), Settings::default()).expect("the call is accepted");
+        chains.clear();
+        for chain in made {
+            chains.push_numbers(chain.listing().iter().copied(), chain.coordinates());
+        }
+        asked(|| {
+            let settings = Settings::default();
+            assert_eq!(rooms.check(lines.lines(), chains.delivered(), settings), Ok(()));
+        })
+    };
+    assert!(check(&large, &mut rooms) > 0);
+    assert_eq!((check(&small, &mut rooms), check(&large, &mut rooms)), (0, 0));
 }
 
 #[test]

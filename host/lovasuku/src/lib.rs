@@ -2,6 +2,7 @@
 //! bridged. The joining itself is done by the verified library, by way of `lovasuku-chains`.
 
 pub mod arguments;
+pub mod checking;
 mod classes;
 pub mod command;
 pub mod delivery;

@@ -1,13 +1,14 @@
 //! Runs the command; see `lovasuku --help`.
 
 use lovasuku_command::arguments::{asked, Asked, Request};
-use lovasuku_command::{command, manual};
+use lovasuku_command::{checking, command, manual};
 use std::io::Write;
 use std::process::ExitCode;
 
 fn main() -> ExitCode {
     let done = match asked() {
         Asked::Join(request) => join(&request),
+        Asked::Check(request) => return checking::main(&request),
         Asked::Manual(page) => manual::page(page.as_deref())
             .and_then(|page| Ok(std::io::stdout().lock().write_all(&page)?)),
     };

@@ -93,7 +93,11 @@ fn the_command_the_manual_and_the_library() {
     written(command.args(["join", &folder.path("in"), "-o", &chains]));
     assert_eq!(common::members(&folder.text("chains.geojson")).len(), 2);
 
-    for (page, title) in [("lovasuku.1", "LOVASUKU"), ("lovasuku-join.1", "LOVASUKU-JOIN")] {
+    for (page, title) in [
+        ("lovasuku.1", "LOVASUKU"),
+        ("lovasuku-join.1", "LOVASUKU-JOIN"),
+        ("lovasuku-check.1", "LOVASUKU-CHECK"),
+    ] {
         let text = fs::read_to_string(format!("{prefix}/share/man/man1/{page}")).unwrap();
         assert!(text.contains(&format!(".TH {title} 1")), "{text}");
     }

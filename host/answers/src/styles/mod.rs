@@ -1,6 +1,7 @@
 //! Inputs by style. A seed and a size determine a call, on every machine alike: only addition,
 //! subtraction, multiplication, division and the root are used, which IEEE 754 fixes to the bit.
 
+pub mod deliveries;
 pub mod districts;
 pub mod heights;
 pub mod networks;

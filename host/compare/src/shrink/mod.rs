@@ -2,6 +2,7 @@
 //! still differs.
 
 mod building;
+mod checks;
 mod pairing;
 mod windows;
 

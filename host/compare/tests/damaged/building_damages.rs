@@ -69,15 +69,10 @@ fn shares(lines: u64, groups: [u32; 2]) -> BuildCall {
     call
 }
 
-/// Every damage, in the order of the refusals that they call for.
+/// Every damage: of lines and the origin, of switch and limit, and of rooms.
 pub fn damages() -> Vec<Damage> {
-    let mut all = types();
-    all.extend(numbers());
-    all.extend(counts());
-    all.extend(districts());
-    all.extend(places());
+    let mut all = of_lines();
     all.extend(settings());
-    all.extend(origins());
     all.extend(short_rooms([
         "table",
         "members",
@@ -88,6 +83,17 @@ pub fn damages() -> Vec<Damage> {
         "spare",
         "workspace",
     ]));
+    all
+}
+
+/// The damages of lines and of the origin.
+pub fn of_lines() -> Vec<Damage> {
+    let mut all = types();
+    all.extend(numbers());
+    all.extend(counts());
+    all.extend(districts());
+    all.extend(places());
+    all.extend(origins());
     all
 }
 

@@ -4,6 +4,7 @@
 
 mod building;
 mod building_damages;
+mod checks;
 mod pairing;
 mod pairing_damages;
 mod question;
@@ -57,6 +58,13 @@ pub struct Damage<C, const ROOMS: usize> {
     pub refusal: i64,
     pub name: String,
     apply: Apply<C, ROOMS>,
+}
+
+impl<C, const ROOMS: usize> Damage<C, ROOMS> {
+    /// Does the damage.
+    pub fn apply_to(&self, lent: &mut Lent<C, ROOMS>) {
+        (self.apply)(lent);
+    }
 }
 
 /// A damage to the call itself.

@@ -1,8 +1,8 @@
 //! The model behind a door, in whole or with something wrong.
 
-use crate::{answers_of, boxes_of};
+use crate::{answers_of, boxes_of, verdicts_of};
 use answers::{
-    stride_of, BuildCall, Built, Pair, PairingCall, Refusal, Route, WhyCall, WindowCall,
+    stride_of, BuildCall, Built, CheckCall, Pair, PairingCall, Refusal, Route, WhyCall, WindowCall,
 };
 use compare::building::BuildRooms;
 use compare::pairing::PairRooms;
@@ -27,12 +27,16 @@ pub struct Pretended {
     pub told: fn(&WhyCall) -> i64,
     /// The chains that a window question finds with room for so many numbers, or its refusal.
     pub found: fn(&WindowCall, usize) -> Result<Vec<u32>, i64>,
+    /// The answer to a delivery of chains with so many words of workspace.
+    pub check: fn(&CheckCall, usize) -> i64,
     /// What is done to the rooms behind a building call.
     pub after_build: fn(&mut BuildRooms, &BuildCall),
     /// What is done to the rooms behind a pairing call.
     pub after_pairs: fn(&mut PairRooms, &PairingCall),
     /// What is done to the rooms behind a question about two ends, refused or not.
     pub after_why: fn(&mut PairRooms, &WhyCall),
+    /// What is done to the workspace behind a delivery of chains with this answer.
+    pub after_check: fn(&mut Room<u64>, &CheckCall, i64),
     /// The number with which every call is refused.
     pub refusal: Option<i64>,
 }
@@ -48,9 +52,11 @@ impl Default for Pretended {
             pairs: answers_of::right_pairs,
             told: answers_of::right_reason,
             found: boxes_of::right_window,
+            check: verdicts_of::right,
             after_build: |_, _| (),
             after_pairs: |_, _| (),
             after_why: |_, _| (),
+            after_check: |_, _, _| (),
             refusal: None,
         }
     }
@@ -120,6 +126,18 @@ impl Door for Pretended {
         let room = found.lent().len();
         look((self.found)(call, room), found)
     }
+
+    fn check(&self, call: &CheckCall, workspace: &mut Room<u64>) -> i64 {
+        if let Some(number) = self.refusal {
+            return -number;
+        }
+        let answer = (self.check)(call, workspace.lent().len());
+        if answer == 0 {
+            workspace.lent()[..192 * call.lines.lines()].fill(0);
+        }
+        (self.after_check)(workspace, call, answer);
+        answer
+    }
 }
 
 /// The chains found, written, or the refusal.
@@ -159,6 +177,10 @@ impl<D: Door> Door for WithOffsets<D> {
         self.0.window(call, found)
     }
 
+    fn check(&self, call: &CheckCall, workspace: &mut Room<u64>) -> i64 {
+        self.0.check(call, workspace)
+    }
+
     fn by_offset(&self) -> Option<&dyn Door> {
         Some(&self.1)
     }
@@ -192,6 +214,11 @@ impl Door for OtherLimit {
     /// A window has no limit.
     fn window(&self, call: &WindowCall, found: &mut Room<u32>) -> i64 {
         Pretended::default().window(call, found)
+    }
+
+    /// Chains made elsewhere are judged without a limit.
+    fn check(&self, call: &CheckCall, workspace: &mut Room<u64>) -> i64 {
+        Pretended::default().check(call, workspace)
     }
 }
 

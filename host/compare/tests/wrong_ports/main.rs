@@ -3,6 +3,7 @@
 mod answers_of;
 mod boxes_of;
 mod building;
+mod checks;
 mod districts;
 mod doors;
 mod extras;
@@ -10,6 +11,7 @@ mod listings;
 mod origins;
 mod pairing;
 mod rooms;
+mod verdicts_of;
 mod windows;
 
 use answers::{BuildCall, PairingCall, WhyCall};
@@ -19,7 +21,7 @@ use compare::{Door, Judge, Library};
 use doors::{OtherLimit, Pretended, WithOffsets};
 
 fn first_difference(door: &dyn Door) -> Difference {
-    let plan = Plan { first: 0, calls: 2_000, seed: 11, jobs: 2 };
+    let plan = Plan { first: 0, calls: 8_000, seed: 11, jobs: 2 };
     let (_, difference) = run(door, Judge::Model, plan, &|_| ());
     difference.expect("the wrong port is caught")
 }

@@ -53,15 +53,16 @@ pub fn components(lines: &[Line], settings: Settings) -> Vec<Vec<u32>> {
 }
 
 /// The lowest line of each component so far, reached by going down from any of its lines.
-struct Lowest(Vec<usize>);
+pub struct Lowest(Vec<usize>);
 
 impl Lowest {
-    fn new(lines: usize) -> Self {
+    /// Each line is a component by itself.
+    pub fn new(lines: usize) -> Self {
         Lowest((0..lines).collect())
     }
 
     /// The lowest line of the component that holds a line. The way is made shorter for the next.
-    fn of(&mut self, mut line: usize) -> usize {
+    pub fn of(&mut self, mut line: usize) -> usize {
         while self.0[line] != line {
             self.0[line] = self.0[self.0[line]];
             line = self.0[line];
@@ -69,7 +70,8 @@ impl Lowest {
         line
     }
 
-    fn unite(&mut self, a: usize, b: usize) {
+    /// Makes one component of those that hold two lines.
+    pub fn unite(&mut self, a: usize, b: usize) {
         let (a, b) = (self.of(a), self.of(b));
         self.0[a.max(b)] = a.min(b);
     }

@@ -23,10 +23,12 @@
 //! ```
 //!
 //! A host that works on several cores cuts the input by [`batches`], gives each core a [`Caller`],
-//! and puts what they built [`in_order`].
+//! and puts what they built [`in_order`]. [`check`] checks chains made elsewhere, of any number, in the
+//! same way, by [`check_batches`] and a [`Checker`] for each core.
 
 mod batches;
 mod calls;
+mod checks;
 mod components;
 mod gaps;
 mod joints;
@@ -34,6 +36,9 @@ mod joints;
 use crate::{Dimension, PathLine, Refusal, Settings};
 pub use batches::{batches, Batch, Capacity, TooLarge};
 pub use calls::Caller;
+pub use checks::{check, check_batches, CheckBatch, CheckFault, Checker};
+pub(crate) use components::key;
+use components::Lowest;
 pub use gaps::{gaps, Gap, Why};
 pub use joints::{blocking, distance, Joint, JointKind};
 use std::error::Error;

@@ -4,8 +4,10 @@ pub const EXAMPLES: &str = "\
 Example:
   lovasuku join roads.geojson -o chains.geojson --map map.svg
       joins what meets exactly, and draws the chains
+  lovasuku check chains.geojson --of roads.geojson
+      says whether chains made elsewhere may be accepted
 
-`lovasuku join --help` tells everything.";
+`lovasuku join --help` and `lovasuku check --help` tell everything.";
 
 pub const JOIN: &str = "\
 Join the lines of a delivery into chains.

@@ -1,5 +1,6 @@
 //! The arguments of the command.
 
+mod check;
 mod help;
 mod options;
 
@@ -7,6 +8,7 @@ use crate::delivery::{Heights, Point, Reading};
 use crate::districts::District;
 use crate::store;
 use crate::writing::{apart, Format, Keep};
+pub use check::CheckRequest;
 use clap::error::ErrorKind;
 use clap::{ArgMatches, Command};
 use lovasuku_chains::{limit_of_bend, Offset, Settings, Window};
@@ -60,6 +62,7 @@ impl Request {
 #[derive(Clone, Debug, PartialEq)]
 pub enum Asked {
     Join(Box<Request>),
+    Check(Box<CheckRequest>),
     /// The manual page of the command, or of a subcommand.
     Manual(Option<String>),
 }
@@ -70,6 +73,10 @@ pub fn asked() -> Asked {
     let matches = command.get_matches_mut();
     match matches.subcommand() {
         Some(("manual", page)) => Asked::Manual(page.get_one::<String>("page").cloned()),
+        Some((name @ "check", check)) => match check::of_check(check) {
+            Ok(request) => Asked::Check(Box::new(request)),
+            Err(fault) => failed(&mut command, name, fault),
+        },
         Some((name, join)) => match of_join(join) {
             Ok(request) => Asked::Join(Box::new(request)),
             Err(fault) => failed(&mut command, name, fault),
@@ -96,6 +103,7 @@ pub fn command() -> Command {
         .arg_required_else_help(true)
         .after_help(help::EXAMPLES)
         .subcommand(options::join())
+        .subcommand(check::check())
         .subcommand(options::manual())
 }
 

@@ -38,7 +38,7 @@ pub fn manual() -> Command {
         .arg(
             Arg::new("page")
                 .value_name("PAGE")
-                .value_parser(["join"])
+                .value_parser(["join", "check"])
                 .help("The page of a subcommand; without it that of the command"),
         )
 }
@@ -77,7 +77,7 @@ fn outputs() -> [Arg; 7] {
     ]
 }
 
-fn settings() -> [Arg; 7] {
+pub(super) fn settings() -> [Arg; 7] {
     [
         Arg::new("tolerance")
             .long("tolerance")
@@ -126,7 +126,7 @@ fn settings() -> [Arg; 7] {
     ]
 }
 
-fn reading() -> [Arg; 5] {
+pub(super) fn reading() -> [Arg; 5] {
     [
         flag("explode")
             .help("Join the parts of MultiLineStrings, which else pass through")
@@ -184,16 +184,16 @@ fn properties() -> [Arg; 3] {
     ]
 }
 
-fn path(name: &'static str) -> Arg {
+pub(super) fn path(name: &'static str) -> Arg {
     Arg::new(name).value_parser(value_parser!(PathBuf))
 }
 
 /// An option of one value under its own name.
-fn named(name: &'static str) -> Arg {
+pub(super) fn named(name: &'static str) -> Arg {
     Arg::new(name).long(name)
 }
 
-fn flag(name: &'static str) -> Arg {
+pub(super) fn flag(name: &'static str) -> Arg {
     named(name).action(ArgAction::SetTrue)
 }
 

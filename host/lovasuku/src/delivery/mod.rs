@@ -140,6 +140,11 @@ pub fn gather<'a>(
     Ok(delivery)
 }
 
+/// The features of a text, each as it is written.
+pub fn features(text: &str) -> Result<Vec<&str>, String> {
+    split::split(text).map(|split| split.features)
+}
+
 fn feature<'a>(text: &'a str, reading: &Reading) -> Result<Feature<'a>, String> {
     let mut feature = Feature::of(text, reading.heights)?;
     if reading.heights == Heights::Dropped {
@@ -160,7 +165,7 @@ pub fn named<'a>(feature: Feature<'a>, reading: &Reading) -> Result<Feature<'a>,
 }
 
 /// Where a feature stands: its position among the features, its id and its line in the text.
-fn place(text: &str, feature: &str, position: usize) -> String {
+pub fn place(text: &str, feature: &str, position: usize) -> String {
     let offset = (feature.as_ptr() as usize).saturating_sub(text.as_ptr() as usize);
     let before = text.as_bytes().get(..offset).unwrap_or_default();
     let line = 1 + before.iter().filter(|&&byte| byte == b'\n').count();

@@ -1,0 +1,1 @@
+// Laws of checking what was built: proofs/ has them, and there is no code.

@@ -1,0 +1,3 @@
+pub mod Untouched
+pub mod Lines
+pub mod Joining

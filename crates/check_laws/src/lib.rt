@@ -1,0 +1,1 @@
+// Laws of chains made elsewhere: proofs/ has them, and there is no code.

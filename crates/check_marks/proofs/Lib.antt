@@ -1,0 +1,5 @@
+pub mod Sets
+pub mod Moving
+pub mod Meets
+pub mod Fresh
+pub mod Trimming

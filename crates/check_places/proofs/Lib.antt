@@ -1,0 +1,5 @@
+pub mod Keeping
+pub mod Reading
+pub mod Stretching
+pub mod Scanning
+pub mod Filling

@@ -1,0 +1,48 @@
+//! One check of what one building call has made, for a counter of instructions:
+//!
+//! ```text
+//! cargo build --release --offline --example once_check
+//! valgrind --tool=callgrind --callgrind-out-file=/dev/null --toggle-collect=lovasuku_check \
+//!     target/release/examples/once_check road 2048 strict
+//! ```
+
+use bench::workloads::{MODES, WORKLOADS};
+use lovasuku_chains::{Dimension, Lines, Rooms, Settings};
+use std::process::ExitCode;
+
+const USAGE: &str = "once_check WORKLOAD LINES MODE";
+
+fn main() -> ExitCode {
+    match once(std::env::args().skip(1)) {
+        Some(chains) => println!("{chains} chains are accepted"),
+        None => {
+            eprintln!("{USAGE}");
+            return ExitCode::from(2);
+        }
+    }
+    ExitCode::SUCCESS
+}
+
+/// The number of chains of the call that the words stand for, if they stand for any.
+fn once(mut words: impl Iterator<Item = String>) -> Option<usize> {
+    let (name, lines, mode) = (words.next()?, words.next()?.parse().ok()?, words.next()?);
+    let workload = WORKLOADS.iter().find(|workload| workload.name == name)?;
+    let mode = MODES.iter().find(|one| one.name == mode)?;
+    let call = workload.network(lines).call(mode);
+    let coordinates: Vec<f64> = call.coordinates.iter().map(|&bits| f64::from_bits(bits)).collect();
+    let lent = Lines {
+        dimension: Dimension::Xy,
+        coordinates: &coordinates,
+        counts: &call.counts,
+        groups: &call.groups,
+        kinds: &call.kinds,
+    };
+    let mut settings = Settings::default().with_tolerance(f64::from_bits(call.tolerance));
+    if mode.switch == 1 {
+        settings = settings.with_limit(f64::from_bits(call.limit));
+    }
+    let mut rooms = Rooms::default();
+    let chains = rooms.build(lent, settings).ok()?;
+    let checked = Rooms::default().check(lent, chains.delivered(), settings);
+    checked.ok().map(|()| chains.len())
+}

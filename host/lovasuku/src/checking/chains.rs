@@ -1,0 +1,104 @@
+//! Chains that were made elsewhere, read from GeoJSON.
+
+use super::names::Step;
+use crate::arguments::CheckRequest;
+use crate::delivery::{self, Delivery, Feature, Geometry, Run};
+use crate::progress::Progress;
+use anyhow::{anyhow, bail, Result};
+use rayon::prelude::*;
+use serde_json::Value;
+
+/// A chain as it was read.
+#[derive(Clone, Debug)]
+pub struct Read {
+    /// What names it as it is written, if it has an id.
+    id: Option<String>,
+    /// Its lines in the order of travel.
+    pub path: Vec<Step>,
+    geometry: Geometry,
+}
+
+impl Read {
+    /// The chain in words, by its position and its id.
+    pub fn name(&self, position: usize) -> String {
+        match &self.id {
+            Some(id) if *id != position.to_string() => format!("chain {position} (id {id})"),
+            _ => format!("chain {position}"),
+        }
+    }
+
+    /// The runs of its positions.
+    pub fn runs(&self) -> impl Iterator<Item = &Run> {
+        runs(&self.geometry)
+    }
+
+    pub fn has_heights(&self) -> bool {
+        self.runs().any(|run| !run.heights.is_empty())
+    }
+}
+
+/// The runs of a line, or of the parts of one.
+fn runs(geometry: &Geometry) -> impl Iterator<Item = &Run> {
+    let (line, parts) = match geometry {
+        Geometry::Line(run) => (Some(run), &[][..]),
+        Geometry::Lines(parts) => (None, &parts[..]),
+        Geometry::Other(_) => (None, &[][..]),
+    };
+    line.into_iter().chain(parts)
+}
+
+/// How many chains one core reads at a time.
+const PART: usize = 512;
+
+/// Reads the chains of a text.
+pub fn read(text: &str, request: &CheckRequest, progress: &Progress) -> Result<Vec<Read>> {
+    let features = delivery::features(text).map_err(|fault| anyhow!(fault))?;
+    progress.begin("reading", features.len());
+    let part = |texts: &[&str]| -> Vec<Result<Read, String>> {
+        progress.add(texts.len());
+        texts.iter().map(|text| chain(text, request)).collect()
+    };
+    let read: Vec<_> = features.par_chunks(PART).flat_map_iter(part).collect();
+    let mut chains = Vec::with_capacity(read.len());
+    for (position, chain) in read.into_iter().enumerate() {
+        match chain {
+            Ok(chain) => chains.push(chain),
+            Err(fault) => bail!("{}: {fault}", delivery::place(text, features[position], position)),
+        }
+    }
+    Ok(chains)
+}
+
+fn chain(text: &str, request: &CheckRequest) -> Result<Read, String> {
+    let feature = Feature::of(text, request.reading.heights)?;
+    let property = &request.path;
+    let list = feature.property(property).ok_or_else(|| {
+        format!(
+            "it has no property {property:?} that lists its lines (--path PROPERTY names another)"
+        )
+    })?;
+    let wrong = || format!("its property {property:?} is not a list of names of lines");
+    let list: Vec<Value> = serde_json::from_str(list).map_err(|_| wrong())?;
+    let path = list.iter().map(Step::of).collect::<Option<_>>().ok_or_else(wrong)?;
+    let geometry = match feature.geometry {
+        Geometry::Other(what) => return Err(format!("its geometry is {what}, not a line")),
+        line => line,
+    };
+    Ok(Read { id: feature.id.map(str::to_owned), path, geometry })
+}
+
+/// The first chain whose geometry is of another kind than its line's or has other parts, or is one of parts
+/// and lists several lines. The library, to which a line is one run of positions, does not see that.
+pub fn other_shape(delivery: &Delivery, read: &[Read], listed: &[Vec<u32>]) -> Option<usize> {
+    let differs = |(chain, lines): (&Read, &Vec<u32>)| {
+        let parts = |geometry: &Geometry| match geometry {
+            Geometry::Lines(parts) => parts.iter().map(|run| Some(run.points.len())).collect(),
+            _ => vec![None],
+        };
+        match lines[..] {
+            [line] => parts(&delivery.features[line as usize].geometry) != parts(&chain.geometry),
+            _ => matches!(chain.geometry, Geometry::Lines(_)),
+        }
+    };
+    read.iter().zip(listed).position(differs)
+}

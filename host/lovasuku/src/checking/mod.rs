@@ -1,0 +1,180 @@
+//! A run of `lovasuku check`.
+
+mod chains;
+mod names;
+mod words;
+
+use crate::arguments::CheckRequest;
+use crate::classes::Classes;
+use crate::delivery::{self, Delivery, Geometry, Run};
+use crate::joining::{check_batches, Capacity, CheckFault, Checker};
+use crate::numbers::count;
+use crate::progress::Progress;
+use anyhow::{bail, Context, Result};
+use chains::Read;
+use lovasuku_chains::{
+    find, Delivered, DeliveredBuf, Dimension, Lines, LinesBuf, Refusal, Settings,
+};
+use names::Names;
+use rayon::prelude::*;
+use std::io::Write;
+use std::path::Path;
+use std::process::ExitCode;
+use words::Words;
+
+/// What a check came to: that the chains are accepted, or not and why, in words.
+#[derive(Clone, Debug, PartialEq)]
+pub enum Verdict {
+    Accepted(String),
+    Not(String),
+}
+
+/// Checks chains, writes the verdict, and gives the status of the command.
+pub fn main(request: &CheckRequest) -> ExitCode {
+    let told = run(request).and_then(|(verdict, warnings)| {
+        if !request.quiet {
+            warnings.iter().for_each(|warning| eprintln!("lovasuku: warning: {warning}"));
+            let (Verdict::Accepted(words) | Verdict::Not(words)) = &verdict;
+            writeln!(std::io::stdout().lock(), "{words}")?;
+        }
+        Ok(verdict)
+    });
+    match told {
+        Ok(Verdict::Accepted(_)) => ExitCode::SUCCESS,
+        Ok(Verdict::Not(_)) => ExitCode::FAILURE,
+        Err(fault) => {
+            eprintln!("lovasuku: {fault:#}");
+            ExitCode::from(2)
+        }
+    }
+}
+
+/// The verdict on chains, and what the user has to know about the names of lines.
+pub fn run(request: &CheckRequest) -> Result<(Verdict, Vec<String>)> {
+    let progress = Progress::new(!request.quiet);
+    let of = || name_of(&request.of);
+    let text = delivery::text(&request.of).with_context(of)?;
+    let delivery = &delivery::read(&text, &request.reading, &progress).with_context(of)?;
+    let (class, district) = (request.class.as_deref(), request.district.as_ref());
+    let classes = &Classes::of(delivery, class, district).with_context(of)?;
+    let names = Names::of(delivery, request.reading.explode).with_context(of)?;
+    let from = || name_of(&request.chains);
+    let text = delivery::text(&request.chains).with_context(from)?;
+    let read = &chains::read(&text, request, &progress).with_context(from)?;
+    let verdict = judged(request, delivery, classes, &names, read, &progress);
+    progress.end();
+    Ok((verdict.with_context(from)?, delivery.warnings.clone()))
+}
+
+/// The name of an input, by its path unless it is the standard input.
+fn name_of(path: &Path) -> String {
+    match path == Path::new("-") {
+        true => "standard input".into(),
+        false => path.display().to_string(),
+    }
+}
+
+fn judged(
+    request: &CheckRequest,
+    delivery: &Delivery,
+    classes: &Classes,
+    names: &Names,
+    read: &[Read],
+    progress: &Progress,
+) -> Result<Verdict> {
+    let listed = match listed(request, names, read) {
+        Ok(listed) => listed,
+        Err(words) => return Ok(Verdict::Not(words)),
+    };
+    let high = delivery.has_heights() || read.iter().any(Read::has_heights);
+    let dimension = if high { Dimension::Xyz } else { Dimension::Xy };
+    let lines = lent_lines(dimension, delivery, classes);
+    let chains = lent_chains(dimension, read, &listed);
+    let (lines, chains) = (lines.lines(), chains.delivered());
+    let shape = chains::other_shape(delivery, read, &listed);
+    let accepted = accepted(lines, chains, request.settings, progress)?;
+    let words = Words { delivery, classes, read, lines, chains };
+    if accepted && shape.is_none() {
+        let of = (count(read.len(), "chain"), count(delivery.features.len(), "line"));
+        return Ok(Verdict::Accepted(words::accepted(of, request.settings)));
+    }
+    let found = if accepted { None } else { find(lines, chains, request.settings) };
+    let first = match (shape, found) {
+        (Some(chain), Some(found)) if found.chain.map_or(false, |at| at < chain) => words.of(found),
+        (Some(chain), _) => words.of_shape(chain, &listed),
+        (None, Some(found)) => words.of(found),
+        // The library's verdict counts, also where the search finds nothing.
+        (None, None) => "the library does not accept the chains".into(),
+    };
+    Ok(Verdict::Not(format!("not accepted: {first}")))
+}
+
+/// The lines that each chain lists, by position; or words about the first name that is no line's.
+fn listed(
+    request: &CheckRequest,
+    names: &Names,
+    read: &[Read],
+) -> std::result::Result<Vec<Vec<u32>>, String> {
+    let mut listed = Vec::with_capacity(read.len());
+    for (chain, each) in read.iter().enumerate() {
+        let lines = each.path.iter().map(|step| names.line(step).ok_or(step));
+        let lines = lines.collect::<std::result::Result<Vec<u32>, _>>().map_err(|step| {
+            let (name, of) = (each.name(chain), name_of(&request.of));
+            format!("not accepted: {name}: it lists {step}, which is no line of {of}")
+        })?;
+        listed.push(lines);
+    }
+    Ok(listed)
+}
+
+/// The lines as the library takes them. A MultiLineString passes through, its parts one behind another.
+fn lent_lines(dimension: Dimension, delivery: &Delivery, classes: &Classes) -> LinesBuf {
+    let mut lent = LinesBuf::of(dimension);
+    for (feature, &group) in delivery.features.iter().zip(&classes.groups) {
+        match &feature.geometry {
+            Geometry::Line(run) => lent.push(positions(run), group),
+            Geometry::Lines(parts) => lent.push_passing(parts.iter().flat_map(positions), group),
+            Geometry::Other(_) => lent.push_passing([[0.0; 3]; 0], group),
+        }
+    }
+    lent
+}
+
+fn lent_chains(dimension: Dimension, read: &[Read], listed: &[Vec<u32>]) -> DeliveredBuf {
+    let mut lent = DeliveredBuf::of(dimension);
+    for (chain, lines) in read.iter().zip(listed) {
+        lent.push(lines.iter().copied(), chain.runs().flat_map(positions));
+    }
+    lent
+}
+
+/// The positions of a run with their heights, NaN where there is none.
+fn positions(run: &Run) -> impl Iterator<Item = [f64; 3]> + '_ {
+    let height = |k: usize| run.heights.get(k).copied().unwrap_or(f64::NAN);
+    run.points.iter().enumerate().map(move |(k, &[x, y])| [x, y, height(k)])
+}
+
+/// Whether the library accepts the chains, on all cores.
+fn accepted(
+    lines: Lines,
+    chains: Delivered,
+    settings: Settings,
+    progress: &Progress,
+) -> Result<bool> {
+    progress.begin("checking", chains.len());
+    let check = |checker: &mut Checker, batch: &crate::joining::CheckBatch| {
+        let checked = checker.check(batch);
+        progress.add(batch.chains.len());
+        checked
+    };
+    let checked = check_batches(lines, chains, Capacity::default()).and_then(|batches| {
+        let checker = || Checker::new(lines, chains, settings);
+        let all = batches.par_iter().map_init(checker, check);
+        all.collect::<std::result::Result<(), Refusal>>().map_err(CheckFault::from)
+    });
+    match checked {
+        Ok(()) => Ok(true),
+        Err(CheckFault::Refused(Refusal::NotAcceptable | Refusal::BadRecord)) => Ok(false),
+        Err(fault) => bail!(fault),
+    }
+}
