@@ -11,8 +11,10 @@ impl Shrink for FinishCall {
         let with_lines = (0..whole).filter_map(|piece| without_piece_and_lines(self, piece));
         let pieces = parts(whole).map(|part| without_pieces(self, part));
         let lines = (0..self.lines.lines()).map(|line| without_line(self, line));
+        let out_of_piece = (0..self.lines.lines()).filter_map(|line| without_member(self, line));
         let points = (0..whole).filter_map(|piece| shorter(self, piece));
-        let smaller = with_lines.chain(pieces).chain(lines).chain(points).chain(cut(self));
+        let fewer = with_lines.chain(out_of_piece).chain(pieces).chain(lines);
+        let smaller = fewer.chain(points).chain(cut(self));
         let same = self.lines.simpler().filter(|lines| lines.lines() == self.lines.lines());
         let simpler = same.map(|lines| FinishCall { lines, ..self.clone() });
         Box::new(flat.into_iter().chain(smaller).chain(simpler).chain(words(self)))
@@ -68,6 +70,39 @@ fn without_line(call: &FinishCall, line: usize) -> FinishCall {
         }
     }
     without
+}
+
+/// Without a line of a piece of several, and without its place among the members and in the listing of the piece.
+/// Where one line is left the piece is that line's own.
+fn without_member(call: &FinishCall, line: usize) -> Option<FinishCall> {
+    let place = |of: &[u32]| of.iter().position(|&y| y as usize == line);
+    let (member, listed) = (place(&call.pieces.members)?, place(&call.pieces.listing)?);
+    let mut without = call.clone();
+    let Pieces { records, members, marks, listing, .. } = &mut without.pieces;
+    (member < marks.len()).then(|| marks.remove(member))?;
+    members.remove(member);
+    listing.remove(listed);
+    let mut left = None;
+    for record in records.chunks_exact_mut(PIECE) {
+        let within =
+            (record[0] as usize..record[0] as usize + record[1] as usize).contains(&member);
+        if within && record[1] == 2 {
+            left = members.get(record[0] as usize).copied();
+            (record[2], record[4]) = (u32::MAX, 0);
+        }
+        record[1] -= u32::from(within);
+        record[0] -= u32::from(record[0] as usize > member);
+    }
+    let own = left.and_then(|left| {
+        let first = *call.lines.firsts().get(left as usize)?;
+        Some([0, first as u32, call.lines.counts[left as usize]])
+    });
+    for record in without.pieces.records.chunks_exact_mut(PIECE) {
+        if let (u32::MAX, Some(own)) = (record[2], own) {
+            record[2..].copy_from_slice(&own);
+        }
+    }
+    Some(without_line(&without, line))
 }
 
 /// With a coordinate less in a piece of several lines.
