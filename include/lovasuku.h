@@ -62,8 +62,9 @@ extern "C" {
               : (wkb_type) == LOVASUKU_XYZ || (wkb_type) == LOVASUKU_XYM ? 3                                          \
               : (wkb_type) == LOVASUKU_XYZM ? 4 : 0))
 
-/* Numbers of a chain's record, and of a box; words of workspace for each line and for each end. */
+/* Numbers of a chain's record, of a piece's, and of a box; words of workspace for each line and for each end. */
 #define LOVASUKU_RECORD 6
+#define LOVASUKU_PIECE 5
 #define LOVASUKU_BOX 4
 #define LOVASUKU_LINE_WORKSPACE 192
 #define LOVASUKU_END_WORKSPACE 64
@@ -71,6 +72,7 @@ extern "C" {
 /* The rooms of a call in elements: of building for n lines and c coordinates of a type, each counted once whatever it
  * has; of pairing for d ends. */
 #define lovasuku_table_room(n) ((size_t)LOVASUKU_RECORD * (size_t)(n))
+#define lovasuku_pieces_room(n) ((size_t)LOVASUKU_PIECE * (size_t)(n))
 #define lovasuku_members_room(n) ((size_t)(n))
 #define lovasuku_marks_room(n) ((size_t)(n))
 #define lovasuku_listing_room(n) ((size_t)(n))
@@ -95,6 +97,7 @@ enum lovasuku_refusal {
     LOVASUKU_BAD_LIMIT = 6,            /* The switch is above 1, or the limit is not a number from -1 to 1. */
     LOVASUKU_BAD_OFFSET = 22,          /* The offset that stands in the limit's place is above 1,000. */
     LOVASUKU_BAD_ORIGIN = 17,          /* The x or the y of the origin is NaN or infinite. */
+    LOVASUKU_BAD_PIECES = 19,          /* Pieces that are lent are not those of these lines. */
     LOVASUKU_BAD_WINDOW = 18,          /* A window has a NaN, or a least above its greatest. */
     LOVASUKU_ROOM_TOO_SHORT = 7,       /* A lent room is shorter than the call needs. */
     LOVASUKU_PIECE_TOO_OFTEN = 8,      /* A piece number occurs more than twice. */
@@ -183,6 +186,77 @@ int64_t lovasuku_build(uint32_t wkb_type, const double *coordinates, size_t coor
                        double *boxes, size_t boxes_length,
                        double *spare, size_t spare_length,
                        uint64_t *workspace, size_t workspace_length);
+
+/* One exact round, many zooms: building in two calls, of which the second may be made again and again with other
+ * tolerances. lovasuku_first is round one: it joins ends that agree bit for bit, and leaves the pieces in lent buffers.
+ * The result is the number of pieces.
+ *
+ * Lent are the type of all lines, the lines as in building, switch_on and limit.
+ *
+ * Written are, with k pieces, each line that does not pass through in one of them: pieces, 5k numbers, for each piece
+ * its first member, its number of members, its source (0 the caller's coordinates, 1 merged), its first coordinate and
+ * its number of coordinates; members, positions of lines, piece by piece; marks, in the members' order, 1 where round
+ * one turned the line; listing, the lines of each piece in the order in which its coordinates pass them; merged, the
+ * coordinates of the pieces of several lines, one piece behind another. A piece of one line names the line's own
+ * coordinates. Members, marks and listing have as many numbers as there are lines that do not pass through.
+ *
+ * Rooms: pieces 5n, members n, marks n, listing n, merged 2c (3c or 4c with extras), workspace 192n.
+ *
+ * Refusals: 12, 1 to 5, 20, 21, 15 and 6 as of building. 7 a room is too short. There is no tolerance and no origin. */
+int64_t lovasuku_first(uint32_t wkb_type, const double *coordinates, size_t coordinates_length,
+                       const uint32_t *counts, size_t counts_length,
+                       const uint32_t *groups, size_t groups_length,
+                       const uint8_t *kinds, size_t kinds_length,
+                       uint8_t switch_on, double limit,
+                       uint32_t *pieces, size_t pieces_length,
+                       uint32_t *members, size_t members_length,
+                       uint8_t *marks, size_t marks_length,
+                       uint32_t *listing, size_t listing_length,
+                       double *merged, size_t merged_length,
+                       uint64_t *workspace, size_t workspace_length);
+
+/* Finishes pieces: round two, where tolerance is above 0, and the lines that pass through behind them. The result is the
+ * number of chains.
+ *
+ * Lent are the lines once more, k pieces of them, and the settings of building. The pieces are not altered, and may be
+ * lent again. After lovasuku_first on the same lines with the same switch_on and limit, the answer and all that is
+ * written are lovasuku_build's.
+ *
+ * Pieces may come from anywhere, in slices of any lengths. What is not refused by 19 is finished as it is lent: pieces in
+ * any order, members and listing of a piece in any order, gaps between coordinates and coordinates that pieces share,
+ * any finite coordinates, one or with repeats. A piece that round two joins with none keeps them as they are.
+ *
+ * Written are table, members, marks, listing, merged and boxes, as by lovasuku_build. A mark is 1 where the line was turned
+ * in an odd number of rounds, of which the first is told by the mark that is lent.
+ *
+ * Rooms: table 6n, members n, marks n, listing n, merged 2c (3c or 4c with extras), boxes 8n + 64, workspace 192n. No
+ * spare is needed.
+ *
+ * Refusals: 12, 1 to 5, 20, 21, 15, 6 and 17 as of building. 19 the k records are not wholly in pieces; or the members,
+ * or the listing, taken piece by piece as the records name them, are not the lines that do not pass through, each once,
+ * or the two name different lines in a piece; or a piece has no line or no coordinate, has lines of several groups,
+ * reaches outside piece_members, piece_marks, piece_listing or its coordinates, or has a coordinate whose x or y is NaN or
+ * infinite; or a piece of one line is not the line's own coordinates in source 0, at their own place, or a piece of
+ * several is not in source 1; or all pieces together have more than c coordinates, or a mark that a record names is above
+ * 1. 7 a room is too short. */
+int64_t lovasuku_finish(uint32_t wkb_type, const double *coordinates, size_t coordinates_length,
+                        const uint32_t *counts, size_t counts_length,
+                        const uint32_t *groups, size_t groups_length,
+                        const uint8_t *kinds, size_t kinds_length,
+                        const uint32_t *pieces, size_t pieces_length,
+                        const uint32_t *piece_members, size_t piece_members_length,
+                        const uint8_t *piece_marks, size_t piece_marks_length,
+                        const uint32_t *piece_listing, size_t piece_listing_length,
+                        const double *piece_merged, size_t piece_merged_length,
+                        uint64_t k,
+                        double tolerance, double origin_x, double origin_y, uint8_t switch_on, double limit,
+                        uint32_t *table, size_t table_length,
+                        uint32_t *members, size_t members_length,
+                        uint8_t *marks, size_t marks_length,
+                        uint32_t *listing, size_t listing_length,
+                        double *merged, size_t merged_length,
+                        double *boxes, size_t boxes_length,
+                        uint64_t *workspace, size_t workspace_length);
 
 /* Selects, of the ends at one node, the pairs that continue each other best. The result is the number of pairs.
  *

@@ -381,6 +381,8 @@ void fuzz_build(struct bytes *bytes) {
     }
     require_rooms(&call, &lengths, (size_t)answer);
     look_into(bytes, &call, rooms[BOXES].lent, lengths.rooms[BOXES], (size_t)answer);
+    require_parted(bytes, &call, (size_t)answer, require_built(&call, (size_t)answer),
+                   require_boxes(&call, (size_t)answer));
     uint64_t sum = sum_of_answer(&call, (size_t)answer);
     seen(1024 + (unsigned)(sum % 1024));
     /* With an offset it is the call with the offset's limit; above 1,000 the limit isn't looked at. */

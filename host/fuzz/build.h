@@ -40,4 +40,8 @@ void look_into(struct bytes *bytes, const struct building *call, const void *len
  * been made elsewhere. */
 void require_acceptable(const struct building *call, size_t numbers, size_t chains, size_t merged_numbers);
 
+/* Requires building in two calls to write what the accepted call has written, so many merged numbers and numbers of boxes,
+ * and finishes pieces of any sort. */
+void require_parted(struct bytes *bytes, const struct building *call, size_t chains, size_t merged, size_t boxes);
+
 #endif

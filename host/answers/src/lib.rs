@@ -7,6 +7,7 @@
 //! - [`model`]: the rules, written down in plain Rust.
 //! - [`offset`]: the limit of an offset, in whole numbers.
 //! - [`check`]: what holds of every recorded answer by its form alone.
+//! - [`pieces`]: pieces of lines, as a first call leaves them and a second takes them.
 //! - [`replay`]: every recorded call, put to a [`Port`].
 //! - [`wkb`]: lines as WKB records, read as the standard says.
 //! - [`random`] and [`styles`]: inputs, the same for the same seed on every machine.
@@ -19,6 +20,7 @@ pub mod delivered;
 pub mod format;
 pub mod model;
 pub mod offset;
+pub mod pieces;
 pub mod random;
 pub mod replay;
 pub mod styles;
@@ -29,3 +31,4 @@ pub use call::{BuildCall, Built, Pair, PairingCall, Port, Refusal, Route, WhyCal
 pub use call::{BAD_ORIGIN, DISTRICT_OVER_COORDINATES, DISTRICT_OVER_LINES, NO_PLACE, NO_TYPE};
 pub use call::{BORDER, MOST_DISTRICT_LINES, MOST_DISTRICT_POINTS};
 pub use delivered::{CheckCall, BAD_RECORD, NOT_ACCEPTABLE};
+pub use pieces::{FinishCall, Pieces, BAD_PIECES, PIECE};

@@ -76,20 +76,37 @@ pub fn zeroing(call: &BuildCall, patience: Patience) -> f64 {
 
 /// The port's call, with the rooms as the call before left them.
 pub(crate) fn build(call: &BuildCall, coordinates: &[f64], rooms: &mut Rooms) -> i64 {
-    let lines = Lines {
+    build_under(call, coordinates, settings_of(call), rooms)
+}
+
+/// The same under other settings than the call's own.
+pub(crate) fn build_under(
+    call: &BuildCall,
+    coordinates: &[f64],
+    settings: RawSettings,
+    rooms: &mut Rooms,
+) -> i64 {
+    door::build(call.wkb_type, hidden(lines_of(call, coordinates)), settings, rooms.lent())
+}
+
+/// The lines of a call, with its coordinates as floats.
+pub(crate) fn lines_of<'a>(call: &'a BuildCall, coordinates: &'a [f64]) -> Lines<'a> {
+    Lines {
         dimension: Dimension::of_wkb_type(call.wkb_type).unwrap_or_default(),
         coordinates,
         counts: &call.counts,
         groups: &call.groups,
         kinds: &call.kinds,
-    };
-    let settings = RawSettings {
+    }
+}
+
+pub(crate) fn settings_of(call: &BuildCall) -> RawSettings {
+    RawSettings {
         tolerance: f64::from_bits(call.tolerance),
         origin: call.origin.map(f64::from_bits),
         switch: call.switch,
         limit: f64::from_bits(call.limit),
-    };
-    door::build(call.wkb_type, hidden(lines), settings, rooms.lent())
+    }
 }
 
 /// The rooms of a call, each as long as the rules ask for.
@@ -127,7 +144,24 @@ impl Rooms {
         (table, self.listing.clone(), self.merged.clone())
     }
 
-    fn lent(&mut self) -> door::BuildRooms<'_> {
+    /// True where both have the same chains, so many: records, members, marks, listing and merged coordinates bit
+    /// for bit.
+    pub(crate) fn same_chains(&self, other: &Rooms, chains: i64) -> bool {
+        let records = RECORD * chains.max(0) as usize;
+        let merged = |rooms: &Rooms| -> Vec<u64> {
+            let end = |record: &[u32]| if record[2] == 1 { record[3] + record[4] } else { 0 };
+            let points = rooms.table[..records].chunks(RECORD).map(end).max().unwrap_or(0);
+            let bits = rooms.merged.iter().map(|number| number.to_bits());
+            bits.take(2 * points as usize).collect()
+        };
+        self.table[..records] == other.table[..records]
+            && self.members == other.members
+            && self.marks == other.marks
+            && self.listing == other.listing
+            && merged(self) == merged(other)
+    }
+
+    pub(crate) fn lent(&mut self) -> door::BuildRooms<'_> {
         let Rooms { table, members, marks, listing, merged, boxes, spare, workspace } = self;
         door::BuildRooms { table, members, marks, listing, merged, boxes, spare, workspace }
     }

@@ -1,12 +1,12 @@
 //! Checking chains made elsewhere: what the library takes to check what it has built, beside building it, and
 //! on chains whose lines may be travelled in very many ways.
 
-use crate::building::{build, Rooms};
+use crate::building::{build, lines_of, Rooms};
 use crate::clock::{best, hidden, timed, Patience};
 use crate::times::{measured, Times};
 use answers::BuildCall;
 use lovasuku_chains::size::{LINE_WORKSPACE, RECORD};
-use lovasuku_chains::{door, Delivered, DeliveredBuf, Dimension, Lines, LinesBuf};
+use lovasuku_chains::{door, Delivered, DeliveredBuf, LinesBuf};
 
 /// The times of checking what is built, and of building it, after it has been seen to be accepted. The error
 /// is a sentence.
@@ -16,7 +16,7 @@ pub fn compare(call: &BuildCall, patience: Patience) -> Result<Times, String> {
     let k = build(call, &coordinates, &mut rooms);
     let (table, listing, merged) = rooms.delivered(k);
     let chains = Delivered { table: &table, listing: &listing, merged: &merged };
-    let lines = lines(call, &coordinates);
+    let lines = lines_of(call, &coordinates);
     let meeting = (f64::from_bits(call.tolerance), call.origin.map(f64::from_bits));
     let mut workspace = vec![u64::MAX; LINE_WORKSPACE * call.lines()];
     let mut check = || {
@@ -29,16 +29,6 @@ pub fn compare(call: &BuildCall, patience: Patience) -> Result<Times, String> {
     let mut checking = || timed(&mut check);
     let mut building = || timed(|| build(call, &coordinates, &mut rooms));
     Ok(measured(&mut [&mut checking, &mut building], patience))
-}
-
-fn lines<'a>(call: &'a BuildCall, coordinates: &'a [f64]) -> Lines<'a> {
-    Lines {
-        dimension: Dimension::of_wkb_type(call.wkb_type).unwrap_or_default(),
-        coordinates,
-        counts: &call.counts,
-        groups: &call.groups,
-        kinds: &call.kinds,
-    }
 }
 
 /// A chain of lines between two places of one cell: each may be travelled either way, and where it is laid

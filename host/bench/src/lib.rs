@@ -4,6 +4,7 @@
 //! - [`building`] and [`pairing`]: both sides of a comparison, seen to answer alike and then timed.
 //! - [`wkb`]: WKB records read and written, and the same in plain Rust, [`plain_wkb`].
 //! - [`checking`]: chains made elsewhere, checked.
+//! - [`zooms`]: five tolerances with one round one.
 //! - [`windows`]: what lies in a window, and the same by a look at all boxes in plain Rust.
 //! - [`geos`]: GEOS's LineMerger, WKBReader and WKBWriter as a third side, where it is installed, and
 //!   [`geos_tree`], its tree of boxes.
@@ -25,9 +26,11 @@ pub mod plain_wkb;
 pub mod report;
 mod report_checking;
 mod report_windows;
+mod report_zooms;
 pub mod summary;
 pub mod table;
 pub mod times;
 pub mod windows;
 pub mod wkb;
 pub mod workloads;
+pub mod zooms;

@@ -8,11 +8,12 @@ pub const USAGE: &str = "bench [--quick] [--only NAME] [--markdown] [--gate]
 
   --quick      fewer sizes and shorter runs, under 20 seconds instead of 3 minutes
   --only NAME  only workloads with NAME in their name, which for pairing calls begins with `pairs`,
-               and for checks with `checking`
+               for checks with `checking` and for many tolerances with `zooms`
   --markdown   tables in the form of docs/SPEED.md
   --gate       status 1 where a ratio is above 1, one to GEOS's WKB above 0.2, one of windows to a
-               look at all boxes above 0.25, one of checking networks to building above 1, or the
-               geometric mean of building above 0.5
+               look at all boxes above 0.25, one of checking networks to building above 1, one of five
+               zooms of borders to five whole calls above 0.75, one of 19 to finishing above 0.1, or
+               the geometric mean of building above 0.5
 
 Exit status: 0, or 1 where the sides answer differently or the gate is shut; 2 for bad usage.";
 

@@ -78,6 +78,7 @@ impl Report<'_> {
         self.pairing()?;
         self.windows()?;
         self.checking()?;
+        self.zooms()?;
         self.wkb()?;
         self.extras()
     }

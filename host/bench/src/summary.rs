@@ -20,6 +20,11 @@ pub const MOST_OF_TREE: f64 = 1.0;
 /// No check of a network of many chains may take more than this part of building it.
 pub const MOST_OF_BUILDING: f64 = 1.0;
 
+/// Five tolerances by one round one may not take more than this part of five whole calls, on a network like real
+/// borders; and 19's look at the pieces not more than this part of a call that finishes them.
+pub const MOST_OF_FIVE_CALLS: f64 = 0.75;
+pub const MOST_OF_FINISHING: f64 = 0.1;
+
 /// The geometric mean of building may not be above this.
 pub const MOST_MEAN: f64 = 0.5;
 
@@ -76,6 +81,11 @@ pub struct Summary {
     /// long ones.
     pub checking: Ratios,
     pub checking_beside: Ratios,
+    /// Five tolerances by one round one, as parts of five whole calls: of borders, and of all else.
+    pub zooms: Ratios,
+    pub zooms_beside: Ratios,
+    /// 19's look at the pieces of borders, as parts of a call that finishes them.
+    pub judging: Ratios,
 }
 
 impl Summary {
@@ -92,6 +102,9 @@ impl Summary {
             ("windows, of GEOS's tree", &self.windows_geos),
             ("checking networks, of building", &self.checking),
             ("checking others, of building", &self.checking_beside),
+            ("zooms of borders, of five whole calls", &self.zooms),
+            ("zooms of others, of five whole calls", &self.zooms_beside),
+            ("19 of borders, of finishing", &self.judging),
         ];
         let mut lines: Vec<_> =
             titles.iter().filter_map(|(title, ratios)| ratios.line(title)).collect();
@@ -104,7 +117,7 @@ impl Summary {
     }
 
     /// The ratios that the gate looks at one by one, with the most that each may be.
-    fn gated(&self) -> [(&Ratios, f64); 8] {
+    fn gated(&self) -> [(&Ratios, f64); 10] {
         [
             (&self.building, MOST_RATIO),
             (&self.pairing, MOST_RATIO),
@@ -114,6 +127,8 @@ impl Summary {
             (&self.windows, MOST_OF_ALL_BOXES),
             (&self.windows_geos, MOST_OF_TREE),
             (&self.checking, MOST_OF_BUILDING),
+            (&self.zooms, MOST_OF_FIVE_CALLS),
+            (&self.judging, MOST_OF_FINISHING),
         ]
     }
 

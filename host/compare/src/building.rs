@@ -1,7 +1,7 @@
 //! A building call, put to the library and held to the judge's answer.
 
 use crate::room::{more, Dirt, Room};
-use crate::{extras, laying, windows, Door, Judge};
+use crate::{extras, laying, windows, zooms, Door, Judge};
 use answers::offset::of_limit;
 use answers::random::Random;
 use answers::{BuildCall, Built, Refusal};
@@ -84,8 +84,8 @@ impl BuildRooms {
 }
 
 /// Puts the call to the door, in rooms that the seed determines, and holds it to the judge's
-/// answer; once more with an offset in the limit's place, where the limit is of one; and to what is
-/// known without a judge of listings and marks, of windows over its chains, and of extras where there
+/// answer; once more with an offset in the limit's place, where the limit is of one; in two calls; and to
+/// what is known without a judge of listings and marks, of windows over its chains, and of extras where there
 /// are any. The error is a
 /// sentence about the first difference.
 pub fn compare_build(
@@ -99,6 +99,7 @@ pub fn compare_build(
     if let Some(door) = door.by_offset().filter(|_| of_limit(call.limit).is_some()) {
         hold_build(door, call, &wanted, seed).map_err(by_offset)?;
     }
+    zooms::check(door, call, &wanted, seed)?;
     match &wanted {
         // The rooms have been seen to hold this answer.
         Ok(built) => {

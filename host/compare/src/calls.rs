@@ -5,10 +5,10 @@
 
 use answers::random::Random;
 use answers::styles::{
-    deliveries, districts, heights, junctions, origins, pairing, wild, windows, Style, BUILDING,
-    PAIRING,
+    deliveries, districts, heights, junctions, origins, pairing, parting, wild, windows, Style,
+    BUILDING, PAIRING,
 };
-use answers::{offset, BuildCall, CheckCall, PairingCall, WhyCall, WindowCall, TYPES};
+use answers::{offset, BuildCall, CheckCall, FinishCall, PairingCall, WhyCall, WindowCall, TYPES};
 use lovasuku_chains::size::{MOST_DISTRICT_POINTS, MOST_ENDS, MOST_LINES, MOST_POINTS};
 
 /// A call of either sort.
@@ -24,6 +24,8 @@ pub enum Call {
     Window(WindowCall),
     /// Chains made elsewhere, to be judged.
     Check(CheckCall),
+    /// Pieces to be finished.
+    Finish(FinishCall),
 }
 
 /// A call with the name of its style, and the seed of the rooms that are lent to it.
@@ -55,6 +57,10 @@ const CHECKED_AT: u64 = 5;
 
 /// The most lines of such a delivery of few points.
 const AMBIGUOUS: usize = 10;
+
+/// One call in so many finishes pieces: those at this place of each run of so many.
+const FINISHES: u64 = 8;
+const FINISHED_AT: u64 = 1;
 
 /// One building call in so many has an origin, beside those whose style has.
 const ORIGINS: usize = 3;
@@ -94,6 +100,11 @@ pub fn numbered(seed: u64, number: u64) -> Numbered {
         let size = size(&mut random, large, MOST_LINES);
         let call = Call::Window(windows::boxes(&mut random, size));
         return Numbered { style: "boxes", call, rooms };
+    }
+    if number % FINISHES == FINISHED_AT {
+        let (_, lines) = building(&mut random, false, &mut Random::new(!rooms));
+        let (style, call) = parting::lent(&mut random, lines);
+        return Numbered { style, call: Call::Finish(call), rooms };
     }
     if number % CHECKS == CHECKED_AT {
         let (style, call) = delivery(&mut random, &mut Random::new(!rooms));

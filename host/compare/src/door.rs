@@ -3,9 +3,11 @@
 use crate::building::BuildRooms;
 use crate::pairing::PairRooms;
 use crate::room::Room;
-use answers::{offset, BuildCall, CheckCall, PairingCall, Route, WhyCall, WindowCall};
+use crate::zooms::{FinishRooms, FirstRooms};
+use answers::{offset, BuildCall, CheckCall, FinishCall};
+use answers::{PairingCall, Route, WhyCall, WindowCall};
 use lovasuku_chains::door::{self, RawOffset, RawSettings};
-use lovasuku_chains::{Delivered, Dimension, Ends, Lines, Window};
+use lovasuku_chains::{Delivered, Dimension, Ends, Lines, Pieces, Window};
 
 /// Whatever takes calls in the form of the door: rooms are lent, the answer is a number.
 pub trait Door: Sync {
@@ -24,6 +26,12 @@ pub trait Door: Sync {
     /// Judges chains made elsewhere.
     fn check(&self, call: &CheckCall, workspace: &mut Room<u64>) -> i64;
 
+    /// Round one of a building call.
+    fn first(&self, call: &BuildCall, rooms: &mut FirstRooms) -> i64;
+
+    /// Finishes pieces.
+    fn finish(&self, call: &FinishCall, rooms: &mut FinishRooms) -> i64;
+
     /// The same with an offset in the limit's place, where there are such calls.
     fn by_offset(&self) -> Option<&dyn Door> {
         None
@@ -35,14 +43,8 @@ pub struct Library;
 
 impl Door for Library {
     fn build(&self, call: &BuildCall, rooms: &mut BuildRooms) -> i64 {
-        let settings = RawSettings {
-            tolerance: f64::from_bits(call.tolerance),
-            origin: call.origin.map(f64::from_bits),
-            switch: call.switch,
-            limit: f64::from_bits(call.limit),
-        };
         let coordinates = floats(&call.coordinates);
-        door::build(call.wkb_type, lines(call, &coordinates), settings, lent(rooms))
+        door::build(call.wkb_type, lines(call, &coordinates), settings(call), lent(rooms))
     }
 
     fn pairs(&self, route: Route, call: &PairingCall, rooms: &mut PairRooms) -> i64 {
@@ -69,6 +71,36 @@ impl Door for Library {
         let chains = Delivered { table, listing, merged: &merged };
         let lines = lines(of, &coordinates);
         door::check(of.wkb_type, lines, meeting, chains, *k, workspace.lent())
+    }
+
+    fn first(&self, call: &BuildCall, rooms: &mut FirstRooms) -> i64 {
+        let (coordinates, limit) = (floats(&call.coordinates), f64::from_bits(call.limit));
+        let lent = door::FirstRooms {
+            pieces: rooms.pieces.lent(),
+            members: rooms.members.lent(),
+            marks: rooms.marks.lent(),
+            listing: rooms.listing.lent(),
+            merged: rooms.merged.lent(),
+            workspace: rooms.workspace.lent(),
+        };
+        door::first(call.wkb_type, lines(call, &coordinates), call.switch, limit, lent)
+    }
+
+    fn finish(&self, call: &FinishCall, rooms: &mut FinishRooms) -> i64 {
+        let (coordinates, merged) = (floats(&call.lines.coordinates), floats(&call.pieces.merged));
+        let answers::Pieces { records, members, marks, listing, k, .. } = &call.pieces;
+        let pieces = Pieces { records, members, marks, listing, merged: &merged };
+        let lent = door::FinishRooms {
+            table: rooms.table.lent(),
+            members: rooms.members.lent(),
+            marks: rooms.marks.lent(),
+            listing: rooms.listing.lent(),
+            merged: rooms.merged.lent(),
+            boxes: rooms.boxes.lent(),
+            workspace: rooms.workspace.lent(),
+        };
+        let lines = lines(&call.lines, &coordinates);
+        door::finish(call.lines.wkb_type, lines, pieces, *k, settings(&call.lines), lent)
     }
 
     fn by_offset(&self) -> Option<&dyn Door> {
@@ -111,12 +143,30 @@ impl Door for ByOffset {
     fn check(&self, call: &CheckCall, workspace: &mut Room<u64>) -> i64 {
         Library.check(call, workspace)
     }
+
+    /// Building in two calls has none with an offset.
+    fn first(&self, call: &BuildCall, rooms: &mut FirstRooms) -> i64 {
+        Library.first(call, rooms)
+    }
+
+    fn finish(&self, call: &FinishCall, rooms: &mut FinishRooms) -> i64 {
+        Library.finish(call, rooms)
+    }
 }
 
 /// The offset of a limit; where it is the limit of none, one above 1,000 that its bits determine.
 pub fn offset_of(limit: u64) -> u32 {
     let above = || ((limit >> 32) as u32 ^ limit as u32).max(offset::MOST + 1);
     offset::of_limit(limit).unwrap_or_else(above)
+}
+
+fn settings(call: &BuildCall) -> RawSettings {
+    RawSettings {
+        tolerance: f64::from_bits(call.tolerance),
+        origin: call.origin.map(f64::from_bits),
+        switch: call.switch,
+        limit: f64::from_bits(call.limit),
+    }
 }
 
 pub(crate) fn lines<'a>(call: &'a BuildCall, coordinates: &'a [f64]) -> Lines<'a> {

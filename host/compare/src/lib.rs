@@ -10,7 +10,8 @@
 //! - [`calls`]: the calls of a run.
 //! - [`judge`]: who says what the answer is.
 //! - [`room`]: rooms that show what was written into them.
-//! - [`building`], [`pairing`], [`why`], [`windows`], [`checks`]: one call, compared.
+//! - [`building`], [`pairing`], [`why`], [`windows`], [`checks`], [`zooms`]: one call, compared, or building in
+//!   two.
 //! - [`extras`]: what holds of heights and measures, judged apart from the model.
 //! - [`laying`]: that lines laid by listing and marks are their chain, judged apart from it too.
 //! - [`shrink`]: a call that differs, made small.
@@ -32,6 +33,7 @@ pub mod run;
 pub mod shrink;
 pub mod why;
 pub mod windows;
+pub mod zooms;
 
 pub use door::{ByOffset, Door, Library};
 pub use judge::Judge;

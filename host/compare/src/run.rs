@@ -7,6 +7,7 @@ use crate::pairing::compare_pairs;
 use crate::shrink::shrink;
 use crate::why::compare_why;
 use crate::windows::compare_window;
+use crate::zooms::{self, compare_finish};
 use crate::{Door, Judge};
 use answers::offset::of_limit;
 use answers::stride_of;
@@ -49,6 +50,10 @@ pub struct Tally {
     pub checks: Styles,
     /// What these were answered with.
     pub verdicts: Styles,
+    /// The pieces to be finished, beside those of building calls, by what was done to them.
+    pub finishes: Styles,
+    /// What 19 said of these.
+    pub forbidden: Styles,
     /// The building and pairing calls whose limit is that of an offset.
     pub offsets: u64,
     /// The building calls with an origin other than 0,0.
@@ -80,10 +85,21 @@ impl Tally {
             Call::Why(call) => (&mut self.why, [0, 0, call.pairing.ends()], None),
             Call::Window(_) => (&mut self.windows, [0; 3], None),
             Call::Check(_) => (&mut self.checks, [0; 3], None),
+            Call::Finish(_) => (&mut self.finishes, [0; 3], None),
         };
         self.offsets += u64::from(limit.and_then(of_limit).is_some());
         *styles.entry(numbered.style).or_default() += 1;
         self.grow(sizes);
+    }
+
+    /// Counts what a question, a delivery or pieces were answered with.
+    fn tell(&mut self, call: &Call, told: &'static str) {
+        let of = match call {
+            Call::Check(_) => &mut self.verdicts,
+            Call::Finish(_) => &mut self.forbidden,
+            _ => &mut self.told,
+        };
+        *of.entry(told).or_default() += 1;
     }
 
     fn grow(&mut self, sizes: [usize; 3]) {
@@ -101,6 +117,8 @@ impl Tally {
             (&mut self.windows, other.windows),
             (&mut self.checks, other.checks),
             (&mut self.verdicts, other.verdicts),
+            (&mut self.finishes, other.finishes),
+            (&mut self.forbidden, other.forbidden),
         ] {
             for (style, calls) in styles {
                 *sum.entry(style).or_default() += calls;
@@ -119,8 +137,9 @@ impl Tally {
 
     /// The number of calls.
     pub fn calls(&self) -> u64 {
-        let all = [&self.building, &self.pairing, &self.why, &self.windows, &self.checks];
-        all.iter().flat_map(|styles| styles.values()).sum()
+        let asked = [&self.pairing, &self.why, &self.windows, &self.checks, &self.finishes];
+        let all = asked.into_iter().chain([&self.building]);
+        all.flat_map(|styles| styles.values()).sum()
     }
 }
 
@@ -145,6 +164,8 @@ impl fmt::Display for Tally {
         writeln!(f, "windows over any boxes, beside those over chains: {}", list(&self.windows))?;
         writeln!(f, "chains made elsewhere: {}", list(&self.checks))?;
         writeln!(f, "judged: {}", list(&self.verdicts))?;
+        writeln!(f, "pieces finished, beside those of building: {}", list(&self.finishes))?;
+        writeln!(f, "of these: {}", list(&self.forbidden))?;
         writeln!(f, "two ends asked about: {}", list(&self.why))?;
         write!(f, "answered with: {}", list(&self.told))
     }
@@ -173,6 +194,7 @@ impl fmt::Display for Difference {
             Call::Why(call) => write!(f, "{call}"),
             Call::Window(call) => write!(f, "{call}"),
             Call::Check(call) => write!(f, "{call}"),
+            Call::Finish(call) => write!(f, "{call}"),
         }
     }
 }
@@ -197,13 +219,7 @@ pub fn run(
             watch(number);
             let numbered = numbered(plan.seed, number);
             match compare(door, judge, &numbered.call, numbered.rooms) {
-                Ok(Some(told)) => {
-                    let of = match numbered.call {
-                        Call::Check(_) => &mut tally.verdicts,
-                        _ => &mut tally.told,
-                    };
-                    *of.entry(told).or_default() += 1;
-                }
+                Ok(Some(told)) => tally.tell(&numbered.call, told),
                 Ok(None) => (),
                 Err(_) => {
                     end.fetch_min(number, Ordering::Relaxed);
@@ -224,7 +240,7 @@ pub fn run(
     (tally, (!whole).then(|| difference(door, judge, plan.seed, stopped)))
 }
 
-/// Compares a call, and names what a question or a delivery was answered with. The error is a sentence about the
+/// Compares a call, and names what a question, a delivery or pieces were answered with. The error is a sentence about the
 /// first difference.
 pub fn compare(
     door: &dyn Door,
@@ -238,6 +254,9 @@ pub fn compare(
         Call::Why(call) => compare_why(door, judge, call, rooms).map(|told| Some(told.name())),
         Call::Window(call) => compare_window(door, call, rooms).map(|()| None),
         Call::Check(call) => compare_check(door, call, rooms).map(|verdict| Some(verdict.name())),
+        Call::Finish(call) => {
+            compare_finish(door, call, rooms).map(|clause| Some(zooms::name(clause)))
+        }
     }
 }
 
@@ -259,6 +278,9 @@ fn difference(door: &dyn Door, judge: Judge, seed: u64, number: u64) -> Differen
         }
         Call::Check(call) => {
             Call::Check(shrink(call, |call| compare_check(door, call, rooms).is_err()))
+        }
+        Call::Finish(call) => {
+            Call::Finish(shrink(call, |call| compare_finish(door, call, rooms).is_err()))
         }
     };
     let sentence = compare(door, judge, &call, rooms).err().unwrap_or_default();

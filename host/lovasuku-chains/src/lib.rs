@@ -28,6 +28,7 @@
 //! | To | use |
 //! |---|---|
 //! | join lines | [`Rooms::build`], which gives [`Chains`] |
+//! | join for many zooms, with one exact round | [`Rooms::first`], then [`Rooms::finish`] for each tolerance |
 //! | follow a chain through its lines, and see which way each was drawn | [`Chain::path`] |
 //! | find the chains in a window | [`Chains::window`], [`window_question`] for stored boxes |
 //! | check chains made elsewhere | [`Rooms::check`] of [`Delivered`] chains, [`find`] for what is wrong with them |
@@ -73,6 +74,7 @@ pub mod size;
 mod two;
 mod window;
 mod wkb;
+mod zooms;
 
 pub use arrow::{read_wkb_offsets, RunOffset};
 pub use chains::{Chain, Chains, Iter, PathLine};
@@ -92,3 +94,4 @@ pub use rooms::Rooms;
 pub use settings::{limit_of_bend, Settings};
 pub use window::{window_question, InWindow, Window, WindowBuf};
 pub use wkb::{read_wkb, WkbLines, WkbRooms};
+pub use zooms::{First, FirstBuf, Pieces};

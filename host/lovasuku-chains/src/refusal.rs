@@ -44,6 +44,8 @@ pub enum Refusal {
     BadOffset,
     /// 17: an x or a y of the origin is NaN or infinite, whatever the tolerance is.
     BadOrigin,
+    /// 19: pieces that are lent are not those of these lines. Those of [`First`](crate::First) always are.
+    BadPieces,
     /// 18: a window has a NaN, or a least x or y above its greatest.
     BadWindow,
     /// 7: a room is too short. [`Rooms`](crate::Rooms) never lends one that is.
@@ -104,6 +106,7 @@ impl Refusal {
             16 => Refusal::UnknownOrder,
             17 => Refusal::BadOrigin,
             18 => Refusal::BadWindow,
+            19 => Refusal::BadPieces,
             20 => Refusal::DistrictOverLines,
             21 => Refusal::DistrictOverCoordinates,
             22 => Refusal::BadOffset,
@@ -129,6 +132,7 @@ impl Refusal {
             Refusal::BadLimit => 6,
             Refusal::BadOffset => 22,
             Refusal::BadOrigin => 17,
+            Refusal::BadPieces => 19,
             Refusal::BadWindow => 18,
             Refusal::RoomTooShort => 7,
             Refusal::PieceTooOften => 8,
@@ -161,6 +165,7 @@ impl Refusal {
             Refusal::BadLimit => "the limit is not a number from -1 to 1",
             Refusal::BadOffset => "the offset is above 1,000 millimetres per metre run",
             Refusal::BadOrigin => "the origin is not finite, so that it is no place",
+            Refusal::BadPieces => "the pieces are not those of these lines",
             Refusal::BadWindow => "the window has a NaN, or a least above its greatest",
             Refusal::RoomTooShort => "a room is too short",
             Refusal::PieceTooOften => "a piece number occurs more than twice",
@@ -203,7 +208,7 @@ mod tests {
         for number in 1..=30 {
             let refusal = Refusal::of_number(number);
             assert_eq!(refusal.number(), number);
-            let known = number <= 18 || [20, 21, 22, 23, 24, 25, 26].contains(&number);
+            let known = number <= 19 || [20, 21, 22, 23, 24, 25, 26].contains(&number);
             assert_eq!(!known, matches!(refusal, Refusal::Unknown(_)));
         }
     }

@@ -115,15 +115,24 @@ impl Rooms {
         settings: Settings,
     ) -> Result<Chains<'a>, Refusal> {
         lines.test_lengths()?;
-        let n = lines.len();
-        self.grow_for_building(n, lines.coordinates.len());
         let (switch, limit) = settings.switch_and_limit();
         let Settings { tolerance, origin, .. } = settings;
         let raw = RawSettings { tolerance, origin, switch, limit };
+        let wkb_type = lines.dimension.wkb_type();
+        self.built(lines, |rooms| door::build(wkb_type, lines, raw, rooms))
+    }
+
+    /// The chains that a call leaves in rooms for lines whose lengths have been tested.
+    pub(crate) fn built<'a>(
+        &'a mut self,
+        lines: Lines<'a>,
+        call: impl FnOnce(BuildRooms<'_>) -> i64,
+    ) -> Result<Chains<'a>, Refusal> {
+        let n = lines.len();
+        self.grow_for_building(n, lines.coordinates.len());
         let Rooms { table, members, marks, listing, merged, boxes, spare, workspace, .. } = self;
         let rooms = BuildRooms { table, members, marks, listing, merged, boxes, spare, workspace };
-        let chains = door::result(door::build(lines.dimension.wkb_type(), lines, raw, rooms))?;
-        let chains = chains as usize;
+        let chains = door::result(call(rooms))? as usize;
         self.mark_the_way(n);
         let table = first(&self.table, RECORD * chains);
         Ok(Chains {

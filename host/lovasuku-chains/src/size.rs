@@ -26,6 +26,10 @@ pub const MOST_OFFSET: u32 = 1_000;
 /// coordinate count, and 1 where it is a loop.
 pub const RECORD: usize = 6;
 
+/// The numbers of a piece's record: first member, member count, source, first coordinate and coordinate
+/// count.
+pub const PIECE: usize = 5;
+
 /// The numbers of a box: least x, least y, greatest x, greatest y.
 pub const BOX: usize = 4;
 

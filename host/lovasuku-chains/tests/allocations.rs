@@ -2,7 +2,7 @@
 
 use lovasuku_chains::{
     chain_coordinates, read_wkb, read_wkb_offsets, ByteOrder, DeliveredBuf, Dimension, Ends,
-    LinesBuf, Rooms, Route, Settings, Window, WindowBuf, WkbBuf, WkbRooms,
+    FirstBuf, LinesBuf, Rooms, Route, Settings, Window, WindowBuf, WkbBuf, WkbRooms,
 };
 use std::alloc::{GlobalAlloc, Layout, System};
 use std::cell::Cell;
@@ -72,6 +72,23 @@ fn building_in_grown_rooms_allocates_nothing() {
     assert_eq!(asked(|| build(&small)), 0);
     assert_eq!(asked(|| (0..20).for_each(|_| build(&large))), 0);
     assert_eq!(total, 22 * (300 + 301) + 7 + 8);
+}
+
+#[test]
+fn many_zooms_in_grown_buffers_allocate_nothing() {
+    let (large, small) = (road(300), road(7));
+    let settings = Settings::default().with_limit(0.25);
+    let (mut rooms, mut buffers) = (Rooms::new(), FirstBuf::new());
+    let mut zoom = |lines: &LinesBuf| {
+        let first = rooms.first(lines.lines(), settings, &mut buffers).expect("it is accepted");
+        for tolerance in [0.0, 0.5, 2.0] {
+            let chains = rooms.finish(first, settings.with_tolerance(tolerance));
+            assert_eq!(chains.expect("it is accepted").members().len(), lines.len());
+        }
+    };
+    assert!(asked(|| zoom(&large)) > 0);
+    assert_eq!(asked(|| zoom(&small)), 0);
+    assert_eq!(asked(|| zoom(&large)), 0);
 }
 
 #[test]

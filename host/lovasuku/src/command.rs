@@ -3,12 +3,12 @@
 use crate::arguments::Request;
 use crate::classes::Classes;
 use crate::delivery::{Delivery, Geometry};
-use crate::joining::{gaps, join, Capacity, Chain, Fault, Line};
+use crate::joining::{gaps, zooms, Chain, Fault, Line};
 use crate::measure::{bounds, extent, Measure};
 use crate::outcome::{Outcome, Targets};
 use crate::progress::Progress;
 use crate::source::Source;
-use crate::store;
+use crate::store::{self, About, Reference};
 use crate::storing;
 use crate::summary::{of_degrees, Summary};
 use crate::tally::{length_of, Tally};
@@ -18,12 +18,13 @@ use lovasuku_chains::Window;
 use std::path::Path;
 use std::time::Instant;
 
-/// Joins a delivery: reads it, builds the chains, puts the outputs in their places, and gives the
-/// summary.
-pub fn run(request: &Request) -> Result<String> {
+/// Joins a delivery for each of several tolerances, which the requests differ in: reads it, builds the chains,
+/// puts the outputs in their places, and gives the summary.
+pub fn run(requests: &[Request]) -> Result<String> {
     let from = Instant::now();
+    let request = requests.first().context("nothing is asked for")?;
     let progress = Progress::new(!request.quiet);
-    let targets = Targets::of(request)?;
+    let targets: Vec<Targets> = requests.iter().map(Targets::of).collect::<Result<_>>()?;
     let input = || name_of_input(request, |path| path.display().to_string());
     let (source, text) = Source::read(request, &progress).with_context(input)?;
     let (delivery, layer) = source.delivery(&text, request, &progress).with_context(input)?;
@@ -34,28 +35,89 @@ pub fn run(request: &Request) -> Result<String> {
     let measure = &Measure::of(delivery, request.units.as_deref().or(unit.as_deref()));
     let lines = lines(delivery, classes);
     let asked = (request.settings, request.window);
-    let mut chains = join(delivery.dimension, &lines, asked, Capacity::default(), &progress)
+    let tolerances: Vec<f64> = requests.iter().map(|request| request.settings.tolerance).collect();
+    let zooms = zooms(delivery.dimension, &lines, asked, &tolerances, &progress)
         .map_err(|fault| named(delivery, classes, fault))
         .with_context(input)?;
-    look_at_parts(delivery, request.window, &mut chains);
-    let lengths: &Vec<f64> =
-        &chains.iter().map(|chain| length_of(delivery, measure, chain)).collect();
-    let tally = &tally(request, delivery, &lines, &chains, lengths);
-    let (named, told) = match (&layer, targets.has_store()) {
+    let (named, told) = match (&layer, targets.iter().any(Targets::has_store)) {
         (None, true) => storing::reference(delivery, measure),
         _ => (None, None),
     };
     let reference = layer.as_ref().map_or(named.as_ref(), |layer| layer.reference.as_ref());
-    let layer = layer.as_ref();
-    let outcome =
-        Outcome { request, delivery, measure, chains: &chains, lengths, tally, layer, reference };
-    let (outputs, mut warnings) = outcome.outputs(&targets, &progress);
-    warnings.extend(told);
-    warnings.extend(of_degrees(measure, request.settings.tolerance));
-    warnings.extend(writing::put(&outputs)?);
+    let given = Given { delivery, measure, lines: &lines, layer: layer.as_ref(), reference };
+    let zooms = requests.iter().zip(zooms).map(|(request, chains)| given.zoom(request, chains));
+    let zooms: Vec<Zoom> = zooms.collect();
+    let warnings = given.put(&zooms, &targets, &progress)?;
     progress.end();
-    let summary = Summary { request, delivery, classes, measure, tally, warnings: &warnings };
-    Ok(summary.text(from.elapsed()))
+    let summary = |(zoom, warnings): (&Zoom, Vec<String>)| {
+        let warnings = &warnings.into_iter().chain(told.clone()).collect::<Vec<_>>();
+        let Zoom { request, tally, .. } = zoom;
+        let summary = Summary { request, delivery, classes, measure, tally, warnings };
+        summary.text(requests.len() > 1, from.elapsed())
+    };
+    Ok(zooms.iter().zip(warnings).map(summary).collect::<Vec<_>>().join("\n"))
+}
+
+/// What is given once for all tolerances.
+#[derive(Clone, Copy)]
+struct Given<'a> {
+    delivery: &'a Delivery<'a>,
+    measure: &'a Measure,
+    lines: &'a [Line<'a>],
+    /// The layer that the lines came from, and the reference system of their coordinates.
+    layer: Option<&'a About>,
+    reference: Option<&'a Reference>,
+}
+
+/// What one tolerance came to.
+struct Zoom<'a> {
+    request: &'a Request,
+    chains: Vec<Chain>,
+    /// The length of each chain.
+    lengths: Vec<f64>,
+    tally: Tally,
+}
+
+impl<'a> Given<'a> {
+    fn zoom<'r>(self, request: &'r Request, mut chains: Vec<Chain>) -> Zoom<'r> {
+        let Given { delivery, measure, lines, .. } = self;
+        look_at_parts(delivery, request.window, &mut chains);
+        let lengths: Vec<f64> =
+            chains.iter().map(|chain| length_of(delivery, measure, chain)).collect();
+        let tally = tally(request, delivery, lines, &chains, &lengths);
+        Zoom { request, chains, lengths, tally }
+    }
+
+    /// Puts the outputs of all tolerances in their places, and tells what the user has to know of each.
+    fn put(
+        self,
+        zooms: &[Zoom],
+        targets: &[Targets],
+        progress: &Progress,
+    ) -> Result<Vec<Vec<String>>> {
+        let outcomes: Vec<Outcome> = zooms.iter().map(|zoom| self.outcome(zoom)).collect();
+        let (mut outputs, mut of, mut warnings) = (Vec::new(), Vec::new(), Vec::new());
+        for (zoom, (outcome, targets)) in outcomes.iter().zip(targets).enumerate() {
+            let (more, mut told) = outcome.outputs(targets, progress);
+            told.extend(of_degrees(self.measure, outcome.request.settings.tolerance));
+            of.extend(more.iter().map(|_| zoom));
+            outputs.extend(more);
+            warnings.push(told);
+        }
+        for (zoom, told) in of.into_iter().zip(writing::put(&outputs)?) {
+            warnings[zoom].extend(told);
+        }
+        Ok(warnings)
+    }
+
+    fn outcome<'o>(self, zoom: &'o Zoom) -> Outcome<'o>
+    where
+        'a: 'o,
+    {
+        let Given { delivery, measure, layer, reference, .. } = self;
+        let Zoom { request, chains, lengths, tally } = zoom;
+        Outcome { request, delivery, measure, chains, lengths, tally, layer, reference }
+    }
 }
 
 /// Tells which MultiLineStrings meet a window: they pass through, and the library is not given their

@@ -7,7 +7,7 @@ use std::process::ExitCode;
 
 fn main() -> ExitCode {
     let done = match asked() {
-        Asked::Join(request) => join(&request),
+        Asked::Join(requests) => join(&requests),
         Asked::Check(request) => return checking::main(&request),
         Asked::Manual(page) => manual::page(page.as_deref())
             .and_then(|page| Ok(std::io::stdout().lock().write_all(&page)?)),
@@ -21,9 +21,9 @@ fn main() -> ExitCode {
     }
 }
 
-fn join(request: &Request) -> anyhow::Result<()> {
-    let summary = command::run(request)?;
-    if !request.quiet {
+fn join(requests: &[Request]) -> anyhow::Result<()> {
+    let summary = command::run(requests)?;
+    if !requests.iter().any(|request| request.quiet) {
         eprint!("{summary}");
     }
     Ok(())

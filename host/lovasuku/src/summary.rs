@@ -23,9 +23,11 @@ pub struct Summary<'a> {
 }
 
 impl Summary<'_> {
-    /// The summary, a row for each thing that there is to say.
-    pub fn text(&self, took: Duration) -> String {
+    /// The summary, a row for each thing that there is to say. One of several tells its tolerance.
+    pub fn text(&self, one_of_several: bool, took: Duration) -> String {
+        let tolerance = self.request.settings.tolerance;
         let rows = [
+            ("tolerance", one_of_several.then(|| tolerance.to_string())),
             ("lines", Some(self.lines())),
             ("empty", self.empty()),
             ("left out", self.left_out()),

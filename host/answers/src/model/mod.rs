@@ -3,13 +3,14 @@
 //! One file per heading of the rules: [`plane`] (keys, directions, the measure), [`selecting`],
 //! [`reasons`] (why two ends are joined or not), [`walking`] (joining and walks), [`layout`] (the
 //! answer's tables), [`boxes`] (extents, and what lies in a window), [`acceptable`] (chains
-//! made elsewhere). This file has the two rounds. The model refuses types that are none of the
+//! made elsewhere), [`parting`] (building in two calls). This file has the two rounds. The model refuses types that are none of the
 //! four, districts over their shares, coordinates and origins that are no place and what the question
 //! adds, and nothing else: it is put only to calls to which no other refusal applies.
 
 pub mod acceptable;
 pub mod boxes;
 pub mod layout;
+pub mod parting;
 pub mod plane;
 pub mod reasons;
 pub mod selecting;

@@ -7,6 +7,7 @@ pub mod heights;
 pub mod networks;
 pub mod origins;
 pub mod pairing;
+pub mod parting;
 pub mod shapes;
 pub mod stars;
 pub mod tiny;

@@ -5,6 +5,7 @@ mod building;
 mod checks;
 mod pairing;
 mod windows;
+mod zooms;
 
 use std::iter::successors;
 use std::ops::Range;

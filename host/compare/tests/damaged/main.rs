@@ -10,6 +10,7 @@ mod pairing_damages;
 mod question;
 mod why;
 mod windows;
+mod zooms;
 
 use answers::offset;
 use std::cmp::Reverse;
@@ -94,10 +95,14 @@ pub fn short_rooms<C, const ROOMS: usize>(names: [&str; ROOMS]) -> Vec<Damage<C,
 /// The refusals of building in the order of checking.
 pub const IN_ORDER: [i64; 12] = [12, 1, 2, 3, 4, 5, 20, 21, 15, 6, 17, 7];
 
-/// The place of a refusal in the order of checking, of which building has the beginning.
+/// The place of a refusal in the order of checking, of which building has the beginning. 19 stands right behind
+/// 17.
 fn place(refusal: i64) -> i64 {
     let place = IN_ORDER.iter().position(|&each| each == refusal);
-    place.map_or(IN_ORDER.len() as i64 + refusal, |place| place as i64)
+    match refusal {
+        19 => self::place(17) + 1,
+        _ => 2 * place.map_or(IN_ORDER.len() as i64 + refusal, |place| place as i64),
+    }
 }
 
 /// The call with the damages, the first refusal's last, so that no other undoes it. Gives that

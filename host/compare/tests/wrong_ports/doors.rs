@@ -1,12 +1,12 @@
 //! The model behind a door, in whole or with something wrong.
 
-use crate::{answers_of, boxes_of, verdicts_of};
-use answers::{
-    stride_of, BuildCall, Built, CheckCall, Pair, PairingCall, Refusal, Route, WhyCall, WindowCall,
-};
+use crate::{answers_of, boxes_of, pieces_of, verdicts_of};
+use answers::{stride_of, BuildCall, Built, CheckCall, FinishCall, Pieces};
+use answers::{Pair, PairingCall, Refusal, Route, WhyCall, WindowCall};
 use compare::building::BuildRooms;
 use compare::pairing::PairRooms;
 use compare::room::Room;
+use compare::zooms::{FinishRooms, FirstRooms};
 use compare::Door;
 
 /// A port in which each part may be replaced by a wrong one.
@@ -29,6 +29,10 @@ pub struct Pretended {
     pub found: fn(&WindowCall, usize) -> Result<Vec<u32>, i64>,
     /// The answer to a delivery of chains with so many words of workspace.
     pub check: fn(&CheckCall, usize) -> i64,
+    /// The pieces that a first call leaves, or its refusal.
+    pub first: fn(&BuildCall) -> Result<Pieces, i64>,
+    /// The answer to a finishing call with rooms of which one may be too short.
+    pub finish: fn(&FinishCall, bool) -> Result<Built, i64>,
     /// What is done to the rooms behind a building call.
     pub after_build: fn(&mut BuildRooms, &BuildCall),
     /// What is done to the rooms behind a pairing call.
@@ -37,6 +41,8 @@ pub struct Pretended {
     pub after_why: fn(&mut PairRooms, &WhyCall),
     /// What is done to the workspace behind a delivery of chains with this answer.
     pub after_check: fn(&mut Room<u64>, &CheckCall, i64),
+    /// What is done to the rooms behind a finishing call that is accepted.
+    pub after_finish: fn(&mut FinishRooms, &FinishCall),
     /// The number with which every call is refused.
     pub refusal: Option<i64>,
 }
@@ -53,10 +59,13 @@ impl Default for Pretended {
             told: answers_of::right_reason,
             found: boxes_of::right_window,
             check: verdicts_of::right,
+            first: pieces_of::right_first,
+            finish: pieces_of::right,
             after_build: |_, _| (),
             after_pairs: |_, _| (),
             after_why: |_, _| (),
             after_check: |_, _, _| (),
+            after_finish: |_, _| (),
             refusal: None,
         }
     }
@@ -80,14 +89,12 @@ impl Door for Pretended {
             return -17;
         }
         let built = (self.build)(call);
-        let merged: Vec<f64> = built.merged.iter().map(|&bits| f64::from_bits(bits)).collect();
         write(rooms.table.lent(), &built.table.concat());
         write(rooms.members.lent(), &built.members);
         write(rooms.marks.lent(), &built.marks);
         write(rooms.listing.lent(), &built.listing);
-        write(rooms.merged.lent(), &merged);
-        let boxes: Vec<f64> = built.boxes.iter().map(|&bits| f64::from_bits(bits)).collect();
-        write(rooms.boxes.lent(), &boxes);
+        write(rooms.merged.lent(), &floats(&built.merged));
+        write(rooms.boxes.lent(), &floats(&built.boxes));
         rooms.spare.lent()[..call.coordinates.len()].fill(0.0);
         rooms.workspace.lent()[..192 * call.lines()].fill(0);
         (self.after_build)(rooms, call);
@@ -138,6 +145,50 @@ impl Door for Pretended {
         (self.after_check)(workspace, call, answer);
         answer
     }
+
+    fn first(&self, call: &BuildCall, rooms: &mut FirstRooms) -> i64 {
+        match (self.refusal, (self.first)(call)) {
+            (Some(number), _) | (None, Err(number)) => -number,
+            (None, Ok(left)) => {
+                write(rooms.pieces.lent(), &left.records);
+                write(rooms.members.lent(), &left.members);
+                write(rooms.marks.lent(), &left.marks);
+                write(rooms.listing.lent(), &left.listing);
+                write(rooms.merged.lent(), &floats(&left.merged));
+                rooms.workspace.lent()[..192 * call.lines()].fill(0);
+                left.k as i64
+            }
+        }
+    }
+
+    fn finish(&self, call: &FinishCall, rooms: &mut FinishRooms) -> i64 {
+        let lengths = FinishRooms::lengths(&call.lines);
+        let lent = [
+            rooms.table.lent().len(),
+            rooms.members.lent().len(),
+            rooms.marks.lent().len(),
+            rooms.listing.lent().len(),
+            rooms.merged.lent().len(),
+            rooms.boxes.lent().len(),
+            rooms.workspace.lent().len(),
+        ];
+        let short = lent.iter().zip(lengths).any(|(&lent, needed)| lent < needed);
+        match (self.refusal, (self.finish)(call, short)) {
+            (Some(number), _) | (None, Err(number)) => -number,
+            (None, Ok(built)) => {
+                write(rooms.table.lent(), &built.table.concat());
+                write(rooms.members.lent(), &built.members);
+                write(rooms.marks.lent(), &built.marks);
+                write(rooms.listing.lent(), &built.listing);
+                write(rooms.merged.lent(), &floats(&built.merged));
+                write(rooms.boxes.lent(), &floats(&built.boxes));
+                let cleared = rooms.workspace.lent().iter_mut().take(192 * call.lines.lines());
+                cleared.for_each(|word| *word = 0);
+                (self.after_finish)(rooms, call);
+                built.table.len() as i64
+            }
+        }
+    }
 }
 
 /// The chains found, written, or the refusal.
@@ -181,6 +232,14 @@ impl<D: Door> Door for WithOffsets<D> {
         self.0.check(call, workspace)
     }
 
+    fn first(&self, call: &BuildCall, rooms: &mut FirstRooms) -> i64 {
+        self.0.first(call, rooms)
+    }
+
+    fn finish(&self, call: &FinishCall, rooms: &mut FinishRooms) -> i64 {
+        self.0.finish(call, rooms)
+    }
+
     fn by_offset(&self) -> Option<&dyn Door> {
         Some(&self.1)
     }
@@ -220,6 +279,19 @@ impl Door for OtherLimit {
     fn check(&self, call: &CheckCall, workspace: &mut Room<u64>) -> i64 {
         Pretended::default().check(call, workspace)
     }
+
+    /// Building in two calls has none with an offset.
+    fn first(&self, call: &BuildCall, rooms: &mut FirstRooms) -> i64 {
+        Pretended::default().first(call, rooms)
+    }
+
+    fn finish(&self, call: &FinishCall, rooms: &mut FinishRooms) -> i64 {
+        Pretended::default().finish(call, rooms)
+    }
+}
+
+fn floats(bits: &[u64]) -> Vec<f64> {
+    bits.iter().map(|&bits| f64::from_bits(bits)).collect()
 }
 
 /// Writes a list over the beginning of a room, as far as the room goes.

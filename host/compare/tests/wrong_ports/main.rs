@@ -10,9 +10,11 @@ mod extras;
 mod listings;
 mod origins;
 mod pairing;
+mod pieces_of;
 mod rooms;
 mod verdicts_of;
 mod windows;
+mod zooms;
 
 use answers::{BuildCall, PairingCall, WhyCall};
 use compare::calls::Call;

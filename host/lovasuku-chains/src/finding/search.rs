@@ -182,7 +182,12 @@ impl<'a> Search<'a> {
 impl Ways {
     /// The furthest place that a choice comes to.
     fn furthest(&self) -> usize {
-        self.0.iter().filter_map(|places| places.last()).copied().max().unwrap_or_default()
+        self.0
+            .iter()
+            .filter_map(|places| places.iter().next_back())
+            .copied()
+            .max()
+            .unwrap_or_default()
     }
 }
 

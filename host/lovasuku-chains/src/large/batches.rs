@@ -67,13 +67,24 @@ pub fn batches(
     settings: Settings,
     capacity: Capacity,
 ) -> Result<Vec<Batch>, TooLarge> {
+    zoom_batches(lines, settings, &[settings.tolerance], capacity)
+}
+
+/// The same for several tolerances: a batch has whole components of each.
+pub fn zoom_batches(
+    lines: &[Line],
+    settings: Settings,
+    tolerances: &[f64],
+    capacity: Capacity,
+) -> Result<Vec<Batch>, TooLarge> {
     let all: Batch = (0..lines.len() as u32).collect();
     if Shares::of(lines, &all).within(capacity) {
         return Ok(vec![all]);
     }
     let full = Capacity { lines: capacity.lines / SPREAD, points: capacity.points / SPREAD };
     let mut batches: Vec<(Batch, Shares)> = Vec::new();
-    for component in components(lines, settings) {
+    let zooms: Vec<Settings> = tolerances.iter().map(|&t| settings.with_tolerance(t)).collect();
+    for component in components(lines, &zooms) {
         let more = Shares::of(lines, &component);
         if !more.within(capacity) {
             return Err(too_large(lines, &component, capacity));

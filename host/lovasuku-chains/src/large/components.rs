@@ -28,15 +28,17 @@ fn cell(coordinate: f64, origin: f64, tolerance: f64) -> i64 {
     ((coordinate - origin) / tolerance).floor() as i64
 }
 
-/// The components in order of their lowest lines, each with its lines in order. A line that passes
-/// through is a component by itself.
-pub fn components(lines: &[Line], settings: Settings) -> Vec<Vec<u32>> {
+/// The components in order of their lowest lines, each with its lines in order: of lines that share a key
+/// under any of the settings. A line that passes through is a component by itself.
+pub fn components(lines: &[Line], all: &[Settings]) -> Vec<Vec<u32>> {
     let mut lowest = Lowest::new(lines.len());
-    let mut met: HashMap<Key, usize> = HashMap::new();
-    for (line, each) in lines.iter().enumerate() {
-        for end in each.ends().into_iter().flatten() {
-            let other = *met.entry(key(each.group, end, settings)).or_insert(line);
-            lowest.unite(line, other);
+    for &settings in all {
+        let mut met: HashMap<Key, usize> = HashMap::new();
+        for (line, each) in lines.iter().enumerate() {
+            for end in each.ends().into_iter().flatten() {
+                let other = *met.entry(key(each.group, end, settings)).or_insert(line);
+                lowest.unite(line, other);
+            }
         }
     }
     let mut place = vec![0; lines.len()];
@@ -84,7 +86,7 @@ mod tests {
     fn by(points: &[[[f64; 2]; 2]], settings: Settings) -> Vec<Vec<u32>> {
         let line = |points| Line { points: Some(points), extras: &[], group: 0 };
         let lines: Vec<Line> = points.iter().map(|points| line(&points[..])).collect();
-        components(&lines, settings)
+        components(&lines, &[settings])
     }
 
     fn of(points: &[[[f64; 2]; 2]], tolerance: f64) -> Vec<Vec<u32>> {
@@ -135,6 +137,6 @@ mod tests {
             line(Some(&points[..]), 0),
         ];
         let settings = Settings::default().with_tolerance(1.0);
-        assert_eq!(components(&lines, settings), [vec![0, 4], vec![1], vec![2], vec![3]]);
+        assert_eq!(components(&lines, &[settings]), [vec![0, 4], vec![1], vec![2], vec![3]]);
     }
 }

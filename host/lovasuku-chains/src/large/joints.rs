@@ -49,8 +49,8 @@ pub struct Step {
     pub line: u32,
     /// True where the way runs from its last point to its first.
     pub back: bool,
-    /// The piece of round one that holds it.
-    pub piece: usize,
+    /// The piece of round one that holds it, where it was asked for.
+    pub piece: Option<u32>,
 }
 
 /// The number of ends at each key.

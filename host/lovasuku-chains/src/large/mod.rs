@@ -23,7 +23,8 @@
 //! ```
 //!
 //! A host that works on several cores cuts the input by [`batches`], gives each core a [`Caller`],
-//! and puts what they built [`in_order`]. [`check`] checks chains made elsewhere, of any number, in the
+//! and puts what they built [`in_order`]; for several tolerances with one round one, by
+//! [`zoom_batches`] and [`zooms_in_order`]. [`check`] checks chains made elsewhere, of any number, in the
 //! same way, by [`check_batches`] and a [`Checker`] for each core.
 
 mod batches;
@@ -34,7 +35,7 @@ mod gaps;
 mod joints;
 
 use crate::{Dimension, PathLine, Refusal, Settings};
-pub use batches::{batches, Batch, Capacity, TooLarge};
+pub use batches::{batches, zoom_batches, Batch, Capacity, TooLarge};
 pub use calls::Caller;
 pub use checks::{check, check_batches, CheckBatch, CheckFault, Checker};
 pub(crate) use components::key;
@@ -142,6 +143,44 @@ pub fn join(
     let batches = batches(lines, settings, capacity)?;
     let built = batches.iter().map(|batch| caller.build(lines, batch));
     Ok(in_order(lines, built.collect::<Result<_, Fault>>()?))
+}
+
+/// Joins lines of a dimension for each of several tolerances, with one round one for all. Where a batch would
+/// have to hold more than a call may be given, because its lines share cells of one tolerance or another,
+/// each tolerance is joined by itself.
+pub fn join_zooms(
+    dimension: Dimension,
+    lines: &[Line],
+    settings: Settings,
+    tolerances: &[f64],
+    capacity: Capacity,
+) -> Result<Vec<Vec<Chain>>, Fault> {
+    let mut caller = Caller::new(dimension, settings);
+    match zoom_batches(lines, settings, tolerances, capacity) {
+        Ok(batches) => {
+            let built = batches.iter().map(|batch| caller.zooms(lines, batch, tolerances));
+            Ok(zooms_in_order(lines, tolerances.len(), built.collect::<Result<_, Fault>>()?))
+        }
+        Err(_) => {
+            let zoom = |&t: &f64| join(dimension, lines, settings.with_tolerance(t), capacity);
+            tolerances.iter().map(zoom).collect()
+        }
+    }
+}
+
+/// The chains of so many tolerances in order, of batches that each have the chains of all of them.
+pub fn zooms_in_order(
+    lines: &[Line],
+    tolerances: usize,
+    built: Vec<Vec<Vec<Chain>>>,
+) -> Vec<Vec<Chain>> {
+    let mut zooms: Vec<Vec<Vec<Chain>>> = (0..tolerances).map(|_| Vec::new()).collect();
+    for batch in built {
+        for (zoom, chains) in zooms.iter_mut().zip(batch) {
+            zoom.push(chains);
+        }
+    }
+    zooms.into_iter().map(|built| in_order(lines, built)).collect()
 }
 
 /// The line at a position. Beyond the last there is one that passes through.

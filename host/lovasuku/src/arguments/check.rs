@@ -1,6 +1,6 @@
 //! The arguments of `lovasuku check`.
 
-use super::options::{flag, named, path, reading, settings};
+use super::options::{flag, named, path, reading, settings, within};
 use super::reading as reading_of;
 use crate::delivery::{Point, Reading};
 use crate::districts::District;
@@ -74,6 +74,11 @@ const SHARED: [(&str, &str); 9] = [
 fn shared(all: impl IntoIterator<Item = Arg>) -> impl Iterator<Item = Arg> {
     all.into_iter().filter_map(|arg| {
         let (_, help) = SHARED.into_iter().find(|(name, _)| arg.get_id() == name)?;
+        let arg = match arg.get_id() == "tolerance" {
+            // One delivery is checked under one tolerance.
+            true => arg.value_parser(|text: &str| within(text, 0.0, f64::MAX)),
+            false => arg,
+        };
         Some(arg.help(help).long_help(help))
     })
 }

@@ -29,6 +29,8 @@ Examples:
       joins what meets exactly, and draws the chains
   lovasuku join roads.geojson -o chains.geojson --tolerance 2 --bridges bridges.geojson
       closes gaps within cells of 2 units too, and lists every segment made that way
+  lovasuku join roads.geojson -o chains-{tolerance}.geojson --tolerance 0,2,5,10
+      writes the chains of four zoom levels, chains-0.geojson to chains-10.geojson
   lovasuku join roads.geojson -o chains.geojson --map map.svg --arrows
       shows on the map which way each line was drawn, as property path tells
   lovasuku join tile.geojson -o chains.geojson --tolerance 2 --origin -1024,0
@@ -73,7 +75,9 @@ of the grid runs between them; and two corners of one cell are up to 14.1 apart.
 because each end lies in exactly one, so that which ends meet never depends on the order of the lines.
 The summary counts bridges longer than T and gaps below T that stayed open, and --bridges lists them
 with their places.
-Degrees are units too: for 2 metres at the equator T is about 0.00002.";
+Degrees are units too: for 2 metres at the equator T is about 0.00002.
+Several with commas between them, as 0,2,5,10, are joined in one run that joins what meets exactly only
+once. The names of all outputs then have {tolerance} in them, which becomes each as it is written.";
 
 pub const ORIGIN: &str = "\
 Count the cells of the tolerance from this corner: an end lies in column floor((x - X) / T) and row

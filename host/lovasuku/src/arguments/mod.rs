@@ -3,16 +3,18 @@
 mod check;
 mod help;
 mod options;
+mod zooms;
 
 use crate::delivery::{Heights, Point, Reading};
 use crate::districts::District;
 use crate::store;
-use crate::writing::{apart, Format, Keep};
+use crate::writing::{Format, Keep};
 pub use check::CheckRequest;
 use clap::error::ErrorKind;
 use clap::{ArgMatches, Command};
 use lovasuku_chains::{limit_of_bend, Offset, Settings, Window};
 use std::path::{Path, PathBuf};
+use zooms::Tolerances;
 
 /// What a run of `lovasuku join` is asked for.
 #[derive(Clone, Debug, PartialEq)]
@@ -61,7 +63,8 @@ impl Request {
 /// What the arguments ask for.
 #[derive(Clone, Debug, PartialEq)]
 pub enum Asked {
-    Join(Box<Request>),
+    /// A run for each of several tolerances, which share all else but the names of their outputs.
+    Join(Vec<Request>),
     Check(Box<CheckRequest>),
     /// The manual page of the command, or of a subcommand.
     Manual(Option<String>),
@@ -78,7 +81,7 @@ pub fn asked() -> Asked {
             Err(fault) => failed(&mut command, name, fault),
         },
         Some((name, join)) => match of_join(join) {
-            Ok(request) => Asked::Join(Box::new(request)),
+            Ok(requests) => Asked::Join(requests),
             Err(fault) => failed(&mut command, name, fault),
         },
         None => failed(&mut command, "", "nothing is asked for".into()),
@@ -107,7 +110,7 @@ pub fn command() -> Command {
         .subcommand(options::manual())
 }
 
-fn of_join(matches: &ArgMatches) -> Result<Request, String> {
+fn of_join(matches: &ArgMatches) -> Result<Vec<Request>, String> {
     let path = |name: &str| matches.get_one::<PathBuf>(name).cloned();
     let number = |name: &str| matches.get_one::<f64>(name).copied();
     let text = |name: &str| matches.get_one::<String>(name).cloned();
@@ -124,7 +127,7 @@ fn of_join(matches: &ArgMatches) -> Result<Request, String> {
         driver: text("format").filter(|name| Format::of(name).is_none()),
         into: text("into").unwrap_or_default(),
         settings: Settings {
-            tolerance: number("tolerance").unwrap_or_default(),
+            tolerance: 0.0,
             origin: matches.get_one::<Point>("origin").copied().unwrap_or_default(),
             limit: limit.or_else(|| bend.and_then(limit_of_bend)),
         },
@@ -140,7 +143,10 @@ fn of_join(matches: &ArgMatches) -> Result<Request, String> {
         units: text("units"),
         quiet: matches.get_flag("quiet"),
     };
-    apart(&request.input, &request.outputs()).map(|()| request)
+    match matches.get_one::<Tolerances>("tolerance") {
+        Some(tolerances) => zooms::requests(&request, tolerances),
+        None => Err("no tolerance is named".into()),
+    }
 }
 
 fn reading(matches: &ArgMatches) -> Reading {

@@ -1,6 +1,7 @@
 //! The subcommands and their options.
 
 use super::help;
+use super::zooms::Tolerances;
 use crate::delivery::Point;
 use crate::districts::District;
 use crate::outcome::CHAINS;
@@ -84,7 +85,7 @@ pub(super) fn settings() -> [Arg; 7] {
             .value_name("T")
             .default_value("0")
             .allow_negative_numbers(true)
-            .value_parser(|text: &str| within(text, 0.0, f64::MAX))
+            .value_parser(Tolerances::of)
             .help("Join ends in one square cell of this side, in units of the coordinates")
             .long_help(help::TOLERANCE),
         Arg::new("origin")
@@ -198,7 +199,7 @@ pub(super) fn flag(name: &'static str) -> Arg {
 }
 
 /// A number from the lowest to the highest that is allowed.
-fn within(text: &str, lowest: f64, highest: f64) -> Result<f64, String> {
+pub(super) fn within(text: &str, lowest: f64, highest: f64) -> Result<f64, String> {
     match text.parse::<f64>() {
         Ok(x) if (lowest..=highest).contains(&x) => Ok(x),
         _ if highest == f64::MAX => Err(format!("not a number from {lowest} up")),

@@ -46,12 +46,12 @@ impl Target {
     }
 }
 
-/// Puts all outputs in their places, and tells what there is to warn of. Files are written beside their
-/// places first, so that none is changed where one cannot be written.
-pub fn put(outputs: &[Output]) -> Result<Vec<String>> {
-    let mut warnings = Vec::new();
+/// Puts all outputs in their places, and tells of each what there is to warn of. Files are written beside
+/// their places first, so that none is changed where one cannot be written.
+pub fn put(outputs: &[Output]) -> Result<Vec<Vec<String>>> {
+    let mut warnings = vec![Vec::new(); outputs.len()];
     let parts = Parts::begin().context("signals cannot be heeded")?;
-    for Output { target, content } in outputs {
+    for (Output { target, content }, warnings) in outputs.iter().zip(&mut warnings) {
         if let Place::File(place) = &target.place {
             let written = match content {
                 Content::Text(text) => parts.write(place, text).map_err(Into::into),
@@ -62,7 +62,7 @@ pub fn put(outputs: &[Output]) -> Result<Vec<String>> {
             written.with_context(|| fault(&target.path))?;
         }
     }
-    for output in outputs {
+    for (output, warnings) in outputs.iter().zip(&mut warnings) {
         let told = write_through(output).with_context(|| fault(&output.target.path))?;
         warnings.extend(told);
     }

@@ -9,8 +9,11 @@
 //! from all others, so the library may read and write all that it is told of.
 #![allow(unsafe_code)]
 
+mod pieces;
+
 use crate::declared::{self, PairsFunction, PairsOffsetFunction};
 use crate::{Delivered, Ends, Lines, Refusal, Route, Window};
+pub use pieces::{finish, first, FinishRooms, FirstRooms};
 
 /// Tolerance, origin, switch and limit as they are lent, unchecked.
 #[derive(Clone, Copy, Debug, PartialEq)]
