@@ -7,7 +7,7 @@ mod words;
 use crate::arguments::CheckRequest;
 use crate::classes::Classes;
 use crate::delivery::{self, Delivery, Geometry, Run};
-use crate::joining::{check_batches, Capacity, CheckFault, Checker};
+use crate::joining::{check_batches, Capacity, CheckBatch, Checker};
 use crate::numbers::count;
 use crate::progress::Progress;
 use anyhow::{bail, Context, Result};
@@ -94,11 +94,14 @@ fn judged(
     let shape = chains::other_shape(delivery, read, &listed);
     let accepted = accepted(lines, chains, request.settings, progress)?;
     let words = Words { delivery, classes, read, lines, chains };
-    if accepted && shape.is_none() {
-        let of = (count(read.len(), "chain"), count(delivery.features.len(), "line"));
-        return Ok(Verdict::Accepted(words::accepted(of, request.settings)));
+    if let (Some(beyond), None) = (accepted, shape) {
+        let of = [count(read.len(), "chain"), count(delivery.features.len(), "line")];
+        return Ok(Verdict::Accepted(words::accepted(of, request.settings, beyond)));
     }
-    let found = if accepted { None } else { find(lines, chains, request.settings) };
+    let found = match accepted {
+        Some(_) => None,
+        None => find(lines, chains, request.settings),
+    };
     let first = match (shape, found) {
         (Some(chain), Some(found)) if found.chain.map_or(false, |at| at < chain) => words.of(found),
         (Some(chain), _) => words.of_shape(chain, &listed),
@@ -154,27 +157,30 @@ fn positions(run: &Run) -> impl Iterator<Item = [f64; 3]> + '_ {
     run.points.iter().enumerate().map(move |(k, &[x, y])| [x, y, height(k)])
 }
 
-/// Whether the library accepts the chains, on all cores.
+/// Whether the chains are accepted, on all cores: if so, how many of them no call of the library can hold.
 fn accepted(
     lines: Lines,
     chains: Delivered,
     settings: Settings,
     progress: &Progress,
-) -> Result<bool> {
+) -> Result<Option<usize>> {
     progress.begin("checking", chains.len());
-    let check = |checker: &mut Checker, batch: &crate::joining::CheckBatch| {
+    let check = |checker: &mut Checker, batch: &CheckBatch| {
         let checked = checker.check(batch);
         progress.add(batch.chains.len());
         checked
     };
-    let checked = check_batches(lines, chains, Capacity::default()).and_then(|batches| {
-        let checker = || Checker::new(lines, chains, settings);
-        let all = batches.par_iter().map_init(checker, check);
-        all.collect::<std::result::Result<(), Refusal>>().map_err(CheckFault::from)
+    let checker = || Checker::new(lines, chains, settings);
+    let checked = check_batches(lines, chains, Capacity::default()).and_then(|cut| {
+        cut.batches.par_iter().map_init(checker, check).collect::<Checked<()>>()?;
+        checker().check_beyond(&cut.beyond).map(|()| cut.beyond.len())
     });
     match checked {
-        Ok(()) => Ok(true),
-        Err(CheckFault::Refused(Refusal::NotAcceptable | Refusal::BadRecord)) => Ok(false),
-        Err(fault) => bail!(fault),
+        Ok(beyond) => Ok(Some(beyond)),
+        Err(Refusal::NotAcceptable | Refusal::BadRecord) => Ok(None),
+        Err(refusal) => bail!(refusal),
     }
 }
+
+/// What a call of the library came to.
+type Checked<T> = std::result::Result<T, Refusal>;
