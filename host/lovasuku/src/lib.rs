@@ -13,6 +13,7 @@ mod map;
 mod measure;
 mod numbers;
 mod outcome;
+mod page;
 pub mod progress;
 mod source;
 mod store;

@@ -22,6 +22,7 @@ pub struct Targets {
     chains: (Target, Option<Store>),
     bridges: Option<(Target, Option<Store>)>,
     map: Option<Target>,
+    pub page: Option<Target>,
 }
 
 /// The tables of chains and of bridges in a database. Where that of chains has another name, that of
@@ -46,6 +47,7 @@ impl Targets {
             chains: layers(&request.output, &request.into)?,
             bridges: bridges.transpose()?,
             map: request.map.as_deref().map(Target::of).transpose()?,
+            page: request.page.as_deref().map(Target::of).transpose()?,
         })
     }
 

@@ -90,6 +90,14 @@ Write only the chains whose extents overlap or touch this window, X1 to X2 and Y
 the whole delivery: what is joined does not depend on the window, and neither do the ids of chains. With
 them go their bridges, and the gaps at them. The map shows everything, and the window.";
 
+pub const PAGE: &str = "\
+Write a page that answers for a route: one file that any browser opens, without a network. It shows the
+lines and the chains, the bridges, the gaps that stayed open, the loops and the junctions; of a chain its
+lines in the order of travel, and between each two why they are joined; of a junction every pair of ends
+with its measure and the library's reason; and which pairs would stand at a stricter limit. A link such as
+FILE.html#chain=12 leads to a chain, and so for junction, bridge, gap and line. It holds the lines and
+their properties, as far as these are not too many. `lovasuku why` tells the same of two lines.";
+
 pub const OFFSET: &str = "\
 The same by a bend as road crews state it: so many millimetres of offset per metre run, a whole number
 from 0, straight on, to 1000, which is 45 degrees. The limit that it stands for is worked out by the

@@ -23,6 +23,7 @@ pub struct Request {
     pub output: PathBuf,
     pub map: Option<PathBuf>,
     pub bridges: Option<PathBuf>,
+    pub page: Option<PathBuf>,
     /// The map shows the way that each line was drawn.
     pub arrows: bool,
     /// The format of outputs where their names do not decide.
@@ -55,8 +56,9 @@ pub struct Request {
 impl Request {
     /// The paths of all outputs.
     fn outputs(&self) -> Vec<&Path> {
-        let all = [Some(&self.output), self.bridges.as_ref(), self.map.as_ref()];
-        all.into_iter().flatten().map(PathBuf::as_path).collect()
+        let others = [&self.bridges, &self.map, &self.page].map(Option::as_ref);
+        let all = [Some(&self.output)].into_iter().chain(others);
+        all.flatten().map(PathBuf::as_path).collect()
     }
 }
 
@@ -122,6 +124,7 @@ fn of_join(matches: &ArgMatches) -> Result<Vec<Request>, String> {
         output: path("output").unwrap_or_default(),
         map: path("map"),
         bridges: path("bridges"),
+        page: path("page"),
         arrows: matches.get_flag("arrows"),
         format: text("format").and_then(|name| Format::of(&name)),
         driver: text("format").filter(|name| Format::of(name).is_none()),

@@ -44,7 +44,7 @@ pub fn manual() -> Command {
         )
 }
 
-fn outputs() -> [Arg; 7] {
+fn outputs() -> [Arg; 8] {
     [
         path("output")
             .short('o')
@@ -62,6 +62,11 @@ fn outputs() -> [Arg; 7] {
         path("bridges").long("bridges").value_name("FILE").help(
             "Write each segment that the tolerance made, and each gap below it that stayed open",
         ),
+        path("page")
+            .long("page")
+            .value_name("FILE.html")
+            .help("Write a page for any browser that tells of every joint why it was made")
+            .long_help(help::PAGE),
         named("window")
             .value_name("X1,Y1,X2,Y2")
             .allow_hyphen_values(true)

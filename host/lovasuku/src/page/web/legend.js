@@ -1,0 +1,53 @@
+'use strict';
+
+// The legend and the scale.
+
+class Legend {
+  constructor(network) {
+    this.network = network;
+  }
+
+  rows() {
+    const { network } = this;
+    const line = (attributes) => ['line', { x1: 4, y1: 11, x2: 40, y2: 11, ...attributes }];
+    const arrow = (attributes) => ['path', { d: 'M16 5L30 11L16 17z', ...attributes }];
+    const diamond = (attributes) => ['path', { d: 'M22 4l7 7l-7 7l-7-7z', ...attributes }];
+    const cells = 'M6 2v18M14 2v18M22 2v18M30 2v18M38 2v18M2 6h40M2 15h40';
+    const round = 'M26 7A6 6 0 1 0 28 11M22.5 3.2v4h4.4';
+    const all = [
+      [true, [line({ class: 'chain' })], 'chain of several lines'],
+      [true, [line({ class: 'alone' })], 'line by itself'],
+      [network.bridges.length > 0, [line({ class: 'bridge', x1: 16, x2: 28 }), ['circle', { class: 'bridge', cx: 22, cy: 11, r: 9 }]], 'bridge: a segment of no line'],
+      [network.gaps.length > 0, [['path', { class: 'gap', d: 'M22 3l9 15h-18z' }]], 'gap below the tolerance, still open'],
+      [network.junctions.length > 0, [diamond({ class: 'junction' })], 'junction with selected pairs'],
+      [network.junctions.length > 0, [diamond({ class: 'junction none' })], 'junction without'],
+      [network.chains.loops.size > 0, [['path', { class: 'loop', d: round }]], 'loop: it ends where it begins'],
+      [network.settings.tolerance > 0, [['path', { class: 'cells', d: cells }]], 'cells of the tolerance, seen from near'],
+      [network.data.window !== null, [['rect', { class: 'window', x: 5, y: 3, width: 34, height: 16 }]], 'the window of the output'],
+      [true, [line({ class: 'picked' }), arrow({ class: 'along' })], 'picked; drawn along its chain'],
+      [true, [line({ class: 'picked' }), arrow({ class: 'against' })], 'picked; drawn against it'],
+      [network.settings.limit !== null, [['path', { class: 'falls', d: 'M16 5l12 12M28 5l-12 12' }]], 'pair that falls away'],
+    ];
+    const shown = all.filter(([there]) => there);
+    return shown.map(([, shapes, words]) => make('li', {}, sign(shapes), words));
+  }
+
+  // The highest of 1, 2 and 5 times a power of ten that is not above the number.
+  static roundBelow(x) {
+    const power = 10 ** Math.floor(Math.log10(x));
+    const digit = [5, 2, 1].find((each) => each * power <= x * (1 + 1e-12)) || 1;
+    return digit * power;
+  }
+
+  // The scale at a view: how many pixels its bar has, and its words.
+  scale(view) {
+    const { degrees, unit } = this.network.data.measure;
+    const units = degrees ? (RADIUS * Math.PI) / 180 : 1;
+    const most = (110 / view.scale) * 2 * units;
+    const length = Legend.roundBelow(most);
+    if (!Number.isFinite(length) || !(length > 0)) return { pixels: 0, words: '' };
+    const plain = length >= 1e-4 && length < 1e9;
+    const words = plain ? Words.parted(Math.round(length * 1e6) / 1e6) : length.toExponential(0).replace('e+', 'e');
+    return { pixels: (length / units / 2) * view.scale, words: `${words} ${unit}` };
+  }
+}
