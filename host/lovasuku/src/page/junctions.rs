@@ -14,7 +14,7 @@ const PAIRS_A_LINE: usize = 5;
 const FEW_PAIRS: usize = 50_000;
 
 /// The junctions of an explanation as the page reads them. Of those of many ends only the selected pairs
-/// are told.
+/// are told, and where there is no limit none, since none is paired.
 pub fn junctions(
     explained: &Explained,
     limit: Option<f64>,
@@ -24,7 +24,7 @@ pub fn junctions(
     let most = most_ends(&all, FEW_PAIRS.max(PAIRS_A_LINE * lines));
     let mut told = Told { rooms: Rooms::default(), limit, ..Told::default() };
     for node in all {
-        told.add(node, node.ends.len() <= most)?;
+        told.add(node, limit.is_some() && node.ends.len() <= most)?;
     }
     Ok(json!({ "numbers": told.numbers.text(), "measures": told.measures.text() }))
 }

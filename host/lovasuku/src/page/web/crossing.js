@@ -112,8 +112,9 @@ class Crossing {
   }
 
   notes(junction) {
-    if (junction.whole) return [];
-    const words = 'So many ends meet here that only the selected pairs stand in this page. `lovasuku why` tells of any two lines.';
-    return [make('p', {}, words)];
+    const limited = this.network.settings.limit !== null;
+    if (junction.whole || (!limited && junction.ends.length <= 24)) return [];
+    const shown = limited ? 'Only the selected pairs of this junction stand in the page' : 'The pairs of this junction do not stand in the page';
+    return [make('p', {}, `${shown}, for its size. The command \`lovasuku why\` tells of any two lines.`)];
   }
 }

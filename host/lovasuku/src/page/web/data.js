@@ -160,9 +160,9 @@ const Data = (() => {
     return { count: starts.length - 1, starts: Uint32Array.from(starts), path, turned, joints, loops, rings };
   }
 
-  // The junctions: their ends, the selected pairs in order, and of every pair or of the selected ones the
-  // measure; of every pair the library's reason.
-  function junctions(told, limited) {
+  // The junctions: their ends, the selected pairs in order, and of every pair the measure and the library's
+  // reason; of junctions that are not told whole the measures of the selected pairs alone.
+  function junctions(told) {
     const reader = new Reader(told.numbers);
     const measures = new Reader(told.measures).doubles();
     const all = [];
@@ -184,7 +184,7 @@ const Data = (() => {
       }
       const pairs = whole ? (count * (count - 1)) / 2 : selected.length;
       const reasons = [];
-      for (let k = 0; whole && limited && k < pairs; k += 1) reasons.push(reader.number());
+      for (let k = 0; whole && k < pairs; k += 1) reasons.push(reader.number());
       const own = measures.subarray(measured, measured + pairs);
       measured += pairs;
       all.push({ number: all.length, round: head % 2, ends, selected, whole, reasons, measures: own });
@@ -235,7 +235,7 @@ const Data = (() => {
       classes: told.classes,
       lines,
       chains: chains(told.chains, lines.count),
-      junctions: junctions(told.junctions, told.settings.limit !== null),
+      junctions: junctions(told.junctions),
       gaps: gaps(told.gaps),
       properties: columns(told.properties),
     };

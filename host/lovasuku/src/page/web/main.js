@@ -71,15 +71,13 @@
       view.show(box, what.line === null ? 0.8 : 0.5, 400);
       return;
     }
-    const lines = {
-      bridge: () => network.bridges[what.number].ends.map(({ line }) => line),
-      gap: () => network.gaps[what.number].lines,
-      junction: () => network.junctions[what.number].ends.map(({ line }) => line),
-    }[what.kind]();
-    const around = network.extentOf(lines);
-    const near = view.fitting(around, 1) * 1.6;
-    view.show(box, 0.2);
-    view.scale = Math.min(view.scale, Math.max(near, view.fits));
+    view.show(box, 0.3);
+    const { tolerance } = network.settings;
+    const cells = what.kind !== 'junction' || network.junctions[what.number].round === 1;
+    const lines = () => network.junctions[what.number].ends.map(({ line }) => line);
+    // A cell has a part of the screen; where there is none to be seen, the lines that meet are seen.
+    const most = cells ? (Math.min(view.width, view.height) / 5 / tolerance) * 2 : view.fitting(network.extentOf(lines()), 1) * 1.6;
+    view.scale = Math.min(view.scale, Math.max(most, view.fits));
   }
 
   function elementsOf(what) {
@@ -153,8 +151,8 @@
   }
 
   const frame = painter.frame.bind(painter);
-  painter.frame = (milliseconds) => {
-    frame(milliseconds);
+  painter.frame = () => {
+    frame();
     scale();
   };
 

@@ -21,10 +21,15 @@ class Marks {
     return 600;
   }
 
-  paint(context, view, theme) {
-    this.seen = view.box(20);
+  // What lies under the lines.
+  paintBelow(context, view, theme) {
     this.paintWindow(context, view, theme);
     this.paintCells(context, view, theme);
+  }
+
+  // What lies over them.
+  paint(context, view, theme) {
+    this.seen = view.box(20);
     this.picked.paint(context, view, theme);
     this.paintEnds(context, view, theme);
     this.paintJunctions(context, view, theme);

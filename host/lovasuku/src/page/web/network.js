@@ -195,6 +195,15 @@ class Network {
     return number === undefined ? null : this.bridges[number];
   }
 
+  // The ends of the two lines that a gap lies between.
+  endsOfGap(number) {
+    const { lines, ends } = this.gaps[number];
+    return lines.map((line, k) => {
+      const [x, y] = this.placeOf({ line, last: false });
+      return { line, last: x !== ends[k][0] || y !== ends[k][1] };
+    });
+  }
+
   // Junctions.
 
   // The junction of each end in each round, and its place there.

@@ -1,8 +1,9 @@
 'use strict';
 
 // Paints the map: all lines on a sheet of their own, which is moved and stretched while the view changes
-// and painted anew in small steps, so that moving stays smooth however many lines there are; and over it,
-// each time, what is marked.
+// and painted anew in steps, so that moving stays smooth however many lines there are; and over it, each
+// time, what is marked. A browser paints later than it is told to, so that a step is as many lines as the
+// frames before it had time for.
 
 // How many colours chains have.
 const PALETTE = 6;
@@ -12,11 +13,14 @@ class Painter {
     Object.assign(this, { canvas, network, grid, view, marks });
     this.context = canvas.getContext('2d');
     this.colours = this.coloursOfChains();
+    this.rankLines();
     this.sheet = null;
     this.job = null;
+    this.spare = null;
     this.asked = false;
     this.theme = {};
-    this.slowest = 0;
+    this.lines = 8000;
+    this.last = 0;
   }
 
   // How many pixels of lines are painted around what is seen, as a part of it.
@@ -48,6 +52,17 @@ class Painter {
     return colours;
   }
 
+  // The order in which lines are painted: by the colours of their chains.
+  rankLines() {
+    const { count } = this.network.lines;
+    const colour = (line) => this.colours[this.network.chainOf[line]];
+    this.order = Uint32Array.from({ length: count }, (_, line) => line).sort((a, b) => colour(a) - colour(b) || a - b);
+    this.ranks = new Uint32Array(count);
+    this.order.forEach((line, rank) => {
+      this.ranks[line] = rank;
+    });
+  }
+
   // Reads the colours of the style.
   dress() {
     const style = getComputedStyle(document.documentElement);
@@ -74,26 +89,37 @@ class Painter {
   ask() {
     if (this.asked) return;
     this.asked = true;
-    requestAnimationFrame(() => {
+    requestAnimationFrame((now) => {
       this.asked = false;
-      this.frame(8);
+      this.pace(now);
+      this.frame();
     });
   }
 
+  // Takes fewer lines for a step where the last frame took long, and more where it did not.
+  pace(now) {
+    const took = now - this.last;
+    this.last = now;
+    if (this.job === null || took > 1000) return;
+    if (took > 40) this.lines = Math.max(this.lines / 2, 500);
+    if (took < 20) this.lines = Math.min(this.lines * 1.5, 50000);
+  }
+
   // Paints a frame: what there is of the lines, and a step more where the view has changed.
-  frame(milliseconds) {
-    const from = performance.now();
+  frame() {
     if (!this.current() && this.job === null) this.begin();
-    if (this.job !== null) this.step(this.sheet === null ? 4 * milliseconds : milliseconds);
+    if (this.job !== null) this.step(this.lines);
     const { context, view, ratio } = this;
     context.setTransform(1, 0, 0, 1, 0, 0);
     context.fillStyle = this.theme.paper;
     context.fillRect(0, 0, this.canvas.width, this.canvas.height);
+    context.setTransform(ratio, 0, 0, ratio, 0, 0);
+    this.marks.paintBelow(context, view, this.theme);
+    context.setTransform(1, 0, 0, 1, 0, 0);
     this.lay(this.sheet || this.job);
     context.setTransform(ratio, 0, 0, ratio, 0, 0);
     this.marks.paint(context, view, this.theme);
     if (this.job !== null || !this.current()) this.ask();
-    this.slowest = Math.max(this.slowest, performance.now() - from);
   }
 
   // Paints everything at once, for printing.
@@ -101,8 +127,8 @@ class Painter {
     this.sheet = null;
     this.job = null;
     this.begin();
-    while (this.job !== null) this.step(1000);
-    this.frame(1000);
+    while (this.job !== null) this.step(Infinity);
+    this.frame();
   }
 
   // True where the sheet is of the view.
@@ -129,39 +155,41 @@ class Painter {
   begin() {
     const { view, ratio } = this;
     const part = 1 + 2 * Painter.AROUND;
-    const canvas = document.createElement('canvas');
+    const canvas = this.spare || document.createElement('canvas');
+    this.spare = null;
+    // This clears it too.
     canvas.width = Math.round(this.canvas.width * part);
     canvas.height = Math.round(this.canvas.height * part);
     const context = canvas.getContext('2d');
     context.setTransform(ratio, 0, 0, ratio, (canvas.width - this.canvas.width) / 2, (canvas.height - this.canvas.height) / 2);
     context.lineJoin = 'round';
     context.lineCap = 'round';
-    const lines = [];
-    this.grid.within(view.box(Painter.AROUND * Math.max(view.width, view.height)), (line) => lines.push(line));
-    const { colours, network } = this;
-    lines.sort((a, b) => colours[network.chainOf[a]] - colours[network.chainOf[b]]);
+    const ranks = [];
+    const around = Painter.AROUND * Math.max(view.width, view.height);
+    this.grid.within(view.box(around), (line) => ranks.push(this.ranks[line]));
+    const lines = Uint32Array.from(ranks).sort().map((rank) => this.order[rank]);
     this.job = { canvas, context, view: view.copy(), lines, at: 0, fine: lines.length > 4000 };
   }
 
-  // Goes on with the sheet for so many milliseconds.
-  step(milliseconds) {
-    const until = performance.now() + milliseconds;
+  // Goes on with the sheet for so many lines.
+  step(lines) {
     const { job } = this;
-    while (job.at < job.lines.length && performance.now() < until) this.paintSome(job, 400);
+    const until = Math.min(job.at + lines, job.lines.length);
+    while (job.at < until) this.paintSome(job, Math.min(job.at + 400, until));
     if (job.at < job.lines.length) return;
+    if (this.sheet !== null) this.spare = this.sheet.canvas;
     this.sheet = job;
     this.job = null;
   }
 
-  // Paints the next lines that have one colour, so many at most.
-  paintSome(job, most) {
+  // Paints the next lines that have one colour, up to one.
+  paintSome(job, until) {
     const { network, colours, theme } = this;
     const colourOf = (line) => colours[network.chainOf[line]];
     const colour = colourOf(job.lines[job.at]);
     const { context } = job;
     context.beginPath();
-    const after = Math.min(job.at + most, job.lines.length);
-    for (; job.at < after && colourOf(job.lines[job.at]) === colour; job.at += 1) {
+    for (; job.at < until && colourOf(job.lines[job.at]) === colour; job.at += 1) {
       this.trace(context, job.lines[job.at], job.view);
     }
     context.strokeStyle = theme.chains[colour];

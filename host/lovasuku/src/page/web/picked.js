@@ -47,9 +47,9 @@ class Picked {
       this.paintNumbers(context, view, theme, this.network.junctions[number]);
       return;
     }
-    const chains = { chain: () => [number], bridge: () => [this.network.bridges[number].chain] };
-    const all = kind in chains ? chains[kind]() : this.network.gaps[number].chains;
-    this.paintNames(context, view, theme, all);
+    if (kind === 'chain') this.paintNames(context, view, theme, number);
+    if (kind === 'bridge') this.paintEnds(context, view, theme, this.network.bridges[number].ends);
+    if (kind === 'gap') this.paintEnds(context, view, theme, this.network.endsOfGap(number));
   }
 
   // Adds a line to a path, from its first point to its last.
@@ -140,21 +140,39 @@ class Picked {
   }
 
   // The names of lines that are long enough on the screen and don't lie on one another.
-  paintNames(context, view, theme, chains) {
+  paintNames(context, view, theme, chain) {
     const taken = [];
-    let left = 80;
-    for (const chain of chains) {
-      for (const { line } of this.network.pathOf(chain)) {
-        const middle = this.middleOf(view, line);
-        if (middle === null || middle.length < 60 || left === 0) continue;
-        const [x, y] = middle.place;
-        const outside = x < 0 || y < 0 || x > view.width || y > view.height;
-        if (outside || taken.some(([a, b]) => Math.abs(a - x) < 90 && Math.abs(b - y) < 22)) continue;
-        taken.push([x, y]);
-        left -= 1;
-        Picked.label(context, this.network.label(line), x + 10, y - 14, theme);
-      }
+    for (const { line } of this.network.pathOf(chain)) {
+      const middle = this.middleOf(view, line);
+      if (middle === null || middle.length < 60 || taken.length === 80) continue;
+      const [x, y] = middle.place;
+      const outside = x < 0 || y < 0 || x > view.width || y > view.height;
+      if (outside || taken.some(([a, b]) => Math.abs(a - x) < 90 && Math.abs(b - y) < 22)) continue;
+      taken.push([x, y]);
+      this.paintName(context, theme, this.network.label(line), middle);
     }
+  }
+
+  // The names of the two ends of a bridge or a gap, on the sides that lie apart.
+  paintEnds(context, view, theme, ends) {
+    const places = ends.map((end) => view.place(...this.network.placeOf(end)));
+    context.font = '600 12px system-ui, sans-serif';
+    ends.forEach((end, k) => {
+      const words = this.network.endLabel(end);
+      const lower = places[k][1] > places[1 - k][1] || (k === 0 && places[0][1] === places[1][1]);
+      const left = places[k][0] - context.measureText(words).width / 2;
+      Picked.label(context, words, left, places[k][1] + (lower ? 30 : -30), theme, view);
+    });
+  }
+
+  // The name of a line beside its middle, above it or to its right.
+  paintName(context, theme, words, { place: [x, y], along: [dx, dy] }) {
+    context.font = '600 12px system-ui, sans-serif';
+    const width = context.measureText(words).width;
+    const side = dx > 0 || (dx === 0 && dy > 0) ? 1 : -1;
+    const [right, down] = [side * dy, -side * dx];
+    const away = 14 + Math.abs(right) * (width / 2);
+    Picked.label(context, words, x + right * away - width / 2, y + down * away, theme);
   }
 
   // A junction: the lines that meet, and of each end the direction into its line.

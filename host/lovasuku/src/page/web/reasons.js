@@ -19,6 +19,7 @@ class Reasons {
   // their ranks among the selected ones and their reasons.
   pairsOf(junction) {
     const { ends, selected, whole, measures, reasons } = junction;
+    if (this.network.settings.limit === null) return this.unpaired(junction);
     if (!whole) {
       return selected.map(([i, j], rank) => {
         return { i, j, measure: measures[rank], rank, reason: REASON.SELECTED };
@@ -32,6 +33,27 @@ class Reasons {
       }
     }
     return all;
+  }
+
+  // All pairs of a junction where no junctions are paired. Their measures are for the reader alone.
+  unpaired({ ends }) {
+    const all = [];
+    const most = ends.length > 24 ? 0 : ends.length;
+    for (let i = 0; i < most; i += 1) {
+      for (let j = i + 1; j < most; j += 1) {
+        const [a, b] = [ends[i], ends[j]].map((end) => this.unit(end));
+        const measure = Math.min(Math.max(a[0] * b[0] + a[1] * b[1], -1), 1);
+        all.push({ i, j, measure, rank: -1, reason: null });
+      }
+    }
+    return all;
+  }
+
+  // The unit direction of an end.
+  unit(end) {
+    const [dx, dy] = this.network.directionOf(end) || [NaN, NaN];
+    const length = Math.sqrt(dx * dx + dy * dy);
+    return [dx / length, dy / length];
   }
 
   // One pair of a junction, if the data tells of it.

@@ -71,6 +71,14 @@ class View {
   move(right, down) {
     this.middle[0] -= (right / this.scale / this.narrow) * 2;
     this.middle[1] += (down / this.scale) * 2;
+    this.hold();
+  }
+
+  // Keeps the middle of the screen within the bounds, so that nobody gets lost.
+  hold() {
+    const [west, south, east, north] = this.bounds;
+    this.middle[0] = Math.min(Math.max(this.middle[0], west), east);
+    this.middle[1] = Math.min(Math.max(this.middle[1], south), north);
   }
 
   // Zooms so that the point at a place of the screen stays there.
@@ -83,6 +91,7 @@ class View {
     const after = this.point(left, top);
     this.middle[0] += before[0] - after[0];
     this.middle[1] += before[1] - after[1];
+    this.hold();
   }
 
   // The pixels of a length, along x and along y.
