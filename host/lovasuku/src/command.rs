@@ -189,7 +189,8 @@ pub fn explained(
     Ok(Explained::of(lines, chains, &pieces, settings)?)
 }
 
-fn lines<'d>(delivery: &'d Delivery, classes: &Classes) -> Vec<Line<'d>> {
+/// The lines to be joined, by their classes.
+pub fn lines<'d>(delivery: &'d Delivery, classes: &Classes) -> Vec<Line<'d>> {
     let line = |(geometry, &group): (&'d Geometry, &u32)| match geometry {
         Geometry::Line(run) => Line { points: Some(&run.points), extras: &run.heights, group },
         Geometry::Lines(_) | Geometry::Other(_) => Line { points: None, extras: &[], group },

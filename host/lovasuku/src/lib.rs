@@ -20,4 +20,5 @@ mod store;
 mod storing;
 mod summary;
 mod tally;
+pub mod why;
 mod writing;

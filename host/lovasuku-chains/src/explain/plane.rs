@@ -27,7 +27,7 @@ pub fn measure(a: [f64; 2], b: [f64; 2]) -> f64 {
 /// assert_eq!(bend_of(-0.5).round(), 60.0);
 /// ```
 pub fn bend_of(measure: f64) -> f64 {
-    180.0 - measure.acos().to_degrees()
+    (-measure).acos().to_degrees()
 }
 
 #[cfg(test)]

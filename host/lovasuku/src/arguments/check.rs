@@ -1,6 +1,6 @@
 //! The arguments of `lovasuku check`.
 
-use super::options::{flag, named, path, reading, settings, within};
+use super::options::{flag, named, path, reading, with_one_tolerance};
 use super::reading as reading_of;
 use crate::delivery::{Point, Reading};
 use crate::districts::District;
@@ -74,11 +74,6 @@ const SHARED: [(&str, &str); 9] = [
 fn shared(all: impl IntoIterator<Item = Arg>) -> impl Iterator<Item = Arg> {
     all.into_iter().filter_map(|arg| {
         let (_, help) = SHARED.into_iter().find(|(name, _)| arg.get_id() == name)?;
-        let arg = match arg.get_id() == "tolerance" {
-            // One delivery is checked under one tolerance.
-            true => arg.value_parser(|text: &str| within(text, 0.0, f64::MAX)),
-            false => arg,
-        };
         Some(arg.help(help).long_help(help))
     })
 }
@@ -102,7 +97,7 @@ pub fn check() -> Command {
                 .help("The lines as GeoJSON, or - for the standard input"),
         )
         .next_help_heading("Meeting")
-        .args(shared(settings()))
+        .args(shared(with_one_tolerance()))
         .next_help_heading("Reading")
         .args(shared(reading()))
         .arg(

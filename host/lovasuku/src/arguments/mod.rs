@@ -3,6 +3,7 @@
 mod check;
 mod help;
 mod options;
+mod why;
 mod zooms;
 
 use crate::delivery::{Heights, Point, Reading};
@@ -14,6 +15,7 @@ use clap::error::ErrorKind;
 use clap::{ArgMatches, Command};
 use lovasuku_chains::{limit_of_bend, Offset, Settings, Window};
 use std::path::{Path, PathBuf};
+pub use why::Question;
 use zooms::Tolerances;
 
 /// What a run of `lovasuku join` is asked for.
@@ -68,6 +70,7 @@ pub enum Asked {
     /// A run for each of several tolerances, which share all else but the names of their outputs.
     Join(Vec<Request>),
     Check(Box<CheckRequest>),
+    Why(Box<Question>),
     /// The manual page of the command, or of a subcommand.
     Manual(Option<String>),
 }
@@ -82,6 +85,7 @@ pub fn asked() -> Asked {
             Ok(request) => Asked::Check(Box::new(request)),
             Err(fault) => failed(&mut command, name, fault),
         },
+        Some(("why", question)) => Asked::Why(Box::new(why::of(question))),
         Some((name, join)) => match of_join(join) {
             Ok(requests) => Asked::Join(requests),
             Err(fault) => failed(&mut command, name, fault),
@@ -109,16 +113,14 @@ pub fn command() -> Command {
         .after_help(help::EXAMPLES)
         .subcommand(options::join())
         .subcommand(check::check())
+        .subcommand(why::command())
         .subcommand(options::manual())
 }
 
 fn of_join(matches: &ArgMatches) -> Result<Vec<Request>, String> {
     let path = |name: &str| matches.get_one::<PathBuf>(name).cloned();
-    let number = |name: &str| matches.get_one::<f64>(name).copied();
     let text = |name: &str| matches.get_one::<String>(name).cloned();
-    let bend = number("bend");
-    let offset = matches.get_one::<Offset>("offset").copied();
-    let limit = number("limit").or_else(|| offset.map(Offset::limit));
+    let (settings, bend, offset) = settings(matches);
     let request = Request {
         input: path("input").unwrap_or_default(),
         output: path("output").unwrap_or_default(),
@@ -129,11 +131,7 @@ fn of_join(matches: &ArgMatches) -> Result<Vec<Request>, String> {
         format: text("format").and_then(|name| Format::of(&name)),
         driver: text("format").filter(|name| Format::of(name).is_none()),
         into: text("into").unwrap_or_default(),
-        settings: Settings {
-            tolerance: 0.0,
-            origin: matches.get_one::<Point>("origin").copied().unwrap_or_default(),
-            limit: limit.or_else(|| bend.and_then(limit_of_bend)),
-        },
+        settings,
         window: matches.get_one::<Window>("window").copied(),
         bend,
         offset,
@@ -150,6 +148,20 @@ fn of_join(matches: &ArgMatches) -> Result<Vec<Request>, String> {
         Some(tolerances) => zooms::requests(&request, tolerances),
         None => Err("no tolerance is named".into()),
     }
+}
+
+/// The settings but for the tolerance, with the bend or the offset that the limit was given by.
+fn settings(matches: &ArgMatches) -> (Settings, Option<f64>, Option<Offset>) {
+    let number = |name: &str| matches.get_one::<f64>(name).copied();
+    let bend = number("bend");
+    let offset = matches.get_one::<Offset>("offset").copied();
+    let limit = number("limit").or_else(|| offset.map(Offset::limit));
+    let settings = Settings {
+        tolerance: 0.0,
+        origin: matches.get_one::<Point>("origin").copied().unwrap_or_default(),
+        limit: limit.or_else(|| bend.and_then(limit_of_bend)),
+    };
+    (settings, bend, offset)
 }
 
 fn reading(matches: &ArgMatches) -> Reading {

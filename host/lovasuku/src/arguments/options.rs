@@ -39,7 +39,7 @@ pub fn manual() -> Command {
         .arg(
             Arg::new("page")
                 .value_name("PAGE")
-                .value_parser(["join", "check"])
+                .value_parser(["join", "check", "why"])
                 .help("The page of a subcommand; without it that of the command"),
         )
 }
@@ -83,7 +83,7 @@ fn outputs() -> [Arg; 8] {
     ]
 }
 
-pub(super) fn settings() -> [Arg; 7] {
+fn settings() -> [Arg; 7] {
     [
         Arg::new("tolerance")
             .long("tolerance")
@@ -92,7 +92,7 @@ pub(super) fn settings() -> [Arg; 7] {
             .allow_negative_numbers(true)
             .value_parser(Tolerances::of)
             .help("Join ends in one square cell of this side, in units of the coordinates")
-            .long_help(help::TOLERANCE),
+            .long_help(format!("{}\n{}", help::TOLERANCE, help::TOLERANCES)),
         Arg::new("origin")
             .long("origin")
             .value_name("X,Y")
@@ -130,6 +130,16 @@ pub(super) fn settings() -> [Arg; 7] {
             .help("Put the lines with this value into a second district, never joined with the rest")
             .long_help(help::DISTRICT),
     ]
+}
+
+/// The settings with one tolerance.
+pub(super) fn with_one_tolerance() -> impl Iterator<Item = Arg> {
+    settings().into_iter().map(|arg| match arg.get_id() == "tolerance" {
+        true => {
+            arg.value_parser(|text: &str| within(text, 0.0, f64::MAX)).long_help(help::TOLERANCE)
+        }
+        false => arg,
+    })
 }
 
 pub(super) fn reading() -> [Arg; 5] {
@@ -183,11 +193,15 @@ fn properties() -> [Arg; 3] {
         named("prefix")
             .value_name("PREFIX")
             .help("Begin the names members, path, count, loop and parts with this"),
-        named("units")
-            .value_name("UNIT")
-            .help("What the coordinates are in, as m, ft or degrees")
-            .long_help(help::UNITS),
+        units(),
     ]
+}
+
+pub(super) fn units() -> Arg {
+    named("units")
+        .value_name("UNIT")
+        .help("What the coordinates are in, as m, ft or degrees")
+        .long_help(help::UNITS)
 }
 
 pub(super) fn path(name: &'static str) -> Arg {

@@ -24,6 +24,7 @@ impl Bytes {
         self.0.extend(x.to_bits().to_le_bytes());
     }
 
+    #[cfg(test)]
     pub fn len(&self) -> usize {
         self.0.len()
     }

@@ -116,10 +116,13 @@ fn rows(page: &Page) -> Vec<[String; 2]> {
     if !words.is_empty() {
         row("Reading", words.join("; "));
     }
-    row("Lengths", match measure.degrees {
-        true => "metres on the sphere, for degrees".into(),
-        false => format!("in {}", measure.unit),
-    });
+    row(
+        "Lengths",
+        match measure.degrees {
+            true => "metres on the sphere, for degrees".into(),
+            false => format!("in {}", measure.unit),
+        },
+    );
     rows
 }
 

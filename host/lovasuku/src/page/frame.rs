@@ -52,7 +52,8 @@ fn element(name: &str, text: &str) -> String {
 /// What the page may do: run its own scripts and take its own style, each by its checksum. Nothing is
 /// fetched, no text becomes a script, and nothing is sent.
 fn policy() -> String {
-    let sources = |texts: &[&str]| texts.iter().map(|text| source(text)).collect::<Vec<_>>().join(" ");
+    let sources =
+        |texts: &[&str]| texts.iter().map(|text| source(text)).collect::<Vec<_>>().join(" ");
     let scripts: Vec<&str> = SCRIPTS.iter().map(|(_, text)| *text).collect();
     format!(
         "<meta http-equiv=\"Content-Security-Policy\" content=\"default-src 'none'; script-src {}; \
@@ -92,9 +93,11 @@ mod tests {
     fn texts_are_never_marks() {
         let wild = "\"</script><!--<script>&\u{2028}\u{2029}é\"";
         let text = safe(wild);
-        let wanted = "\"\\u003c/script\\u003e\\u003c!--\\u003cscript\\u003e\\u0026\\u2028\\u2029é\"";
+        let wanted =
+            "\"\\u003c/script\\u003e\\u003c!--\\u003cscript\\u003e\\u0026\\u2028\\u2029é\"";
         assert_eq!(text, wanted);
-        let [back, same]: [String; 2] = [&text, wild].map(|text| serde_json::from_str(text).unwrap());
+        let [back, same]: [String; 2] =
+            [&text, wild].map(|text| serde_json::from_str(text).unwrap());
         assert_eq!(back, same);
     }
 
@@ -109,9 +112,22 @@ mod tests {
     #[test]
     fn the_sources_hold_nothing_that_the_policy_refuses() {
         let refused = [
-            "</script", "</style", "<!--", "eval(", "new Function", "innerHTML", "outerHTML",
-            "insertAdjacentHTML", "document.write", "fetch(", "XMLHttpRequest", "import(", "src=",
-            "https:", "@import", "url(",
+            "</script",
+            "</style",
+            "<!--",
+            "eval(",
+            "new Function",
+            "innerHTML",
+            "outerHTML",
+            "insertAdjacentHTML",
+            "document.write",
+            "fetch(",
+            "XMLHttpRequest",
+            "import(",
+            "src=",
+            "https:",
+            "@import",
+            "url(",
         ];
         for (name, text) in SCRIPTS.iter().copied().chain([("style.css", STYLE)]) {
             for words in refused {

@@ -42,9 +42,7 @@ pub fn chains(chains: &[Chain], explained: &Explained) -> Value {
 /// What a joint was made by: 0 two ends alone in round one, 1 in round two; of three or more, 2 and 3.
 fn kind(explained: &Explained, joint: Meeting) -> u64 {
     match explained.nodes().get(joint.node) {
-        Some(node) => {
-            u64::from(node.round == Round::Cells) + 2 * u64::from(node.ends.len() > 2)
-        }
+        Some(node) => u64::from(node.round == Round::Cells) + 2 * u64::from(node.ends.len() > 2),
         None => 0,
     }
 }

@@ -99,7 +99,8 @@ mod tests {
 
     #[test]
     fn near_points_take_few_bytes() {
-        let points = [[487_012.25, 6_900_000.5], [487_013.25, 6_900_000.5], [487_013.5, 6_900_001.0]];
+        let points =
+            [[487_012.25, 6_900_000.5], [487_013.25, 6_900_000.5], [487_013.5, 6_900_001.0]];
         // The first two numbers from 0, then 100 and 0, 25 and 50 hundredths.
         assert_eq!(in_decimals(&points, 2).len(), 4 + 5 + 2 + 1 + 1 + 1);
         let bits = in_bits(&points).len();
