@@ -12,7 +12,7 @@ use serde_json::{json, Value};
 const MOST_DECIMALS: usize = 15;
 
 /// What whole numbers stay below, so that a difference of two is exact in a double.
-const MOST_WHOLE: f64 = (1u64 << 51) as f64;
+const MOST_WHOLE: u64 = 1 << 51;
 
 /// The lines as the page reads them.
 pub fn shapes(delivery: &Delivery) -> Value {
@@ -39,9 +39,11 @@ pub fn shapes(delivery: &Delivery) -> Value {
 /// A number as a whole number of so many decimals, where that is exactly the number.
 fn whole(x: f64, decimals: usize) -> Option<i64> {
     let power = 10f64.powi(decimals as i32);
-    let whole = (x * power).round();
-    let exact = whole.abs() <= MOST_WHOLE && (whole / power).to_bits() == x.to_bits();
-    exact.then_some(whole as i64)
+    // A zero below 0 is no whole number, and is seen by its bits.
+    let whole = (x * power).round() as i64;
+    let exact =
+        whole.unsigned_abs() <= MOST_WHOLE && (whole as f64 / power).to_bits() == x.to_bits();
+    exact.then_some(whole)
 }
 
 /// The least number of decimals that all numbers have exactly, if there is one.

@@ -11,7 +11,7 @@ use crate::measure::Measure;
 use crate::numbers::count;
 use crate::progress::Progress;
 use anyhow::{bail, Context, Result};
-use lovasuku_chains::explain::{Explained, Meeting};
+use lovasuku_chains::explain::{Explained, Meeting, Round};
 use lovasuku_chains::{Dimension, Refusal, Rooms, Settings};
 use std::fmt::Write;
 use std::path::Path;
@@ -108,10 +108,15 @@ impl Answer<'_> {
             let whole = first == 0 && last == joints.len() && last > 0;
             told.extend(self.explained.closing(chain).filter(|_| whole));
         }
-        let known: Vec<[Place; 2]> = told.iter().map(|&each| self.places(each)).collect();
-        let more: Vec<Meeting> = self.explained.meetings(a, b);
+        // Ends that round one has joined may lie in one cell again, which says nothing more.
+        let known = |meeting: &Meeting| {
+            let told = told.iter().filter(|each| {
+                each.node == meeting.node || self.round(each.node) == Some(Round::Exact)
+            });
+            told.map(|&each| self.places(each)).any(|each| each == self.places(*meeting))
+        };
         let more: Vec<Meeting> =
-            more.into_iter().filter(|&each| !known.contains(&self.places(each))).collect();
+            self.explained.meetings(a, b).into_iter().filter(|each| !known(each)).collect();
         let mut rooms = Rooms::default();
         for &meeting in told.iter().chain(&more) {
             row(&mut out, &self.words.meeting(meeting, &mut rooms)?);
@@ -120,6 +125,10 @@ impl Answer<'_> {
             row(&mut out, &self.apart(a, b));
         }
         Ok(out)
+    }
+
+    fn round(&self, node: usize) -> Option<Round> {
+        self.explained.nodes().get(node).map(|node| node.round)
     }
 
     /// The two ends that meet, the lower first.

@@ -92,9 +92,8 @@ class Crossing {
       make('b', {}, `${pair.i} ${a}, ${pair.j} ${b}`),
       make('span', { class: 'reason' }, ` ${this.verdict(junction, pair)}.`),
     );
-    const becomes = this.whatif.ofPair(junction, pair.rank);
-    if (becomes === 'falls') item.append(make('span', { class: 'falls' }, ` Falls away at ${Words.limit(this.whatif.asked)}.`));
-    if (becomes === 'open') item.append(make('span', { class: 'falls' }, ' A run has to tell at the stricter limit.'));
+    const tag = this.whatif.tag(this.whatif.ofPair(junction, pair.rank), junction.round);
+    if (tag !== null) item.append(make('span', { class: 'falls' }, tag));
     return item;
   }
 

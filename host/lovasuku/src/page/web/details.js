@@ -13,7 +13,7 @@ class Details {
     return make(
       'div', { class: 'head' },
       make('a', { href: '#', class: 'back', title: 'Back to all' }, 'All'),
-      make('h2', { id: 'what' }, `${kind[0].toUpperCase()}${kind.slice(1)} ${number}`, tag === null ? null : make('span', { class: 'tag' }, tag)),
+      make('h2', { id: 'what' }, `${kind[0].toUpperCase()}${kind.slice(1)} ${number} `, tag === null ? null : make('span', { class: 'tag' }, tag)),
       make('a', { href: link, class: 'link', title: 'A link to this, to be sent with the page' }, link),
     );
   }
@@ -62,9 +62,8 @@ class Details {
     const item = make('li', { class: `joint ${bridge === null ? '' : 'bridged'}` }, make('span', { class: 'badge' }, kind), ` ${words}`);
     if (junction !== null) item.append(' ', linkTo('junction', junction.number));
     if (bridge !== null) item.append(' ', linkTo('bridge', bridge.number));
-    const becomes = this.whatif.ofJoint(chain, k);
-    if (becomes === 'falls') item.append(make('span', { class: 'falls' }, ` Falls away at ${Words.limit(this.whatif.asked)}.`));
-    if (becomes === 'open') item.append(make('span', { class: 'falls' }, ' A run has to tell at the stricter limit.'));
+    const tag = this.whatif.tag(this.whatif.ofJoint(chain, k), junction === null ? 1 : junction.round);
+    if (tag !== null) item.append(make('span', { class: 'falls' }, tag));
     return item;
   }
 

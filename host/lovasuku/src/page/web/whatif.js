@@ -5,8 +5,8 @@
 // and no new run is needed.
 //
 // Round two takes the ends that round one leaves. Where a pair of round one falls away, its two ends are
-// free in their cell, and its piece is two. What round two makes of that cell and of these pieces takes a
-// run; it is told as open.
+// free in their cell, and its piece is two. What round two makes of that cell and of these pieces, the two
+// ends themselves among them, takes a run to tell; it is told as open.
 
 class WhatIf {
   constructor(network) {
@@ -94,6 +94,14 @@ class WhatIf {
     return all;
   }
 
+  // What is told of a joint or a pair that falls or is open; nothing of one that stands.
+  tag(becomes, round) {
+    if (becomes === 'open') return ' At the stricter limit it takes a run to tell.';
+    if (becomes !== 'falls') return null;
+    const again = round === 0 && this.network.settings.tolerance > 0;
+    return ` Falls away at ${Words.limit(this.asked)}${again ? ', in round one; round two looks at its ends again' : ''}.`;
+  }
+
   // How many pairs stand, in words.
   words() {
     const all = this.pairs.length;
@@ -104,10 +112,10 @@ class WhatIf {
       `${Words.parted(stands.length)} of ${Words.count(all, 'selected pair')} stand, ` +
         `${Words.parted(falls.length)} fall away.`,
     ];
-    if (this.open.length > 0) {
+    if (this.cells.size > 0) {
       words.push(
-        `Of ${Words.count(this.open.length, 'joint')} of round two a run has to tell: ` +
-          'what round one leaves there is not the same.',
+        'Round two looks again at the ends of those of round one, and it takes a run to tell what it joins there' +
+          (this.open.length > 0 ? `, and of ${Words.count(this.open.length, 'joint')} that it made.` : '.'),
       );
     }
     return words.join(' ');
