@@ -37,12 +37,14 @@ class Safety(Pages):
         path = self.hostile()
         self.open(path)
         self.assertIn(HOSTILE[0], self.told())
-        for k, name in enumerate(HOSTILE):
+        names = [name.replace("\u2028", "\\u2028").replace("\u2029", "\\u2029") for name in HOSTILE]
+        names = [name.replace("\u0007", "\\u0007").replace("\u202e", "\\u202e") for name in names]
+        for k, (name, value) in enumerate(zip(names, HOSTILE)):
             self.script("location.hash = `line=${encodeURIComponent(arguments[0])}`", name)
             self.shows(f"Chain {k}")
             self.assertEqual(self.script("return document.querySelector('.step .line').textContent"), name)
             values = self.script("return [...document.querySelectorAll('.card td')].map((cell) => cell.textContent)")
-            self.assertEqual(values[1:], [name] * len(HOSTILE))
+            self.assertEqual(values[1:], [value] * len(HOSTILE))
         self.script("document.getElementById('words').value = arguments[0]; document.getElementById('words').dispatchEvent(new Event('input'))", "<")
         self.assertGreater(len(self.all("#found li")), 2)
         self.assertIsNone(self.hacked())

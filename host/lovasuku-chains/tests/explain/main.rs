@@ -32,7 +32,7 @@ fn settings(call: &BuildCall) -> Settings {
 }
 
 /// An explanation of a call with all reasons that it has.
-struct Case {
+pub struct Case {
     chains: Vec<Chain>,
     explained: Explained,
     whys: Vec<Vec<Why>>,

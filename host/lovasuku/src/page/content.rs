@@ -8,6 +8,7 @@ use super::Page;
 use crate::arguments::Request;
 use crate::delivery::Delivery;
 use crate::numbers::rounded;
+use crate::why::words::visible;
 use lovasuku_chains::explain::bend_of;
 use lovasuku_chains::{Refusal, Settings, Window};
 use serde_json::{json, Map, Value};
@@ -59,7 +60,7 @@ fn names(delivery: &Delivery) -> Value {
     let lines = 0..delivery.features.len() as u32;
     let as_they_stand = || delivery.features.iter().zip(0..).all(|(line, k)| line.position == k);
     match delivery.named_by_ids || !as_they_stand() {
-        true => lines.map(|line| delivery.label(line)).collect(),
+        true => lines.map(|line| visible(&delivery.label(line))).collect(),
         false => Value::Null,
     }
 }

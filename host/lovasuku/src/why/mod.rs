@@ -1,6 +1,6 @@
 //! `lovasuku why`: of two lines of a delivery, why they are joined or not.
 
-mod words;
+pub mod words;
 
 use crate::arguments::Question;
 use crate::classes::Classes;

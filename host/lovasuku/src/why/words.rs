@@ -133,11 +133,28 @@ impl<'a> Words<'a> {
 
 /// The name of a line for people, with which part of its feature it is where lines are parts.
 pub fn label(delivery: &Delivery, line: u32, parts: bool) -> String {
-    let name = delivery.label(line);
+    let name = visible(&delivery.label(line));
     match delivery.features.get(line as usize) {
         Some(feature) if parts => format!("{name} part {}", feature.part),
         _ => name,
     }
+}
+
+/// A text with its characters that are not seen, as those that move a terminal or turn the way of writing
+/// round, by their numbers.
+pub fn visible(text: &str) -> String {
+    let mut out = String::new();
+    for each in text.chars() {
+        let unseen = matches!(
+            each,
+            '\u{200e}' | '\u{200f}' | '\u{2028}'..='\u{202e}' | '\u{2066}'..='\u{2069}' | '\u{feff}'
+        );
+        match unseen || each.is_control() {
+            true => out += &format!("\\u{:04x}", each as u32),
+            false => out.push(each),
+        }
+    }
+    out
 }
 
 fn at(node: &Node, place: u32) -> Option<&End> {
@@ -175,7 +192,13 @@ fn number(x: f64) -> String {
 
 #[cfg(test)]
 mod tests {
-    use super::number;
+    use super::{number, visible};
+
+    #[test]
+    fn names_that_are_not_seen_are_told_by_their_numbers() {
+        let all = ["H3", "äöü 林道", "a\u{1b}[31mb", "\u{202e}x\u{2028}", "\n"].map(visible);
+        assert_eq!(all, ["H3", "äöü 林道", "a\\u001b[31mb", "\\u202ex\\u2028", "\\u000a"]);
+    }
 
     #[test]
     fn numbers_as_the_page_writes_them() {

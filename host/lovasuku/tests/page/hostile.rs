@@ -40,7 +40,12 @@ fn texts_stay_texts() {
         assert!(!page.text.contains(mark), "{mark:?}");
     }
     assert!(!page.text.chars().any(|each| each.is_control()));
-    assert_eq!(page.data["names"], serde_json::json!(HOSTILE));
+    // Characters that are not seen are told by their numbers in names.
+    let names: Vec<&str> =
+        page.data["names"].as_array().unwrap().iter().map(|name| name.as_str().unwrap()).collect();
+    assert_eq!(names[..5], HOSTILE[..5]);
+    assert_eq!(names[5..7], ["a\\u2028b\\u2029c", "\\u0000\\u0007\\u001f\\u202eright to left"]);
+    assert_eq!(names[7..], HOSTILE[7..]);
     assert_eq!(page.data["input"]["crs"], HOSTILE[0]);
     assert_eq!(page.data["measure"]["unit"], HOSTILE[2]);
     let columns = page.data["properties"]["columns"].as_array().unwrap();

@@ -20,7 +20,21 @@ class WhatIf {
         this.pairs.push({ junction, rank, ends: [i, j], measure: junction.measures[at] });
       });
     }
+    this.later = this.ofRoundTwo();
     this.at(this.limit);
+  }
+
+  // The joints that round two made.
+  ofRoundTwo() {
+    const { network } = this;
+    const all = [];
+    for (let chain = 0; chain < network.chains.count; chain += 1) {
+      for (let k = 0; k + 1 < network.countOf(chain); k += 1) {
+        const kind = network.jointKind(chain, k);
+        if (kind === JOINT.CELL || kind === JOINT.CELL_JUNCTION) all.push({ chain, joint: k });
+      }
+    }
+    return all;
   }
 
   // True where there is anything to ask.
@@ -84,14 +98,8 @@ class WhatIf {
 
   // The joints of round two of which it takes a run to tell.
   openJoints() {
-    const all = [];
-    if (this.cells.size === 0) return all;
-    for (let chain = 0; chain < this.network.chains.count; chain += 1) {
-      for (let k = 0; k + 1 < this.network.countOf(chain); k += 1) {
-        if (this.ofJoint(chain, k) === 'open') all.push({ chain, joint: k });
-      }
-    }
-    return all;
+    if (this.cells.size === 0) return [];
+    return this.later.filter(({ chain, joint }) => this.ofJoint(chain, joint) === 'open');
   }
 
   // What is told of a joint or a pair that falls or is open; nothing of one that stands.
