@@ -94,13 +94,13 @@ class Pages(unittest.TestCase):
         return self.driver.find_elements(By.CSS_SELECTOR, selector)
 
     def told(self):
-        """The words of the panel."""
-        return self.find("#panel").text
+        """The words of the panel, with a blank between each two."""
+        return " ".join(self.script("return document.getElementById('panel').innerText").split())
 
     def heading(self):
         """The heading of what is shown; nothing where it is the whole."""
-        found = self.all("#what")
-        return found[0].text if found else None
+        words = "const what = document.getElementById('what'); return what === null ? null : what.innerText.trim()"
+        return self.script(words)
 
     def shows(self, heading):
         """Waits until the panel shows something."""

@@ -95,7 +95,7 @@ class Moving(Pages):
         self.painted()
         self.tap([1180.4, 812.6])
         self.shows("Junction 0")
-        self.assertIn("joined as pair 1 of 2", self.told().replace("\n", " "))
+        self.assertIn("joined as pair 1 of 2", self.told())
         self.picture("phone-junction")
         self.find("#words").send_keys("H7", Keys.ENTER)
         self.shows("Chain 0")

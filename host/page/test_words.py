@@ -117,7 +117,7 @@ class Telling(Pages):
         self.picture("what-if")
         self.script("location.hash = 'junction=0'")
         self.shows("Junction 0")
-        told = self.told().replace("\n", " ")
+        told = self.told()
         self.assertIn("Falls away at limit", told)
         self.assertIn("in round one; round two looks at its ends again", told)
         self.find(".back").click()
