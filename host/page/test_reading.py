@@ -145,6 +145,29 @@ class Reading(Pages):
         self.assertIn("Its ends lie in two cells, 60 0 and 61 0, however near they are.", self.told())
         self.picture("gap")
 
+    def test_opens_for_any_input(self):
+        def line(coordinates, kind="LineString"):
+            return {"type": "Feature", "properties": None, "geometry": {"type": kind, "coordinates": coordinates}}
+
+        far = 1.7e308
+        for lines in [
+            [],
+            [line([[5, 5]])],
+            [line([[5, 5], [5, 5]])],
+            [line([[5, 5], [5, 9]]), line([[5, 9], [5, 5]])],
+            [line([[-far, -far], [far, far]]), line([[far, far], [0, 0]])],
+            [line([[5e-324, 0], [0, 5e-324]])],
+            [line([[[5, 5], [6, 6]], []], "MultiLineString"), line([[7, 7], [8, 8]])],
+            [line([[k, 9 * (k % 7)], [0, 0]]) for k in range(80)],
+        ]:
+            path = self.page("any.html", collection(lines), "--tolerance", "3", "--limit", "0.5", "--units", "m")
+            for link in ["", "#chain=0", "#junction=0", "#bridge=0"]:
+                self.open(path, link)
+                self.assertEqual(self.find("#tally").text.split(" ")[0], str(len(lines)))
+                self.find("#closer").click()
+                self.find("#all").click()
+                self.painted()
+
     def test_follows_links_and_goes_back(self):
         self.yard("#chain=0")
         self.shows("Chain 0")

@@ -114,6 +114,7 @@ impl<'a> Given<'a> {
             outputs.extend(more);
             if let Some(target) = targets.page.clone() {
                 let text = self.page(&zooms[zoom], progress)?;
+                told.extend(page::of_size(text.len()));
                 outputs.push(Output { target, content: Content::Text(text) });
             }
             of.resize(outputs.len(), zoom);

@@ -33,6 +33,8 @@ Examples:
       writes the chains of four zoom levels, chains-0.geojson to chains-10.geojson
   lovasuku join roads.geojson -o chains.geojson --map map.svg --arrows
       shows on the map which way each line was drawn, as property path tells
+  lovasuku join roads.geojson -o chains.geojson --tolerance 2 --bend 60 --page page.html
+      makes a page that tells of every joint why it was made; page.html#chain=12 leads to a chain
   lovasuku join tile.geojson -o chains.geojson --tolerance 2 --origin -1024,0
       the same with cells counted from a corner that this tile and its neighbours share
   lovasuku join roads.geojson -o chains.geojsonl --bend 40 --class surface --keep longest

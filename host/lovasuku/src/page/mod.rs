@@ -24,6 +24,15 @@ pub use checksum::checksum;
 use lovasuku_chains::explain::Explained;
 use lovasuku_chains::Refusal;
 
+/// From how many bytes on a page is slow to open.
+const MANY_BYTES: usize = 30_000_000;
+
+/// A warning where a page has so many bytes that browsers are slow to open it.
+pub fn of_size(bytes: usize) -> Option<String> {
+    let words = format!("the page has {} MB, which browsers open slowly", bytes / 1_000_000);
+    (bytes > MANY_BYTES).then_some(words)
+}
+
 /// What a page is made of.
 pub struct Page<'a> {
     /// The name of the input.

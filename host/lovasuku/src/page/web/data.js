@@ -2,78 +2,78 @@
 
 // Reads the page's data: the numbers that stand in it as text, with every bit of every double.
 
-const Data = (() => {
-  // The bytes of a text in base64.
-  function bytesOf(text) {
-    const raw = atob(text);
-    const bytes = new Uint8Array(raw.length);
-    for (let k = 0; k < raw.length; k += 1) bytes[k] = raw.charCodeAt(k);
-    return bytes;
+// The bytes of a text in base64.
+function bytesOf(text) {
+  const raw = atob(text);
+  const bytes = new Uint8Array(raw.length);
+  for (let k = 0; k < raw.length; k += 1) bytes[k] = raw.charCodeAt(k);
+  return bytes;
+}
+
+// Reads whole numbers, seven bits a byte, the lowest first.
+class Reader {
+  constructor(text) {
+    this.bytes = bytesOf(text);
+    this.at = 0;
   }
 
-  // Reads whole numbers, seven bits a byte, the lowest first.
-  class Reader {
-    constructor(text) {
-      this.bytes = bytesOf(text);
-      this.at = 0;
-    }
+  get more() {
+    return this.at < this.bytes.length;
+  }
 
-    get more() {
-      return this.at < this.bytes.length;
+  // A whole number below 2^53.
+  number() {
+    let sum = 0;
+    let power = 1;
+    for (;;) {
+      const byte = this.bytes[this.at];
+      this.at += 1;
+      sum += (byte & 127) * power;
+      if (byte < 128) return sum;
+      power *= 128;
     }
+  }
 
-    // A whole number below 2^53.
-    number() {
-      let sum = 0;
-      let power = 1;
-      for (;;) {
-        const byte = this.bytes[this.at];
-        this.at += 1;
-        sum += (byte & 127) * power;
-        if (byte < 128) return sum;
+  // A whole number of either sign: 0, 1, 2, 3 .. stand for 0, -1, 1, -2 ..
+  signed() {
+    return unzigzag(this.number());
+  }
+
+  // The same for 64 bits.
+  signedWord() {
+    let low = 0;
+    let power = 1;
+    let bytes = 0;
+    let high = 0n;
+    for (;;) {
+      const byte = this.bytes[this.at];
+      this.at += 1;
+      if (bytes < 7) {
+        low += (byte & 127) * power;
         power *= 128;
+      } else {
+        high |= BigInt(byte & 127) << BigInt(7 * bytes);
       }
+      bytes += 1;
+      if (byte < 128) break;
     }
-
-    // A whole number of either sign: 0, 1, 2, 3 .. stand for 0, -1, 1, -2 ..
-    signed() {
-      return unzigzag(this.number());
-    }
-
-    // The same for 64 bits.
-    signedWord() {
-      let low = 0;
-      let power = 1;
-      let bytes = 0;
-      let high = 0n;
-      for (;;) {
-        const byte = this.bytes[this.at];
-        this.at += 1;
-        if (bytes < 7) {
-          low += (byte & 127) * power;
-          power *= 128;
-        } else {
-          high |= BigInt(byte & 127) << BigInt(7 * bytes);
-        }
-        bytes += 1;
-        if (byte < 128) break;
-      }
-      const word = high | BigInt(low);
-      return (word >> 1n) ^ -(word & 1n);
-    }
-
-    doubles() {
-      return new Float64Array(this.bytes.buffer);
-    }
+    const word = high | BigInt(low);
+    return (word >> 1n) ^ -(word & 1n);
   }
 
-  function unzigzag(number) {
-    return number % 2 === 1 ? -(number + 1) / 2 : number / 2;
+  doubles() {
+    return new Float64Array(this.bytes.buffer);
   }
+}
 
+function unzigzag(number) {
+  return number % 2 === 1 ? -(number + 1) / 2 : number / 2;
+}
+
+class Data {
   // The lines: the runs of points of each, one behind another, and whether it is a single line that may
   // be joined.
-  function shapes(told) {
+  static shapes(told) {
     const counts = new Reader(told.counts);
     const runs = [0];
     const firsts = [0];
@@ -87,7 +87,7 @@ const Data = (() => {
       for (const length of lengths) runs.push(runs[runs.length - 1] + length);
       firsts.push(runs.length - 1);
     }
-    const points = pointsOf(told, runs[runs.length - 1]);
+    const points = Data.pointsOf(told, runs[runs.length - 1]);
     return {
       count: single.length,
       // Run r has the points from runs[r] to runs[r + 1], line k the runs from firsts[k] to firsts[k + 1].
@@ -100,7 +100,7 @@ const Data = (() => {
   }
 
   // x and y of so many points: whole numbers of a decimal, or bits, each as the difference from the last.
-  function pointsOf(told, count) {
+  static pointsOf(told, count) {
     const reader = new Reader(told.points);
     const axes = [new Float64Array(count), new Float64Array(count)];
     if (told.decimals === null) {
@@ -127,7 +127,7 @@ const Data = (() => {
   }
 
   // The chains: the lines of chain k are those from starts[k] to starts[k + 1] of the path.
-  function chains(told, lines) {
+  static chains(told, lines) {
     const reader = new Reader(told.paths);
     const starts = [0];
     const path = new Uint32Array(lines);
@@ -162,7 +162,7 @@ const Data = (() => {
 
   // The junctions: their ends, the selected pairs in order, and of every pair the measure and the library's
   // reason; of junctions that are not told whole the measures of the selected pairs alone.
-  function junctions(told) {
+  static junctions(told) {
     const reader = new Reader(told.numbers);
     const measures = new Reader(told.measures).doubles();
     const all = [];
@@ -192,7 +192,7 @@ const Data = (() => {
     return all;
   }
 
-  function gaps(told) {
+  static gaps(told) {
     const reader = new Reader(told.numbers);
     const ends = new Reader(told.ends).doubles();
     const all = [];
@@ -208,7 +208,7 @@ const Data = (() => {
     return all;
   }
 
-  function columns(told) {
+  static columns(told) {
     const column = ({ name, values, of }) => {
       const reader = new Reader(of);
       const numbers = [];
@@ -219,9 +219,9 @@ const Data = (() => {
   }
 
   // All that a text tells.
-  function read(text) {
+  static read(text) {
     const told = JSON.parse(text);
-    const lines = shapes(told.shapes);
+    const lines = Data.shapes(told.shapes);
     return {
       version: told.version,
       input: told.input,
@@ -234,12 +234,10 @@ const Data = (() => {
       parts: told.parts,
       classes: told.classes,
       lines,
-      chains: chains(told.chains, lines.count),
-      junctions: junctions(told.junctions),
-      gaps: gaps(told.gaps),
-      properties: columns(told.properties),
+      chains: Data.chains(told.chains, lines.count),
+      junctions: Data.junctions(told.junctions),
+      gaps: Data.gaps(told.gaps),
+      properties: Data.columns(told.properties),
     };
   }
-
-  return { read };
-})();
+}

@@ -46,8 +46,12 @@ class Legend {
     const most = (110 / view.scale) * 2 * units;
     const length = Legend.roundBelow(most);
     if (!Number.isFinite(length) || !(length > 0)) return { pixels: 0, words: '' };
-    const plain = length >= 1e-4 && length < 1e9;
-    const words = plain ? Words.parted(Math.round(length * 1e6) / 1e6) : length.toExponential(0).replace('e+', 'e');
-    return { pixels: (length / units / 2) * view.scale, words: `${words} ${unit}` };
+    return { pixels: (length / units / 2) * view.scale, words: `${Legend.plain(length)} ${unit}` };
+  }
+
+  // A round number in words.
+  static plain(x) {
+    if (x >= 1e4 && x < 1e9) return Words.parted(Math.round(x));
+    return x >= 1e-4 && x < 1e9 ? String(Math.round(x * 1e6) / 1e6) : x.toExponential(0).replace('e+', 'e');
   }
 }

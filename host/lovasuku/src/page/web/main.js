@@ -2,7 +2,7 @@
 
 // The page: reads the data, shows the map, and shows what a link or a click asks for.
 
-(() => {
+{
   const element = (name) => document.getElementById(name);
   const network = new Network(Data.read(element('data').textContent));
   const grid = new Grid(network);
@@ -92,8 +92,11 @@
   function show(move) {
     const what = asked(location.hash);
     marks.picked.what = what === null || what.missing !== undefined ? null : what;
+    const held = panel.contains(document.activeElement);
     panel.replaceChildren(...elementsOf(what));
     panel.scrollTop = 0;
+    // Who came by a link of the panel goes on in it.
+    if (held) panel.focus({ preventScroll: true });
     const current = panel.querySelector('[aria-current]');
     if (current !== null) current.scrollIntoView({ block: 'center' });
     if (marks.picked.what !== null && move) lookAt(marks.picked.what);
@@ -191,4 +194,4 @@
   show(true);
   // For the page's tests.
   window.lovasuku = { network, reasons, whatif, view, painter, marks, hits };
-})();
+}

@@ -103,6 +103,7 @@ class Overview {
       const degrees = Number(slider.value);
       whatif.at(degrees >= most ? whatif.limit : Words.limitOfBend(degrees));
       shown.textContent = Words.limit(whatif.asked);
+      slider.setAttribute('aria-valuetext', shown.textContent);
       words.textContent = whatif.words();
     };
     slider.addEventListener('input', () => {

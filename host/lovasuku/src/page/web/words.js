@@ -2,20 +2,20 @@
 
 // Numbers and names in words, as the command writes them.
 
-const Words = (() => {
+class Words {
   // A number by the fewest digits that are read back as the same one.
-  function number(x) {
+  static number(x) {
     if (Object.is(x, -0)) return '-0';
     return String(x).replace('e+', 'e');
   }
 
   // A place: its x and its y.
-  function place([x, y]) {
-    return `${number(x)} ${number(y)}`;
+  static place([x, y]) {
+    return `${Words.number(x)} ${Words.number(y)}`;
   }
 
   // A number to so many digits, or to whole units where these are more.
-  function toDigits(x, digits) {
+  static toDigits(x, digits) {
     if (Math.abs(x) >= 1e15) return x.toExponential(2).replace('e+', 'e');
     const whole = Math.floor(Math.log10(Math.max(Math.abs(x), 1e-12)));
     const decimals = Math.min(Math.max(digits - 1 - whole, 0), 17);
@@ -25,55 +25,50 @@ const Words = (() => {
   }
 
   // A length to six digits.
-  function rounded(x) {
-    return toDigits(x, 6);
-  }
-
-  // A length to three digits.
-  function short(x) {
-    return toDigits(x, 3);
+  static rounded(x) {
+    return Words.toDigits(x, 6);
   }
 
   // A whole number with its thousands parted.
-  function parted(x) {
+  static parted(x) {
     return String(x).replace(/\B(?=(\d{3})+$)/g, ',');
   }
 
   // A number of things.
-  function count(x, thing) {
+  static count(x, thing) {
     const many = thing.endsWith('s') ? 'es' : 's';
-    return `${parted(x)} ${thing}${x === 1 ? '' : many}`;
+    return `${Words.parted(x)} ${thing}${x === 1 ? '' : many}`;
   }
 
   // The bend in degrees that a measure or a limit stands for: 0 is straight on.
-  function bendOf(measure) {
+  static bendOf(measure) {
     return (Math.acos(-measure) * 180) / Math.PI;
   }
 
   // The limit that a bend in degrees stands for.
-  function limitOfBend(degrees) {
+  static limitOfBend(degrees) {
     if (degrees === 60) return -0.5;
     if (degrees === 120) return 0.5;
     if (degrees >= 180) return 1;
     return Math.min(Math.max(Math.sin(((degrees - 90) * Math.PI) / 180), -1), 1);
   }
 
-  function degrees(measure) {
-    return `${rounded(bendOf(measure))}°`;
+  static degrees(measure) {
+    return `${Words.rounded(Words.bendOf(measure))}°`;
   }
 
   // A measure as a number and as degrees.
-  function measure(x) {
-    return `measure ${number(x)} (a bend of ${degrees(x)})`;
+  static measure(x) {
+    return `measure ${Words.number(x)} (a bend of ${Words.degrees(x)})`;
   }
 
   // A limit as a number and as degrees.
-  function limit(x) {
-    return `limit ${number(x)} (${degrees(x)})`;
+  static limit(x) {
+    return `limit ${Words.number(x)} (${Words.degrees(x)})`;
   }
 
   // A value of a property, of which a text is shown without its quotes.
-  function value(written) {
+  static value(written) {
     if (!written.startsWith('"')) return written;
     try {
       return JSON.parse(written);
@@ -81,6 +76,4 @@ const Words = (() => {
       return written;
     }
   }
-
-  return { number, place, rounded, short, parted, count, bendOf, limitOfBend, degrees, measure, limit, value };
-})();
+}
