@@ -98,7 +98,7 @@ class Telling(Pages):
             if each["open"]:
                 sure["open"] += 1
                 continue
-            self.assertEqual(each["stands"], of_run[(each["round"], *each["ends"])])
+            self.assertEqual(each["stands"], of_run.get((each["round"], *each["ends"]), "no such junction"))
             sure["cells" if each["round"] == 1 else "junctions"] += 1
         for joint in told["joints"]:
             self.assertIn(joint, run["joints"])

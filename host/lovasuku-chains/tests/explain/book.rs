@@ -7,6 +7,7 @@ use answers::{BuildCall, RECORD};
 use lovasuku_chains::explain::{End, Meeting, Node, Round, Why};
 use lovasuku_chains::large::Chain;
 use lovasuku_chains::Reason;
+use std::collections::BTreeMap;
 
 /// What is wrong with an explanation, in words.
 pub type Judged = Result<(), String>;
@@ -97,6 +98,9 @@ impl<'a> Book<'a> {
             self.judge_whys(node, whys)?;
         }
         told(nodes.len() == whys.len(), || "not every node has its reasons".into())?;
+        for round in [Round::Exact, Round::Cells] {
+            self.judge_all(round, nodes.iter().filter(|node| node.round == round))?;
+        }
         told(chains.len() == joints.len(), || "not every chain is explained".into())?;
         for (chain, joints) in chains.iter().zip(joints) {
             judge_joints(nodes, chain, joints)?;
@@ -104,11 +108,31 @@ impl<'a> Book<'a> {
         Ok(())
     }
 
+    /// The nodes of a round are those at which two ends or more meet, each once.
+    fn judge_all<'n>(&self, round: Round, nodes: impl Iterator<Item = &'n Node>) -> Judged {
+        let mut keys: BTreeMap<Key, usize> = BTreeMap::new();
+        for piece in self.of_round(round) {
+            for point in [piece.run[0], piece.run[piece.run.len() - 1]] {
+                *keys.entry(self.key(round, piece.group, point)).or_default() += 1;
+            }
+        }
+        keys.retain(|_, ends| *ends > 1);
+        for node in nodes {
+            let key = self.key_of(node).ok_or("a node has no ends")?;
+            told(keys.remove(&key).is_some(), || format!("{key:?} is no node, or stands twice"))?;
+        }
+        told(keys.is_empty(), || format!("the nodes {keys:?} are left out"))
+    }
+
+    fn key_of(&self, node: &Node) -> Option<Key> {
+        let first = node.ends.first()?;
+        let group = self.call.groups[first.line as usize];
+        Some(self.key(node.round, group, first.point.map(f64::to_bits)))
+    }
+
     /// A node has exactly the ends of its key, in order, and joins exactly the pairs of the book.
     fn judge_node(&self, node: &Node) -> Judged {
-        let first = node.ends.first().ok_or("a node has no ends")?;
-        let group = self.call.groups[first.line as usize];
-        let key = self.key(node.round, group, first.point.map(f64::to_bits));
+        let key = self.key_of(node).ok_or("a node has no ends")?;
         let ends = self.ends(node.round, key);
         let same = bits(&ends) == bits(&node.ends);
         told(same, || format!("the ends of the node are {ends:?}, not {:?}", node.ends))?;

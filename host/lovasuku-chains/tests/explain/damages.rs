@@ -33,7 +33,17 @@ impl Parts {
 pub type Damage = fn(&mut Parts) -> Option<()>;
 
 /// The changes by what they do.
-pub const DAMAGES: [(&str, Damage); 13] = [
+pub const DAMAGES: [(&str, Damage); 14] = [
+    ("a node is left out", |parts| {
+        let alone = |node: &Node| node.joined.is_empty();
+        let place = parts.nodes.iter().position(alone)?;
+        // No joint is at it, and those behind it move up.
+        parts.nodes.remove(place);
+        parts.whys.remove(place);
+        let joints = parts.joints.iter_mut().flatten().filter(|joint| joint.node > place);
+        joints.for_each(|joint| joint.node -= 1);
+        Some(())
+    }),
     ("an end is left out", |parts| {
         let node = parts.node(|node| node.ends.len() > 2 && node.joined.is_empty())?;
         node.ends.pop().map(|_| ())
