@@ -1,5 +1,6 @@
 """How a page looks: dark and light, for people who tell few colours apart, on paper, and with many lines."""
 
+import hashlib
 import time
 
 from browser import COARSE, PICTURES, YARD, Pages
@@ -105,7 +106,8 @@ class Looks(Pages):
         self.driver.execute_cdp_cmd("Emulation.setEmulatedMedia", {"media": "print"})
         self.assertEqual([self.find(f"#{name}").is_displayed() for name in ["search", "zoom", "legend"]], [False] * 3)
         told = self.find("#colophon").text
-        for words in ["yard.geojson", "SHA-256 of the input", "f86d6dc3b497079221610b69997bb8cb90895b8895accf7d9d94bef55792ca64", "lovasuku 0.1.0"]:
+        checksum = hashlib.sha256(YARD.read_bytes()).hexdigest()
+        for words in ["yard.geojson", "SHA-256 of the input", checksum, "lovasuku 0.1.0"]:
             self.assertIn(words, told)
 
     def test_fifty_thousand_lines(self):

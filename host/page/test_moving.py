@@ -23,7 +23,8 @@ class Moving(Pages):
     def test_drags_with_the_mouse(self):
         self.yard()
         before = self.view()
-        ActionChains(self.driver, duration=50).click_and_hold(self.find("#canvas")).move_by_offset(120, -60).release().perform()
+        drag = ActionChains(self.driver, duration=50).click_and_hold(self.find("#canvas"))
+        drag.move_by_offset(120, -60).release().perform()
         after = self.view()
         self.assertLess(after[0], before[0])
         self.assertLess(after[1], before[1])

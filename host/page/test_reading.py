@@ -53,8 +53,9 @@ class Reading(Pages):
         wild = [[0.1, -0.0], [0.30000000000000004, 5e-324], [-123456.789012345, 1e300], [7.0, -1e-7]]
         text = collection([feature("a", wild), feature("b", wild[::-1]), feature("c", wild[1:3])])
         bits = (
-            "const l = window.lovasuku.network.lines; const words = (a) => Array.from(new BigUint64Array(a.buffer), String);"
-            "const x = words(l.x), y = words(l.y); return x.flatMap((each, k) => [each, y[k]])"
+            "const { x, y } = window.lovasuku.network.lines;"
+            "const words = (axis) => Array.from(new BigUint64Array(axis.buffer), String); const ys = words(y);"
+            "return words(x).flatMap((each, k) => [each, ys[k]])"
         )
         for name, source in [("yard.html", YARD), ("wild.html", text)]:
             with self.subTest(name):
@@ -63,7 +64,8 @@ class Reading(Pages):
                 runs = []
                 for line in told["features"]:
                     geometry = line["geometry"]
-                    runs += geometry["coordinates"] if geometry["type"] == "MultiLineString" else [geometry["coordinates"]]
+                    several = geometry["type"] == "MultiLineString"
+                    runs += geometry["coordinates"] if several else [geometry["coordinates"]]
                 doubles = [number for run in runs for point in run for number in point]
                 wanted = [str(struct.unpack("<Q", struct.pack("<d", number))[0]) for number in doubles]
                 self.assertEqual(self.script(bits), wanted)
@@ -113,7 +115,10 @@ class Reading(Pages):
         self.click(BERM[0])
         self.shows("Bridge 1")
         told = self.told()
-        for words in ["Length 7.02922 m", "From 933.2 1083.4", "To 938.6 1087.9", "Cell 93 108", "with no third end (round two)"]:
+        for words in [
+            "Length 7.02922 m", "From 933.2 1083.4", "To 938.6 1087.9", "Cell 93 108",
+            "with no third end (round two)",
+        ]:
             self.assertIn(words, told)
         self.open(self.page("yard.html", YARD, *COARSE), "#bridge=1")
         self.picture("bridge")
@@ -124,13 +129,20 @@ class Reading(Pages):
         self.shows("Junction 0")
         pairs = [item.text.replace("\n", " ") for item in self.all(".pairs li")]
         self.assertEqual(len(pairs), 6)
-        self.assertTrue(pairs[0].startswith("selected, 1 of 2 0 H3's end, 1 H4's start joined as pair 1 of 2"), pairs[0])
-        bend = "not qualifying 0 H3's end, 2 H5's start not joined: measure -0.2606575542608197 (a bend of 74.8909°) is above the limit -0.5 (60°)."
+        first = "selected, 1 of 2 0 H3's end, 1 H4's start joined as pair 1 of 2"
+        self.assertTrue(pairs[0].startswith(first), pairs[0])
+        bend = (
+            "not qualifying 0 H3's end, 2 H5's start not joined: measure -0.2606575542608197 (a bend of "
+            "74.8909°) is above the limit -0.5 (60°)."
+        )
         self.assertIn(bend, pairs)
         self.assertIn("4 ends meet at 1180.4 812.6, bit for bit, in round one.", self.told())
         self.picture("junction")
         self.open(self.page("yard.html", YARD, *COARSE), "#junction=1")
-        blocked = "blocked by pair 1 0 S4's end, 1 S5's end not joined: measure -0.886225443961837 (a bend of 27.5973°) qualifies, but pair 1, S4's end with S6's start, comes first."
+        blocked = (
+            "blocked by pair 1 0 S4's end, 1 S5's end not joined: measure -0.886225443961837 (a bend of "
+            "27.5973°) qualifies, but pair 1, S4's end with S6's start, comes first."
+        )
         self.assertIn(blocked, [item.text.replace("\n", " ") for item in self.all(".pairs li")])
 
     def test_clicks_a_loop_and_a_gap(self):
@@ -203,6 +215,9 @@ class Reading(Pages):
         self.open(self.page("plain.html", YARD), "#junction=2")
         pairs = [item.text.replace("\n", " ") for item in self.all(".pairs li")]
         self.assertEqual(len(pairs), 6)
-        words = "not paired 0 H3's end, 1 H4's start not joined: junctions are not paired; measure -0.9999414763565161 (a bend of 0.619877°)."
+        words = (
+            "not paired 0 H3's end, 1 H4's start not joined: junctions are not paired; measure "
+            "-0.9999414763565161 (a bend of 0.619877°)."
+        )
         self.assertEqual(pairs[0], words)
         self.assertEqual(self.all("#limit"), [])

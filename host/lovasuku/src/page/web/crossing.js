@@ -35,8 +35,10 @@ class Crossing {
     const met = junction.ends.map((end) => this.network.junctionAt(other, end));
     const numbers = [...new Set(met.filter((each) => each !== null).map((each) => each.junction.number))];
     if (numbers.length === 0) return [];
-    const words = other === 1 ? 'What was left here is looked at again in round two: ' : 'In round one some of these ends met too: ';
-    return [make('p', {}, words, ...numbers.flatMap((number, k) => [k > 0 ? ', ' : '', linkTo('junction', number)]))];
+    const later = 'What was left here is looked at again in round two: ';
+    const words = other === 1 ? later : 'In round one some of these ends met too: ';
+    const links = numbers.flatMap((number, k) => [k > 0 ? ', ' : '', linkTo('junction', number)]);
+    return [make('p', {}, words, ...links)];
   }
 
   ends(junction) {
@@ -113,7 +115,8 @@ class Crossing {
   notes(junction) {
     const limited = this.network.settings.limit !== null;
     if (junction.whole || (!limited && junction.ends.length <= 24)) return [];
-    const shown = limited ? 'Only the selected pairs of this junction stand in the page' : 'The pairs of this junction do not stand in the page';
+    const all = 'The pairs of this junction do not stand in the page';
+    const shown = limited ? 'Only the selected pairs of this junction stand in the page' : all;
     return [make('p', {}, `${shown}, for its size. The command \`lovasuku why\` tells of any two lines.`)];
   }
 }

@@ -10,10 +10,12 @@ class Details {
   // The head of what is told: its name, a link to it and a way back.
   static head(kind, number, tag = null) {
     const link = `#${kind}=${number}`;
+    const name = `${kind[0].toUpperCase()}${kind.slice(1)} ${number} `;
+    const sign = tag === null ? null : make('span', { class: 'tag' }, tag);
     return make(
       'div', { class: 'head' },
       make('a', { href: '#', class: 'back', title: 'Back to all' }, 'All'),
-      make('h2', { id: 'what' }, `${kind[0].toUpperCase()}${kind.slice(1)} ${number} `, tag === null ? null : make('span', { class: 'tag' }, tag)),
+      make('h2', { id: 'what' }, name, sign),
       make('a', { href: link, class: 'link', title: 'A link to this, to be sent with the page' }, link),
     );
   }
@@ -41,16 +43,19 @@ class Details {
     });
     const closing = this.reasons.ofClosing(number);
     if (closing !== null) {
-      items.push(make('li', { class: 'joint' }, make('span', { class: 'badge' }, 'ring'), ` ${closing.words} The way is walked once around.`));
+      const words = ` ${closing.words} The way is walked once around.`;
+      items.push(make('li', { class: 'joint' }, make('span', { class: 'badge' }, 'ring'), words));
     }
     return items;
   }
 
   // A line: its name, the way that it was drawn and its length.
   step({ line, turned }, picked) {
-    const way = make('span', { class: 'drawn', title: turned ? 'drawn against the chain' : 'drawn along the chain' }, turned ? '←' : '→');
-    const words = ` ${turned ? 'drawn against' : 'drawn along'}, ${this.network.lengthWords(this.network.lengthOf(line))}`;
-    const item = make('li', { class: 'step' }, way, ' ', linkToLine(this.network, line), words);
+    const { network } = this;
+    const drawn = turned ? 'drawn against' : 'drawn along';
+    const way = make('span', { class: 'drawn', title: `${drawn} the chain` }, turned ? '←' : '→');
+    const words = ` ${drawn}, ${network.lengthWords(network.lengthOf(line))}`;
+    const item = make('li', { class: 'step' }, way, ' ', linkToLine(network, line), words);
     if (picked) item.setAttribute('aria-current', 'true');
     return item;
   }
@@ -59,7 +64,8 @@ class Details {
   joint(chain, k) {
     const { kind, words, junction } = this.reasons.ofJoint(chain, k);
     const bridge = this.network.bridgeAt(chain, k);
-    const item = make('li', { class: `joint ${bridge === null ? '' : 'bridged'}` }, make('span', { class: 'badge' }, kind), ` ${words}`);
+    const badge = make('span', { class: 'badge' }, kind);
+    const item = make('li', { class: bridge === null ? 'joint' : 'joint bridged' }, badge, ` ${words}`);
     if (junction !== null) item.append(' ', linkTo('junction', junction.number));
     if (bridge !== null) item.append(' ', linkTo('bridge', bridge.number));
     const tag = this.whatif.tag(this.whatif.ofJoint(chain, k), junction === null ? 1 : junction.round);
@@ -84,7 +90,9 @@ class Details {
   // What the two ends of a line meet.
   endsOf(line) {
     const { network } = this;
-    if (!network.isPlain(line)) return [make('li', {}, 'It passes through: it is no single line of two positions or more.')];
+    if (!network.isPlain(line)) {
+      return [make('li', {}, 'It passes through: it is no single line of two positions or more.')];
+    }
     return [false, true].map((last) => {
       const end = { line, last };
       const item = make('li', {}, `${network.endLabel(end)} lies at ${Words.place(network.placeOf(end))}`);
@@ -92,7 +100,9 @@ class Details {
         const met = network.junctionAt(round, end);
         if (met !== null) item.append(', ', linkTo('junction', met.junction.number));
       }
-      for (const other of this.apart(end)) item.append(`; ${network.endLabel(other)} lies there too, of another class`);
+      for (const other of this.apart(end)) {
+        item.append(`; ${network.endLabel(other)} lies there too, of another class`);
+      }
       return item;
     });
   }
@@ -116,9 +126,6 @@ class Details {
     const { network } = this;
     const { chain, joint, from, to, length } = network.bridges[number];
     const { words, junction } = this.reasons.ofJoint(chain, joint);
-    const { tolerance } = network.settings;
-    const apart = Math.hypot(to[0] - from[0], to[1] - from[1]);
-    const longer = apart > tolerance ? `It is longer than the tolerance of ${Words.number(tolerance)}: a cell is not a distance, and is up to ${Words.rounded(tolerance * Math.SQRT2)} across.` : null;
     const rows = [
       ['Length', network.lengthWords(length)],
       ['From', Words.place(from)],
@@ -129,17 +136,29 @@ class Details {
     if (junction !== null) rows.push(['Junction', linkTo('junction', junction.number)]);
     return [
       Details.head('bridge', number),
-      make('p', {}, 'A segment that is of no line: the tolerance made it. Look here whether there is a way through.'),
+      make('p', {}, 'A segment that is of no line: the tolerance made it. Is there a way through?'),
       table(rows),
       make('p', { class: 'reason' }, words),
-      ...(longer === null ? [] : [make('p', {}, longer)]),
+      ...this.longer(from, to),
     ];
+  }
+
+  // What is told of a bridge that is longer than the tolerance.
+  longer([x, y], [toX, toY]) {
+    const { tolerance } = this.network.settings;
+    if (Math.hypot(toX - x, toY - y) <= tolerance) return [];
+    const across = Words.rounded(tolerance * Math.SQRT2);
+    const words =
+      `It is longer than the tolerance of ${Words.number(tolerance)}: a cell is not a distance, ` +
+      `and is up to ${across} across.`;
+    return [make('p', {}, words)];
   }
 
   gap(number) {
     const { network } = this;
     const gap = network.gaps[number];
     const [from, to] = gap.ends;
+    const both = ([one, other]) => make('span', {}, one, ' and ', other);
     return [
       Details.head('gap', number),
       make('p', {}, 'Two ends nearer to each other than the tolerance that were not joined.'),
@@ -147,8 +166,8 @@ class Details {
         ['Length', network.lengthWords(network.distance(from, to))],
         ['From', Words.place(from)],
         ['To', Words.place(to)],
-        ['Lines', make('span', {}, linkToLine(network, gap.lines[0]), ' and ', linkToLine(network, gap.lines[1]))],
-        ['Chains', make('span', {}, linkTo('chain', gap.chains[0]), ' and ', linkTo('chain', gap.chains[1]))],
+        ['Lines', both(gap.lines.map((line) => linkToLine(network, line)))],
+        ['Chains', both(gap.chains.map((chain) => linkTo('chain', chain)))],
       ]),
       make('p', { class: 'reason' }, this.reasons.ofGap(gap)),
     ];

@@ -42,7 +42,8 @@ function list(items, shown, make_item) {
     button.before(...next.map(make_item));
     if (all.children.length > items.length) button.remove();
   };
-  const button = make('li', { class: 'more' }, make('button', { type: 'button', on: { click: more } }, `more of ${Words.parted(items.length)}`));
+  const words = `more of ${Words.parted(items.length)}`;
+  const button = make('li', { class: 'more' }, make('button', { type: 'button', on: { click: more } }, words));
   all.append(button);
   return all;
 }

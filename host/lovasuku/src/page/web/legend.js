@@ -9,24 +9,27 @@ class Legend {
 
   rows() {
     const { network } = this;
-    const line = (attributes) => ['line', { x1: 4, y1: 11, x2: 40, y2: 11, ...attributes }];
-    const arrow = (attributes) => ['path', { d: 'M16 5L30 11L16 17z', ...attributes }];
-    const diamond = (attributes) => ['path', { d: 'M22 4l7 7l-7 7l-7-7z', ...attributes }];
+    const line = (kind, from = 4, to = 40) => ['line', { class: kind, x1: from, y1: 11, x2: to, y2: 11 }];
+    const path = (kind, d) => ['path', { class: kind, d }];
+    const ring = ['circle', { class: 'bridge', cx: 22, cy: 11, r: 9 }];
+    const arrow = 'M16 5L30 11L16 17z';
+    const diamond = 'M22 4l7 7l-7 7l-7-7z';
     const cells = 'M6 2v18M14 2v18M22 2v18M30 2v18M38 2v18M2 6h40M2 15h40';
     const round = 'M26 7A6 6 0 1 0 28 11M22.5 3.2v4h4.4';
+    const junctions = network.junctions.length > 0;
     const all = [
-      [true, [line({ class: 'chain' })], 'chain of several lines'],
-      [true, [line({ class: 'alone' })], 'line by itself'],
-      [network.bridges.length > 0, [line({ class: 'bridge', x1: 16, x2: 28 }), ['circle', { class: 'bridge', cx: 22, cy: 11, r: 9 }]], 'bridge: a segment of no line'],
-      [network.gaps.length > 0, [['path', { class: 'gap', d: 'M22 3l9 15h-18z' }]], 'gap below the tolerance, still open'],
-      [network.junctions.length > 0, [diamond({ class: 'junction' })], 'junction with selected pairs'],
-      [network.junctions.length > 0, [diamond({ class: 'junction none' })], 'junction without'],
-      [network.chains.loops.size > 0, [['path', { class: 'loop', d: round }]], 'loop: it ends where it begins'],
-      [network.settings.tolerance > 0, [['path', { class: 'cells', d: cells }]], 'cells of the tolerance, seen from near'],
-      [network.data.window !== null, [['rect', { class: 'window', x: 5, y: 3, width: 34, height: 16 }]], 'the window of the output'],
-      [true, [line({ class: 'picked' }), arrow({ class: 'along' })], 'picked; drawn along its chain'],
-      [true, [line({ class: 'picked' }), arrow({ class: 'against' })], 'picked; drawn against it'],
-      [network.settings.limit !== null, [['path', { class: 'falls', d: 'M16 5l12 12M28 5l-12 12' }]], 'pair that falls away'],
+      [true, [line('chain')], 'chain of several lines'],
+      [true, [line('alone')], 'line by itself'],
+      [network.bridges.length > 0, [line('bridge', 16, 28), ring], 'bridge: a segment of no line'],
+      [network.gaps.length > 0, [path('gap', 'M22 3l9 15h-18z')], 'gap below the tolerance, still open'],
+      [junctions, [path('junction', diamond)], 'junction with selected pairs'],
+      [junctions, [path('junction none', diamond)], 'junction without'],
+      [network.chains.loops.size > 0, [path('loop', round)], 'loop: it ends where it begins'],
+      [network.settings.tolerance > 0, [path('cells', cells)], 'cells of the tolerance, seen from near'],
+      [network.data.window !== null, [path('window', 'M5 3h34v16h-34z')], 'the window of the output'],
+      [true, [line('picked'), path('along', arrow)], 'picked; drawn along its chain'],
+      [true, [line('picked'), path('against', arrow)], 'picked; drawn against it'],
+      [network.settings.limit !== null, [path('falls', 'M16 5l12 12M28 5l-12 12')], 'pair that falls away'],
     ];
     const shown = all.filter(([there]) => there);
     return shown.map(([, shapes, words]) => make('li', {}, sign(shapes), words));

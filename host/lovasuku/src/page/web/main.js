@@ -76,13 +76,17 @@
     const cells = what.kind !== 'junction' || network.junctions[what.number].round === 1;
     const lines = () => network.junctions[what.number].ends.map(({ line }) => line);
     // A cell has a part of the screen; where there is none to be seen, the lines that meet are seen.
-    const most = cells ? (Math.min(view.width, view.height) / 5 / tolerance) * 2 : view.fitting(network.extentOf(lines()), 1) * 1.6;
+    const most = cells
+      ? (Math.min(view.width, view.height) / 5 / tolerance) * 2
+      : view.fitting(network.extentOf(lines()), 1) * 1.6;
     view.scale = Math.min(view.scale, Math.max(most, view.fits));
   }
 
   function elementsOf(what) {
     if (what === null) return overview.elements();
-    if (what.missing !== undefined) return [make('p', { class: 'missing', role: 'alert' }, what.missing), ...overview.elements()];
+    if (what.missing !== undefined) {
+      return [make('p', { class: 'missing', role: 'alert' }, what.missing), ...overview.elements()];
+    }
     if (what.kind === 'chain') return details.chain(what.number, what.line);
     if (what.kind === 'junction') return crossing.elements(what.number);
     return what.kind === 'bridge' ? details.bridge(what.number) : details.gap(what.number);
@@ -105,12 +109,17 @@
     painter.ask();
   }
 
+  // The link to what was hit.
+  function linkOf(hit) {
+    if (hit === null) return '';
+    const line = hit.kind === 'chain' && hit.line !== null;
+    return line ? `#line=${encodeURIComponent(network.label(hit.line))}` : `#${hit.kind}=${hit.number}`;
+  }
+
   let clicked = false;
 
   function click(left, top, reach) {
-    const hit = hits.at(left, top, reach);
-    const line = hit !== null && hit.kind === 'chain' && hit.line !== null;
-    const hash = hit === null ? '' : `#${line ? `line=${encodeURIComponent(network.label(hit.line))}` : `${hit.kind}=${hit.number}`}`;
+    const hash = linkOf(hits.at(left, top, reach));
     if (hash === location.hash) return;
     clicked = true;
     location.hash = hash;

@@ -22,7 +22,7 @@ class Overview {
   // What the panel shows.
   elements() {
     return [
-      make('p', { class: 'lead' }, 'Click a chain, a junction or a bridge on the map, or search a line, and read why it is as it is.'),
+      make('p', { class: 'lead' }, 'Click a chain, a junction or a bridge, or search a line, and read why it is so.'),
       ...this.places(),
       ...(this.slider === null ? [] : [this.slider]),
       make('h2', {}, 'Settings'),
@@ -61,7 +61,8 @@ class Overview {
 
   bridge({ number, chain, length, ends }) {
     const [a, b] = ends.map(({ line }) => this.network.label(line));
-    return make('li', {}, linkTo('bridge', number), ` ${this.network.lengthWords(length)}, ${a} to ${b}, `, linkTo('chain', chain));
+    const words = ` ${this.network.lengthWords(length)}, ${a} to ${b}, `;
+    return make('li', {}, linkTo('bridge', number), words, linkTo('chain', chain));
   }
 
   gap({ number, lines, length }) {

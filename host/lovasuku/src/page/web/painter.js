@@ -56,7 +56,8 @@ class Painter {
   rankLines() {
     const { count } = this.network.lines;
     const colour = (line) => this.colours[this.network.chainOf[line]];
-    this.order = Uint32Array.from({ length: count }, (_, line) => line).sort((a, b) => colour(a) - colour(b) || a - b);
+    const lines = Uint32Array.from({ length: count }, (_, line) => line);
+    this.order = lines.sort((a, b) => colour(a) - colour(b) || a - b);
     this.ranks = new Uint32Array(count);
     this.order.forEach((line, rank) => {
       this.ranks[line] = rank;
@@ -67,7 +68,8 @@ class Painter {
   dress() {
     const style = getComputedStyle(document.documentElement);
     const read = (name) => style.getPropertyValue(`--${name}`).trim();
-    const names = ['paper', 'ink', 'faint', 'alone', 'bridge', 'gap', 'gap-edge', 'loop', 'picked', 'cell', 'falls', 'window'];
+    const names = ['paper', 'ink', 'faint', 'alone', 'bridge', 'gap', 'gap-edge', 'loop', 'picked', 'cell'];
+    names.push('falls', 'window');
     this.theme = Object.fromEntries(names.map((name) => [name, read(name)]));
     this.theme.chains = [this.theme.alone];
     for (let k = 1; k <= PALETTE; k += 1) this.theme.chains.push(read(`chain-${k}`));
@@ -161,7 +163,8 @@ class Painter {
     canvas.width = Math.round(this.canvas.width * part);
     canvas.height = Math.round(this.canvas.height * part);
     const context = canvas.getContext('2d');
-    context.setTransform(ratio, 0, 0, ratio, (canvas.width - this.canvas.width) / 2, (canvas.height - this.canvas.height) / 2);
+    const [left, top] = [canvas.width - this.canvas.width, canvas.height - this.canvas.height];
+    context.setTransform(ratio, 0, 0, ratio, left / 2, top / 2);
     context.lineJoin = 'round';
     context.lineCap = 'round';
     const ranks = [];

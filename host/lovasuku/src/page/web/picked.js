@@ -33,10 +33,10 @@ class Picked {
     context.lineJoin = 'round';
     context.lineCap = 'round';
     const { kind, number } = this.what;
-    if (kind === 'chain') this.paintChain(context, view, theme, number);
-    if (kind === 'bridge') this.paintChain(context, view, theme, this.network.bridges[number].chain);
-    if (kind === 'gap') this.network.gaps[number].chains.forEach((chain) => this.paintChain(context, view, theme, chain));
-    if (kind === 'junction') this.paintJunction(context, view, theme, this.network.junctions[number]);
+    const { bridges, gaps, junctions } = this.network;
+    if (kind === 'junction') this.paintJunction(context, view, theme, junctions[number]);
+    const chains = { chain: () => [number], bridge: () => [bridges[number].chain], gap: () => gaps[number].chains };
+    if (kind in chains) chains[kind]().forEach((chain) => this.paintChain(context, view, theme, chain));
   }
 
   // The names of the lines of a chain, or the numbers of a junction's ends.

@@ -26,20 +26,22 @@ class Search {
 
   // What a text finds: something by its number, and the lines whose names are it, begin with it or have it.
   find(text) {
-    const words = text.trim().toLowerCase();
-    if (words === '') return [];
-    const hits = this.numbered(words);
+    const sought = text.trim().toLowerCase();
+    if (sought === '') return [];
+    const hits = this.numbered(sought);
     if (this.names === null) {
-      this.names = Array.from({ length: this.network.lines.count }, (_, line) => this.network.label(line).toLowerCase());
+      const { count } = this.network.lines;
+      this.names = Array.from({ length: count }, (_, line) => this.network.label(line).toLowerCase());
     }
-    const tests = [(name) => name === words, (name) => name.startsWith(words), (name) => name.includes(words)];
+    const tests = [(name) => name === sought, (name) => name.startsWith(sought), (name) => name.includes(sought)];
     const taken = new Set();
     for (const test of tests) {
       for (let line = 0; line < this.names.length && hits.length < Search.MOST; line += 1) {
         if (taken.has(line) || !test(this.names[line])) continue;
         taken.add(line);
         const label = this.network.label(line);
-        hits.push({ words: `${label} · chain ${this.network.chainOf[line]}`, link: `line=${encodeURIComponent(label)}` });
+        const words = `${label} · chain ${this.network.chainOf[line]}`;
+        hits.push({ words, link: `line=${encodeURIComponent(label)}` });
       }
     }
     return hits;
@@ -57,8 +59,11 @@ class Search {
     this.hits = this.find(this.input.value);
     this.at = -1;
     const nothing = this.input.value.trim() !== '' && this.hits.length === 0;
-    const items = this.hits.map(({ words }, k) => make('li', { role: 'option', id: `found-${k}`, on: { click: () => this.take(k) } }, words));
-    this.found.replaceChildren(...items, ...(nothing ? [make('li', { class: 'nothing' }, 'Nothing has this name.')] : []));
+    const items = this.hits.map(({ words }, k) => {
+      return make('li', { role: 'option', id: `found-${k}`, on: { click: () => this.take(k) } }, words);
+    });
+    this.found.replaceChildren(...items);
+    if (nothing) this.found.append(make('li', { class: 'nothing' }, 'Nothing has this name.'));
     this.found.hidden = items.length === 0 && !nothing;
     this.input.setAttribute('aria-expanded', String(!this.found.hidden));
   }

@@ -107,7 +107,8 @@ class WhatIf {
     if (becomes === 'open') return ' At the stricter limit it takes a run to tell.';
     if (becomes !== 'falls') return null;
     const again = round === 0 && this.network.settings.tolerance > 0;
-    return ` Falls away at ${Words.limit(this.asked)}${again ? ', in round one; round two looks at its ends again' : ''}.`;
+    const more = again ? ', in round one; round two looks at its ends again' : '';
+    return ` Falls away at ${Words.limit(this.asked)}${more}.`;
   }
 
   // How many pairs stand, in words.
