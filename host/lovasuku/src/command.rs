@@ -9,7 +9,7 @@ use crate::outcome::{Outcome, Targets};
 use crate::page::{self, Page};
 use crate::progress::Progress;
 use crate::source::Source;
-use crate::store::{self, About, Reference};
+use crate::store::{About, Reference};
 use crate::storing;
 use crate::summary::{of_degrees, Summary};
 use crate::tally::{length_of, Tally};
@@ -17,7 +17,6 @@ use crate::writing::{self, Content, Output};
 use anyhow::{anyhow, Context, Error, Result};
 use lovasuku_chains::explain::Explained;
 use lovasuku_chains::{Dimension, Settings, Window};
-use std::path::Path;
 use std::time::Instant;
 
 /// Joins a delivery for each of several tolerances, which the requests differ in: reads it, builds the chains,
@@ -27,9 +26,11 @@ pub fn run(requests: &[Request]) -> Result<String> {
     let request = requests.first().context("nothing is asked for")?;
     let progress = Progress::new(!request.quiet);
     let targets: Vec<Targets> = requests.iter().map(Targets::of).collect::<Result<_>>()?;
-    let input = || name_of_input(request, |path| path.display().to_string());
-    let (source, text) = Source::read(request, &progress).with_context(input)?;
-    let (delivery, layer) = source.delivery(&text, request, &progress).with_context(input)?;
+    let wanted = request.wanted();
+    let input = || wanted.whole_name();
+    let (source, text) = Source::read(wanted, &progress).with_context(input)?;
+    let (delivery, layer) =
+        source.delivery(&text, &request.reading, &progress).with_context(input)?;
     let delivery = &delivery;
     let classes = &Classes::of(delivery, request.class.as_deref(), request.district.as_ref())
         .with_context(input)?;
@@ -159,20 +160,11 @@ fn look_at_parts(delivery: &Delivery, window: Option<Window>, chains: &mut [Chai
     }
 }
 
-/// The name of the input, by its path unless it is the standard input.
-pub fn name_of_input(request: &Request, name: impl Fn(&Path) -> String) -> String {
-    match request.input.to_str() {
-        Some("-") => "standard input".into(),
-        Some(connection) if store::is_database(connection) => store::shown(&request.input),
-        _ => name(&request.input),
-    }
-}
-
 /// The name of the input without its folder.
 pub fn short_name(request: &Request) -> String {
-    name_of_input(request, |path| {
-        path.file_name().unwrap_or(path.as_os_str()).to_string_lossy().into_owned()
-    })
+    request
+        .wanted()
+        .name(|path| path.file_name().unwrap_or(path.as_os_str()).to_string_lossy().into_owned())
 }
 
 /// Why the lines of chains are joined. The pieces of round one come from calls without a tolerance.

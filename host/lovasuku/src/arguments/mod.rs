@@ -8,6 +8,7 @@ mod zooms;
 
 use crate::delivery::{Heights, Point, Reading};
 use crate::districts::District;
+use crate::source::Wanted;
 use crate::store;
 use crate::writing::{Format, Keep};
 pub use check::CheckRequest;
@@ -56,6 +57,11 @@ pub struct Request {
 }
 
 impl Request {
+    /// What is to be read.
+    pub fn wanted(&self) -> Wanted<'_> {
+        Wanted { input: &self.input, reading: &self.reading, store: &self.store }
+    }
+
     /// The paths of all outputs.
     fn outputs(&self) -> Vec<&Path> {
         let others = [&self.bridges, &self.map, &self.page].map(Option::as_ref);

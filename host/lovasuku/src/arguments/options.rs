@@ -28,6 +28,7 @@ pub fn join() -> Command {
         .args(reading())
         .next_help_heading("Stores")
         .args(store())
+        .arg(into())
         .next_help_heading("Properties and lengths")
         .args(properties())
 }
@@ -162,7 +163,7 @@ pub(super) fn reading() -> [Arg; 5] {
     ]
 }
 
-fn store() -> [Arg; 5] {
+pub(super) fn store() -> [Arg; 4] {
     [
         named("layer").value_name("NAME").help("The layer or table of IN, where it has several"),
         named("sql")
@@ -174,12 +175,15 @@ fn store() -> [Arg; 5] {
         named("geometry")
             .value_name("COLUMN")
             .help("The column of geometry, where a layer has several"),
-        named("into")
-            .value_name("TABLE")
-            .default_value(CHAINS)
-            .help("The table that the chains are put into, where OUT is a database")
-            .long_help(help::INTO),
     ]
+}
+
+fn into() -> Arg {
+    named("into")
+        .value_name("TABLE")
+        .default_value(CHAINS)
+        .help("The table that the chains are put into, where OUT is a database")
+        .long_help(help::INTO)
 }
 
 fn properties() -> [Arg; 3] {

@@ -1,8 +1,10 @@
 //! The arguments of `lovasuku why`.
 
-use super::{help, options, reading, settings};
+use super::{help, options, reading, settings, store};
 use crate::delivery::Reading;
 use crate::districts::District;
+use crate::source::Wanted;
+use crate::store::Asked;
 use clap::{Arg, ArgMatches, Command};
 use lovasuku_chains::Settings;
 use std::path::PathBuf;
@@ -17,7 +19,16 @@ pub struct Question {
     pub class: Option<String>,
     pub district: Option<District>,
     pub reading: Reading,
+    /// What is asked of a store.
+    pub store: Asked,
     pub units: Option<String>,
+}
+
+impl Question {
+    /// What is to be read.
+    pub fn wanted(&self) -> Wanted<'_> {
+        Wanted { input: &self.input, reading: &self.reading, store: &self.store }
+    }
 }
 
 /// The subcommand.
@@ -33,7 +44,7 @@ pub fn command() -> Command {
             options::path("input")
                 .value_name("IN")
                 .required(true)
-                .help("The delivery that was joined, or - for the standard input"),
+                .help("The delivery that was joined, - for the standard input, or what GDAL reads"),
         )
         .arg(line("one", "The name of a line: its id, or its position"))
         .arg(line("other", "The name of another"))
@@ -41,6 +52,8 @@ pub fn command() -> Command {
         .args(options::with_one_tolerance())
         .next_help_heading("Reading")
         .args(options::reading())
+        .next_help_heading("Stores")
+        .args(options::store())
         .next_help_heading("Lengths")
         .arg(options::units())
 }
@@ -57,6 +70,7 @@ pub fn of(matches: &ArgMatches) -> Question {
         class: text("class"),
         district: matches.get_one::<District>("district").cloned(),
         reading: reading(matches),
+        store: store(matches),
         units: text("units"),
     }
 }

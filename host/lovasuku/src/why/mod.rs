@@ -5,30 +5,31 @@ pub mod words;
 use crate::arguments::Question;
 use crate::classes::Classes;
 use crate::command::{explained, lines};
-use crate::delivery::{self, Delivery, Geometry, Point};
+use crate::delivery::{Delivery, Geometry, Point};
 use crate::joining::{distance, join, Capacity, Chain, Line};
-use crate::measure::Measure;
+use crate::measure::{bounds, Measure};
 use crate::numbers::count;
 use crate::progress::Progress;
+use crate::source::Source;
 use anyhow::{bail, Context, Result};
 use lovasuku_chains::explain::{Explained, Meeting, Round};
 use lovasuku_chains::{Dimension, Refusal, Rooms, Settings};
 use std::fmt::Write;
-use std::path::Path;
 use words::{cell, label, place, Words};
 
 /// Answers a question, in sentences of a line each.
 pub fn run(question: &Question) -> Result<String> {
-    let input = || match question.input == Path::new("-") {
-        true => "standard input".into(),
-        false => question.input.display().to_string(),
-    };
+    let wanted = question.wanted();
+    let input = || wanted.whole_name();
     let progress = Progress::new(false);
-    let text = delivery::text(&question.input).with_context(input)?;
-    let delivery = &delivery::read(&text, &question.reading, &progress).with_context(input)?;
+    let (source, text) = Source::read(wanted, &progress).with_context(input)?;
+    let (delivery, layer) =
+        source.delivery(&text, &question.reading, &progress).with_context(input)?;
+    let delivery = &delivery;
     let classes = &Classes::of(delivery, question.class.as_deref(), question.district.as_ref())
         .with_context(input)?;
-    let measure = &Measure::of(delivery, question.units.as_deref());
+    let unit = layer.and_then(|layer| layer.unit(bounds(delivery)));
+    let measure = &Measure::of(delivery, question.units.as_deref().or(unit.as_deref()));
     let parts = question.reading.explode;
     let asked = [
         found(delivery, &question.lines[0], parts).with_context(input)?,
