@@ -59,7 +59,7 @@ class Moving(Pages):
         canvas.send_keys("0")
         self.assertEqual(self.view()[2], 1)
         canvas.send_keys(Keys.ESCAPE)
-        self.assertIsNone(self.heading())
+        self.shows(None)
 
     def test_buttons_zoom(self):
         self.yard()
@@ -92,6 +92,7 @@ class Moving(Pages):
         self.tap(middle(LINES["H9"]))
         self.shows("Chain 2")
         self.find("#home").click()
+        self.shows(None)
         self.find("#all").click()
         self.painted()
         self.tap([1180.4, 812.6])

@@ -121,6 +121,7 @@ class Telling(Pages):
         self.assertIn("Falls away at limit", told)
         self.assertIn("in round one; round two looks at its ends again", told)
         self.find(".back").click()
+        self.shows(None)
         # One pair goes on straight, to the last bit.
         straight = self.script(slide, 0)
         self.assertTrue(straight.startswith("1 of 4 selected pairs stand, 3 fall away."), straight)

@@ -201,13 +201,15 @@ fn pieces(call: &BuildCall) -> Vec<Piece> {
         let from = if source == 0 { &call.coordinates } else { &built.merged };
         let run = from.chunks(call.stride()).skip(at).take(points).map(|p| [p[0], p[1]]).collect();
         let group = call.groups[head as usize];
-        (!call.passes(head as usize)).then(|| Piece { number, group, run, ends })
+        (!call.passes(head as usize)).then_some(Piece { number, group, run, ends })
     };
     built.table.iter().zip(0..).filter_map(piece).collect()
 }
 
-/// Ends with their floats as bits.
-fn bits(ends: &[End]) -> Vec<(u32, bool, u32, [u64; 2], Option<[u64; 2]>)> {
+/// An end with its floats as bits.
+type Bits = (u32, bool, u32, [u64; 2], Option<[u64; 2]>);
+
+fn bits(ends: &[End]) -> Vec<Bits> {
     let words = |floats: [f64; 2]| floats.map(f64::to_bits);
     let end = |end: &End| {
         let direction = end.direction.map(words);
