@@ -12,7 +12,7 @@ use answers::{BuildCall, CheckCall, TYPES};
 use compare::checks::compare_check;
 use compare::room::{Dirt, Room};
 use compare::{Door, Library};
-use lovasuku_chains::large::{self, Capacity, CheckFault};
+use lovasuku_chains::large::{self, Capacity};
 use lovasuku_chains::{Delivered, Dimension, Lines, Refusal, Settings};
 use std::collections::BTreeMap;
 
@@ -165,7 +165,7 @@ fn large_networks() {
 }
 
 /// The verdict of the safe crate in batches of few lines.
-fn in_batches(call: &CheckCall, capacity: Capacity) -> Result<(), CheckFault> {
+fn in_batches(call: &CheckCall, capacity: Capacity) -> Result<Vec<u32>, Refusal> {
     let floats = |bits: &[u64]| -> Vec<f64> { bits.iter().map(|&b| f64::from_bits(b)).collect() };
     let BuildCall { wkb_type, counts, groups, kinds, tolerance, origin, .. } = &call.lines;
     let (coordinates, merged) = (floats(&call.lines.coordinates), floats(&call.merged));
@@ -183,7 +183,7 @@ fn in_batches(call: &CheckCall, capacity: Capacity) -> Result<(), CheckFault> {
 #[test]
 fn batches_judge_as_one_call_does() {
     let mut random = Random::new(124);
-    let (mut verdicts, mut too_large) = ([0; 3], 0);
+    let (mut verdicts, mut beyond) = ([0; 3], 0);
     for _ in 0..4_000 {
         let (_, make) = random.pick(&BUILDING[1..6]);
         let lines = 20 + random.below(30);
@@ -192,24 +192,19 @@ fn batches_judge_as_one_call_does() {
         if call.table.len() as u64 != 6 * call.k {
             continue;
         }
-        let one = match judged(&call, usize::MAX).refusal() {
-            Ok(()) => 0,
-            Err(refusal) => refusal.0,
-        };
+        let one = judged(&call, usize::MAX).refusal();
         match in_batches(&call, Capacity { lines: 12, points: 60 }) {
-            Err(CheckFault::TooLarge { .. }) => too_large += 1,
-            Err(CheckFault::Refused(refusal)) => {
-                assert_eq!(refusal.number(), i64::from(one), "{name}\n{call}");
+            Err(refusal) => {
+                let number = one.map_or_else(|refusal| i64::from(refusal.0), |()| 0);
+                assert_eq!(refusal.number(), number, "{name}\n{call}");
                 verdicts[if refusal == Refusal::NotAcceptable { 1 } else { 2 }] += 1;
             }
-            Ok(()) => {
-                assert_eq!(one, 0, "{name}\n{call}");
+            Ok(chains) => {
+                assert_eq!(one, Ok(()), "{name}\n{call}");
                 verdicts[0] += 1;
+                beyond += usize::from(!chains.is_empty());
             }
         }
     }
-    assert!(
-        verdicts.iter().all(|&times| times > 20) && too_large < 3_000,
-        "{verdicts:?} {too_large}"
-    );
+    assert!(verdicts.iter().all(|&times| times > 20) && beyond > 20, "{verdicts:?} {beyond}");
 }

@@ -42,6 +42,7 @@
 //! | carry heights and measures along | [`Dimension`], in [`Lines`] and [`LinesBuf::of`] |
 //! | keep the chains, as tylertoo does | [`build_chains`] |
 //! | join more lines than a call holds, with what joined them and the gaps left | [`large`] |
+//! | tell why each two lines of a chain are joined, and why others are not | [`explain`] |
 //! | look for ends near one another | [`Nearest`] |
 //! | lend rooms of one's own | [`door`] |
 //!
@@ -57,6 +58,7 @@ mod checking;
 mod declared;
 mod dimension;
 pub mod door;
+pub mod explain;
 mod finding;
 pub mod large;
 mod lines;

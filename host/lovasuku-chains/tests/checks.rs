@@ -1,6 +1,6 @@
 //! Chains made elsewhere: what is accepted, what is not, and what is found wrong with it.
 
-use lovasuku_chains::large::{self, check_batches, Capacity, CheckFault};
+use lovasuku_chains::large::{self, check_batches, Capacity};
 use lovasuku_chains::{
     find, Delivered, DeliveredBuf, Dimension, LinesBuf, Refusal, Rooms, Settings,
 };
@@ -233,9 +233,9 @@ fn more_than_a_call_holds_is_checked_in_batches() {
     let (lines, chains) = network(60, 100);
     let (lines, settings) = (lines.lines(), Settings::default());
     let capacity = Capacity::default();
-    let batches = check_batches(lines, chains.delivered(), capacity).unwrap();
-    assert!(batches.len() > 2, "{}", batches.len());
-    assert_eq!(large::check(lines, chains.delivered(), settings, capacity), Ok(()));
+    let cut = check_batches(lines, chains.delivered(), capacity).unwrap();
+    assert!(cut.batches.len() > 2 && cut.beyond.is_empty(), "{}", cut.batches.len());
+    assert_eq!(large::check(lines, chains.delivered(), settings, capacity), Ok(vec![]));
     let one = Rooms::default().check(lines, chains.delivered(), settings);
     assert_eq!(one, Err(Refusal::TooMany));
 
@@ -254,24 +254,40 @@ fn more_than_a_call_holds_is_checked_in_batches() {
         twice.push(listing, (0..=100).map(|x| [f64::from(x), f64::from(k)]));
     }
     let sentence = "chain 59, line 0: it stands in chain 0 already";
-    let not = Err(CheckFault::Refused(Refusal::NotAcceptable));
-    assert_eq!(refused(&twice), (not, sentence.to_string()));
+    let not = || Err(Refusal::NotAcceptable);
+    assert_eq!(refused(&twice), (not(), sentence.to_string()));
     // A chain is missing, and so are its lines.
     let mut missing = DeliveredBuf::default();
     for k in 0..59 {
         let listing = own.listing[100 * k..100 * (k + 1)].iter().copied();
         missing.push(listing, (0..=100).map(|x| [f64::from(x), k as f64]));
     }
-    assert_eq!(refused(&missing), (not, "line 59: it stands in no chain".to_string()));
+    assert_eq!(refused(&missing), (not(), "line 59: it stands in no chain".to_string()));
 }
 
 #[test]
-fn a_chain_that_no_call_holds() {
+fn a_chain_that_no_call_holds_is_judged_without_one() {
     let (lines, chains) = network(3, 2_100);
-    let settings = Settings::default();
-    let checked = large::check(lines.lines(), chains.delivered(), settings, Capacity::default());
-    let large = CheckFault::TooLarge { chain: 0, lines: 2_100, points: 4_200 };
-    assert_eq!(checked, Err(large));
-    // What is found needs no call.
-    assert_eq!(find(lines.lines(), chains.delivered(), settings), None);
+    let (lines, settings) = (lines.lines(), Settings::default());
+    let check =
+        |chains: Delivered, settings| large::check(lines, chains, settings, Capacity::default());
+    assert_eq!(check(chains.delivered(), settings), Ok(vec![0, 1, 2]));
+    assert_eq!(find(lines, chains.delivered(), settings), None);
+    let mut moved = chains.delivered().merged.to_vec();
+    moved[3_000] += 0.5;
+    let moved = Delivered { merged: &moved, ..chains.delivered() };
+    assert_eq!(check(moved, settings), Err(Refusal::NotAcceptable));
+    let adrift = settings.with_origin([f64::INFINITY, 0.0]);
+    assert_eq!(check(chains.delivered(), adrift), Err(Refusal::BadOrigin));
+    // A line of more points than a call holds, which stands alone; with a place that is none.
+    let mut long = LinesBuf::default();
+    long.push((0..40_000).map(|k| [f64::from(k), 0.0]), 0);
+    let mut alone = DeliveredBuf::default();
+    alone.push([0], (0..40_000).map(|k| [f64::from(k), 0.0]));
+    let checked = large::check(long.lines(), alone.delivered(), settings, Capacity::default());
+    assert_eq!(checked, Ok(vec![0]));
+    let mut lost = LinesBuf::default();
+    lost.push((0..40_000).map(|k| [f64::from(k), 0.0 / f64::from(k - 7)]), 0);
+    let checked = large::check(lost.lines(), alone.delivered(), settings, Capacity::default());
+    assert_eq!(checked, Err(Refusal::NoPlace));
 }

@@ -3,19 +3,20 @@
 use crate::arguments::Request;
 use crate::classes::Classes;
 use crate::delivery::{Delivery, Geometry};
-use crate::joining::{gaps, zooms, Chain, Fault, Line};
+use crate::joining::{gaps, join, zooms, Capacity, Chain, Fault, Line};
 use crate::measure::{bounds, extent, Measure};
 use crate::outcome::{Outcome, Targets};
+use crate::page::{self, Page};
 use crate::progress::Progress;
 use crate::source::Source;
-use crate::store::{self, About, Reference};
+use crate::store::{About, Reference};
 use crate::storing;
 use crate::summary::{of_degrees, Summary};
 use crate::tally::{length_of, Tally};
-use crate::writing;
+use crate::writing::{self, Content, Output};
 use anyhow::{anyhow, Context, Error, Result};
-use lovasuku_chains::Window;
-use std::path::Path;
+use lovasuku_chains::explain::Explained;
+use lovasuku_chains::{Dimension, Settings, Window};
 use std::time::Instant;
 
 /// Joins a delivery for each of several tolerances, which the requests differ in: reads it, builds the chains,
@@ -25,9 +26,11 @@ pub fn run(requests: &[Request]) -> Result<String> {
     let request = requests.first().context("nothing is asked for")?;
     let progress = Progress::new(!request.quiet);
     let targets: Vec<Targets> = requests.iter().map(Targets::of).collect::<Result<_>>()?;
-    let input = || name_of_input(request, |path| path.display().to_string());
-    let (source, text) = Source::read(request, &progress).with_context(input)?;
-    let (delivery, layer) = source.delivery(&text, request, &progress).with_context(input)?;
+    let wanted = request.wanted();
+    let input = || wanted.whole_name();
+    let (source, text) = Source::read(wanted, &progress).with_context(input)?;
+    let (delivery, layer) =
+        source.delivery(&text, &request.reading, &progress).with_context(input)?;
     let delivery = &delivery;
     let classes = &Classes::of(delivery, request.class.as_deref(), request.district.as_ref())
         .with_context(input)?;
@@ -44,7 +47,13 @@ pub fn run(requests: &[Request]) -> Result<String> {
         _ => (None, None),
     };
     let reference = layer.as_ref().map_or(named.as_ref(), |layer| layer.reference.as_ref());
-    let given = Given { delivery, measure, lines: &lines, layer: layer.as_ref(), reference };
+    let checksum = match targets.iter().any(|targets| targets.page.is_some()) {
+        true => page::checksum(&request.input, &text, layer.as_ref().map(|_| delivery)),
+        false => Ok(String::new()),
+    };
+    let checksum = &checksum.with_context(input)?;
+    let (lines, layer) = (&lines, layer.as_ref());
+    let given = Given { delivery, classes, measure, lines, layer, reference, checksum };
     let zooms = requests.iter().zip(zooms).map(|(request, chains)| given.zoom(request, chains));
     let zooms: Vec<Zoom> = zooms.collect();
     let warnings = given.put(&zooms, &targets, &progress)?;
@@ -62,11 +71,14 @@ pub fn run(requests: &[Request]) -> Result<String> {
 #[derive(Clone, Copy)]
 struct Given<'a> {
     delivery: &'a Delivery<'a>,
+    classes: &'a Classes<'a>,
     measure: &'a Measure,
     lines: &'a [Line<'a>],
     /// The layer that the lines came from, and the reference system of their coordinates.
     layer: Option<&'a About>,
     reference: Option<&'a Reference>,
+    /// The checksum of the input, where a page is asked for.
+    checksum: &'a str,
 }
 
 /// What one tolerance came to.
@@ -100,14 +112,30 @@ impl<'a> Given<'a> {
         for (zoom, (outcome, targets)) in outcomes.iter().zip(targets).enumerate() {
             let (more, mut told) = outcome.outputs(targets, progress);
             told.extend(of_degrees(self.measure, outcome.request.settings.tolerance));
-            of.extend(more.iter().map(|_| zoom));
             outputs.extend(more);
+            if let Some(target) = targets.page.clone() {
+                let text = self.page(&zooms[zoom], progress)?;
+                told.extend(page::of_size(text.len()));
+                outputs.push(Output { target, content: Content::Text(text) });
+            }
+            of.resize(outputs.len(), zoom);
             warnings.push(told);
         }
         for (zoom, told) in of.into_iter().zip(writing::put(&outputs)?) {
             warnings[zoom].extend(told);
         }
         Ok(warnings)
+    }
+
+    /// The page of one tolerance.
+    fn page(self, zoom: &Zoom, progress: &Progress) -> Result<Vec<u8>> {
+        let Given { delivery, classes, measure, lines, checksum, .. } = self;
+        let Zoom { request, chains, tally, .. } = zoom;
+        let explained = &explained(lines, chains, request.settings, progress)?;
+        let name = &short_name(request);
+        let page =
+            Page { name, checksum, request, delivery, classes, measure, chains, tally, explained };
+        Ok(page.text()?)
     }
 
     fn outcome<'o>(self, zoom: &'o Zoom) -> Outcome<'o>
@@ -132,16 +160,30 @@ fn look_at_parts(delivery: &Delivery, window: Option<Window>, chains: &mut [Chai
     }
 }
 
-/// The name of the input, by its path unless it is the standard input.
-pub fn name_of_input(request: &Request, name: impl Fn(&Path) -> String) -> String {
-    match request.input.to_str() {
-        Some("-") => "standard input".into(),
-        Some(connection) if store::is_database(connection) => store::shown(&request.input),
-        _ => name(&request.input),
-    }
+/// The name of the input without its folder.
+pub fn short_name(request: &Request) -> String {
+    request
+        .wanted()
+        .name(|path| path.file_name().unwrap_or(path.as_os_str()).to_string_lossy().into_owned())
 }
 
-fn lines<'d>(delivery: &'d Delivery, classes: &Classes) -> Vec<Line<'d>> {
+/// Why the lines of chains are joined. The pieces of round one come from calls without a tolerance.
+pub fn explained(
+    lines: &[Line],
+    chains: &[Chain],
+    settings: Settings,
+    progress: &Progress,
+) -> Result<Explained> {
+    let exact = (settings.with_tolerance(0.0), None);
+    let pieces = match settings.tolerance > 0.0 {
+        true => join(Dimension::Xy, lines, exact, Capacity::default(), progress)?,
+        false => Vec::new(),
+    };
+    Ok(Explained::of(lines, chains, &pieces, settings)?)
+}
+
+/// The lines to be joined, by their classes.
+pub fn lines<'d>(delivery: &'d Delivery, classes: &Classes) -> Vec<Line<'d>> {
     let line = |(geometry, &group): (&'d Geometry, &u32)| match geometry {
         Geometry::Line(run) => Line { points: Some(&run.points), extras: &run.heights, group },
         Geometry::Lines(_) | Geometry::Other(_) => Line { points: None, extras: &[], group },

@@ -1,7 +1,7 @@
 //! Runs the command; see `lovasuku --help`.
 
 use lovasuku_command::arguments::{asked, Asked, Request};
-use lovasuku_command::{checking, command, manual};
+use lovasuku_command::{checking, command, manual, why};
 use std::io::Write;
 use std::process::ExitCode;
 
@@ -9,6 +9,8 @@ fn main() -> ExitCode {
     let done = match asked() {
         Asked::Join(requests) => join(&requests),
         Asked::Check(request) => return checking::main(&request),
+        Asked::Why(question) => why::run(&question)
+            .and_then(|answer| Ok(std::io::stdout().lock().write_all(answer.as_bytes())?)),
         Asked::Manual(page) => manual::page(page.as_deref())
             .and_then(|page| Ok(std::io::stdout().lock().write_all(&page)?)),
     };

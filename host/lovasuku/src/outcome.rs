@@ -1,7 +1,7 @@
 //! What a run came to, and its outputs.
 
 use crate::arguments::Request;
-use crate::command::name_of_input;
+use crate::command::short_name;
 use crate::delivery::object::Object;
 use crate::delivery::{Delivery, Heights};
 use crate::joining::Chain;
@@ -22,6 +22,7 @@ pub struct Targets {
     chains: (Target, Option<Store>),
     bridges: Option<(Target, Option<Store>)>,
     map: Option<Target>,
+    pub page: Option<Target>,
 }
 
 /// The tables of chains and of bridges in a database. Where that of chains has another name, that of
@@ -46,6 +47,7 @@ impl Targets {
             chains: layers(&request.output, &request.into)?,
             bridges: bridges.transpose()?,
             map: request.map.as_deref().map(Target::of).transpose()?,
+            page: request.page.as_deref().map(Target::of).transpose()?,
         })
     }
 
@@ -153,11 +155,8 @@ impl Outcome<'_> {
     }
 
     fn map(&self) -> Vec<u8> {
-        let name = name_of_input(self.request, |path| {
-            path.file_name().unwrap_or(path.as_os_str()).to_string_lossy().into_owned()
-        });
         map(&Sheet {
-            name: &name,
+            name: &short_name(self.request),
             settings: &settings_in_words(self.request, self.measure),
             cells: cells(self.request),
             arrows: self.request.arrows,

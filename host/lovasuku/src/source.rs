@@ -1,13 +1,37 @@
 //! Where a delivery is read from: a text of GeoJSON, or a layer of a store.
 
-use crate::arguments::Request;
-use crate::delivery::{self, formats, Delivery};
+use crate::delivery::{self, formats, Delivery, Reading};
 use crate::progress::Progress;
-use crate::store::{self, About, Dataset, Rows};
+use crate::store::{self, About, Asked, Dataset, Rows};
 use anyhow::{ensure, Context, Result};
 use std::fs::File;
 use std::io::Read;
 use std::path::Path;
+
+/// What is to be read, and how.
+#[derive(Clone, Copy)]
+pub struct Wanted<'a> {
+    pub input: &'a Path,
+    pub reading: &'a Reading,
+    /// What is asked of a store.
+    pub store: &'a Asked,
+}
+
+impl Wanted<'_> {
+    /// The name of the input, by its path unless it is the standard input or a database.
+    pub fn name(&self, name: impl Fn(&Path) -> String) -> String {
+        match self.input.to_str() {
+            Some("-") => "standard input".into(),
+            Some(connection) if store::is_database(connection) => store::shown(self.input),
+            _ => name(self.input),
+        }
+    }
+
+    /// The whole name of the input.
+    pub fn whole_name(&self) -> String {
+        self.name(|path| path.display().to_string())
+    }
+}
 
 /// A delivery that was read from its source, but for what its texts say.
 pub enum Source {
@@ -21,11 +45,10 @@ pub enum Source {
 const START: u64 = 512;
 
 impl Source {
-    /// Reads the input of a request into a text: GeoJSON as it is, or the ids and properties of a
-    /// layer.
-    pub fn read(request: &Request, progress: &Progress) -> Result<(Self, String)> {
-        let (name, what) = match store_of(request)? {
-            None => return Ok((Source::Text, delivery::text(&request.input)?)),
+    /// Reads what is wanted into a text: GeoJSON as it is, or the ids and properties of a layer.
+    pub fn read(wanted: Wanted, progress: &Progress) -> Result<(Self, String)> {
+        let (name, what) = match store_of(wanted)? {
+            None => return Ok((Source::Text, delivery::text(wanted.input)?)),
             Some(store) => store,
         };
         let opened = Dataset::open(&name, false);
@@ -34,8 +57,8 @@ impl Source {
             None => opened?,
         };
         let mut text = Vec::new();
-        let heights = request.reading.heights;
-        let rows = store::read(&dataset, &request.store, heights, &mut text, progress)?;
+        let heights = wanted.reading.heights;
+        let rows = store::read(&dataset, wanted.store, heights, &mut text, progress)?;
         let text = String::from_utf8(text).context("its texts are not UTF-8")?;
         Ok((Source::Layer(Box::new(rows)), text))
     }
@@ -44,22 +67,22 @@ impl Source {
     pub fn delivery<'a>(
         self,
         text: &'a str,
-        request: &Request,
+        reading: &Reading,
         progress: &Progress,
     ) -> Result<(Delivery<'a>, Option<About>)> {
         match self {
-            Source::Text => Ok((delivery::read(text, &request.reading, progress)?, None)),
-            Source::Layer(rows) => rows
-                .delivery(text, &request.reading)
-                .map(|(delivery, about)| (delivery, Some(about))),
+            Source::Text => Ok((delivery::read(text, reading, progress)?, None)),
+            Source::Layer(rows) => {
+                rows.delivery(text, reading).map(|(delivery, about)| (delivery, Some(about)))
+            }
         }
     }
 }
 
 /// The name by which GDAL knows the input, where it is to be read from a store, and what it is, where its
 /// first bytes tell that.
-fn store_of(request: &Request) -> Result<Option<(String, Option<&'static str>)>> {
-    let (path, asked) = (&request.input, !request.store.is_nothing());
+fn store_of(wanted: Wanted) -> Result<Option<(String, Option<&'static str>)>> {
+    let (path, asked) = (wanted.input, !wanted.store.is_nothing());
     if path == Path::new("-") {
         ensure!(!asked, "--layer, --sql, --where and --geometry are for files and databases");
         return Ok(None);

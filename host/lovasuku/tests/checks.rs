@@ -287,6 +287,26 @@ fn many_lines() {
     assert!(told.starts_with("chain 89, line \"0\": it stands in chain 0 already"), "{told}");
 }
 
+/// A chain of more lines than a call holds is judged by the command's own search, which the verdict tells.
+#[test]
+fn a_chain_that_no_call_holds() {
+    let line = |k: usize| (k.to_string(), json!([[k, 500], [k + 1, 500]]));
+    let all: Vec<(String, Value)> = (0..2_500).map(line).collect();
+    let text: Vec<String> = all.iter().map(|(id, line)| lines(&[(id, "", line.clone())])).collect();
+    let (text, ids) = (text.join("\n"), all.iter().map(|(id, _)| id.clone()));
+    let path: Vec<String> = ids.collect();
+    let positions = |last: usize| json!((0..=last).map(|k| [k, 500]).collect::<Vec<_>>());
+    let whole = chains(&[(json!(path), positions(2_500))]);
+    let run = check(&whole, &text, &[]);
+    let told =
+        "accepted: 1 chain of 2,500 lines, tolerance 0; 1 chain of more lines or positions than a \
+                call holds, judged without one\n";
+    assert_eq!((run.status, &run.out[..]), (0, told));
+    let short = chains(&[(json!(path), positions(2_499))]);
+    let ends = "chain 0, line \"2499\": the chain ends after 2500 positions, before the line does";
+    assert_eq!(self::told(&short, &text, &[]), ends);
+}
+
 #[test]
 fn the_manual_and_the_help_have_the_same_options() {
     let page = run(&["manual", "check"], "").out;

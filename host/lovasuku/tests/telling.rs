@@ -12,10 +12,12 @@ fn the_usage_is_that_of_the_subcommand() {
         &["join", "-", "-o", "-", "--map", "-"][..],
         &["join", "-", "-o", "-", "--nothing"],
         &["join", "-"],
+        &["why", "-", "H1"],
     ] {
         let run = run(args, "");
         assert_eq!(run.status, 2);
-        assert!(run.err.contains("Usage: lovasuku join "), "{args:?}: {}", run.err);
+        let usage = format!("Usage: lovasuku {} ", args[0]);
+        assert!(run.err.contains(&usage), "{args:?}: {}", run.err);
     }
 }
 
@@ -116,17 +118,20 @@ fn the_manual_has_every_option_of_the_help() {
         assert_eq!((run.status, &run.err[..]), (0, ""), "{args:?}");
         run.out
     };
-    let (page, help) = (run_of(&["manual", "join"]), run_of(&["join", "--help"]));
-    assert!(page.contains(".TH LOVASUKU-JOIN 1"), "{page}");
-    let options: Vec<&str> = help
-        .split_whitespace()
-        .filter(|word| word.starts_with("--") && word.len() > 2)
-        .map(|word| word.trim_end_matches([',', ')', '.', ':', ']', ';']))
-        .collect();
-    assert!(options.len() > 15, "{options:?}");
-    for option in options {
-        assert!(page.contains(&option.replace('-', "\\-")), "{option}: {page}");
+    for (name, most) in [("join", 15), ("why", 10)] {
+        let (page, help) = (run_of(&["manual", name]), run_of(&[name, "--help"]));
+        assert!(page.contains(&format!(".TH LOVASUKU-{} 1", name.to_uppercase())), "{page}");
+        let options: Vec<&str> = help
+            .split_whitespace()
+            .filter(|word| word.starts_with("--") && word.len() > 2)
+            .map(|word| word.trim_end_matches([',', ')', '.', ':', ']', ';', '`']))
+            .collect();
+        assert!(options.len() > most, "{options:?}");
+        for option in options {
+            assert!(page.contains(&option.replace('-', "\\-")), "{option}: {page}");
+        }
     }
+    let page = run_of(&["manual", "join"]);
     for words in [".SH NAME", ".SH SYNOPSIS", ".SH DESCRIPTION", ".SH JOINING", "14.1 apart"] {
         assert!(page.contains(words), "{words}: {page}");
     }

@@ -1,15 +1,13 @@
-//! Checking beyond one call: chains made elsewhere, of any number.
+//! Checking beyond one call: chains made elsewhere, of any number and size.
 //!
-//! What fits one call is one call. A larger delivery is cut: chains that list a line in common, directly or
-//! over others, go into one call with all their lines, and a line that no chain lists goes into some call
-//! too. So every line is in exactly one call, with every chain that lists it, and the chains are acceptable
-//! exactly where the library accepts each call.
+//! What fits one call is one call. A larger delivery is cut between chains: each call is given some of them with
+//! the lines that they list. That every line is listed once is counted here, so that every line is in one call
+//! with its chain, and the chains are acceptable exactly where the library accepts each call. A chain that no call
+//! can hold is judged by [`find`](crate::find), without the library.
 
-use super::{Capacity, Lowest};
-use crate::size::BORDER;
-use crate::{Delivered, DeliveredBuf, Lines, LinesBuf, Refusal, Rooms, Settings};
-use std::error::Error;
-use std::fmt;
+use super::Capacity;
+use crate::size::{BORDER, POINT};
+use crate::{find, Delivered, DeliveredBuf, Lines, LinesBuf, Points, Refusal, Rooms, Settings};
 
 /// What one call is given: positions of chains and of lines, ascending.
 #[derive(Clone, Debug, Default, PartialEq)]
@@ -20,137 +18,94 @@ pub struct CheckBatch {
     pub lines: Vec<u32>,
 }
 
-impl CheckBatch {
-    fn in_order(mut self) -> Self {
-        self.chains.sort_unstable();
-        self.lines.sort_unstable();
-        self
-    }
+/// A delivery that is cut.
+#[derive(Clone, Debug, Default, PartialEq)]
+pub struct CheckBatches {
+    /// What each call is given.
+    pub batches: Vec<CheckBatch>,
+    /// The chains that no call can hold.
+    pub beyond: Vec<u32>,
 }
 
-/// Why chains were not accepted, or not checked.
-#[derive(Clone, Copy, Debug, PartialEq, Eq)]
-pub enum CheckFault {
-    /// A chain, with others that list lines of it, has more lines than a call may be given.
-    TooLarge {
-        /// The position of the first of these chains.
-        chain: usize,
-        /// The number of their lines.
-        lines: usize,
-        /// The number of these lines' points.
-        points: usize,
-    },
-    /// The library refused a call.
-    Refused(Refusal),
-}
-
-impl fmt::Display for CheckFault {
-    fn fmt(&self, f: &mut fmt::Formatter<'_>) -> fmt::Result {
-        match self {
-            CheckFault::TooLarge { chain, lines, points } => write!(
-                f,
-                "chain {chain}, with those that list lines of it, has {lines} lines with {points} points, \
-                 which are more than one call holds of a district"
-            ),
-            CheckFault::Refused(refusal) => refusal.fmt(f),
-        }
-    }
-}
-
-impl Error for CheckFault {}
-
-impl From<Refusal> for CheckFault {
-    fn from(refusal: Refusal) -> Self {
-        CheckFault::Refused(refusal)
-    }
-}
-
-/// How many batches the lines of a full call are spread over where there are more than one call holds.
+/// How many batches the lines of a full call are spread over where there are more than one call holds, so that
+/// every core has work till the end.
 const SPREAD: usize = 4;
 
 /// Checks chains made elsewhere, one batch after another, as [`Rooms::check`] does. No call gets more of a
-/// district than the capacity.
+/// district than the capacity. Gives the chains that no call can hold, which were judged without the library.
 ///
 /// # Errors
 ///
-/// The refusal of the first batch that is refused, with 23 before all others of batches; or a chain that no
-/// call can hold. [`find`](crate::find) tells the first chain and line that is at fault.
+/// The first refusal. [`find`](crate::find) tells the first chain and line that is at fault.
 pub fn check(
     lines: Lines<'_>,
     chains: Delivered<'_>,
     settings: Settings,
     capacity: Capacity,
-) -> Result<(), CheckFault> {
+) -> Result<Vec<u32>, Refusal> {
     let mut checker = Checker::new(lines, chains, settings);
-    let batches = check_batches(lines, chains, capacity)?;
-    batches.iter().try_for_each(|batch| checker.check(batch)).map_err(CheckFault::from)
+    let CheckBatches { batches, beyond } = check_batches(lines, chains, capacity)?;
+    batches.iter().try_for_each(|batch| checker.check(batch))?;
+    checker.check_beyond(&beyond)?;
+    Ok(beyond)
 }
 
-/// Cuts chains and lines into batches. There is one batch where one call holds all.
+/// Cuts chains and lines into batches. There is one batch where one call holds all, whatever they are.
 ///
 /// # Errors
 ///
-/// What no call can hold, and [`Refusal::BadRecord`] where there are several batches and a record cannot be
-/// read.
+/// Where there are several batches: [`Refusal::BadRecord`] where a record cannot be read, and
+/// [`Refusal::NotAcceptable`] where a line does not stand in exactly one chain, once.
 pub fn check_batches(
     lines: Lines<'_>,
     chains: Delivered<'_>,
     capacity: Capacity,
-) -> Result<Vec<CheckBatch>, CheckFault> {
+) -> Result<CheckBatches, Refusal> {
     let all = CheckBatch {
         chains: (0..chains.len() as u32).collect(),
         lines: (0..lines.len() as u32).collect(),
     };
     if within(shares(lines, &all.lines), capacity) {
-        return Ok(vec![all]);
+        return Ok(CheckBatches { batches: vec![all], beyond: Vec::new() });
     }
     let full = Capacity { lines: capacity.lines / SPREAD, points: capacity.points / SPREAD };
-    let mut batches: Vec<(CheckBatch, [Capacity; 2])> = Vec::new();
-    for component in components(lines, chains)? {
-        let more = shares(lines, &component.lines);
-        if !within(more, capacity) {
-            return Err(too_large(&component, more));
-        }
-        match batches.last_mut() {
-            Some((batch, so_far)) if within(sum(*so_far, more), full) => {
-                batch.chains.extend(component.chains);
-                batch.lines.extend(component.lines);
-                *so_far = sum(*so_far, more);
+    let mut cut = CheckBatches::default();
+    let mut so_far = shares(lines, &[]);
+    for (chain, listed) in listed_once(lines, chains)?.into_iter().enumerate() {
+        let more = shares(lines, listed);
+        match cut.batches.last_mut() {
+            _ if !within(more, capacity) => cut.beyond.push(chain as u32),
+            Some(batch) if within(sum(so_far, more), full) => {
+                batch.chains.push(chain as u32);
+                batch.lines.extend(listed);
+                so_far = sum(so_far, more);
             }
-            _ => batches.push((component, more)),
+            _ => {
+                let (chains, lines) = (vec![chain as u32], listed.to_vec());
+                cut.batches.push(CheckBatch { chains, lines });
+                so_far = more;
+            }
         }
     }
-    Ok(batches.into_iter().map(|(batch, _)| batch.in_order()).collect())
+    cut.batches.iter_mut().for_each(|batch| batch.lines.sort_unstable());
+    Ok(cut)
 }
 
-/// The lines that hang together by the chains that list them, with these chains; and behind them all
-/// chains that list none.
-fn components(lines: Lines<'_>, chains: Delivered<'_>) -> Result<Vec<CheckBatch>, Refusal> {
-    let mut lowest = Lowest::new(lines.len());
-    let mut listed: Vec<Option<usize>> = Vec::with_capacity(chains.len());
-    for chain in 0..chains.len() {
-        let (own, _) = chains.named(lines, chain).ok_or(Refusal::BadRecord)?;
-        own.windows(2).for_each(|two| lowest.unite(two[0] as usize, two[1] as usize));
-        listed.push(own.first().map(|&line| line as usize));
-    }
-    let mut places: Vec<usize> = Vec::with_capacity(lines.len());
-    let mut components: Vec<CheckBatch> = Vec::new();
-    for line in 0..lines.len() {
-        let first = lowest.of(line);
-        let place = places.get(first).copied().unwrap_or(components.len());
-        places.push(place);
-        if place == components.len() {
-            components.push(CheckBatch::default());
+/// The lines that each chain lists, where every line is listed once.
+fn listed_once<'a>(lines: Lines<'a>, chains: Delivered<'a>) -> Result<Vec<&'a [u32]>, Refusal> {
+    let listed =
+        (0..chains.len()).map(|chain| chains.named(lines, chain).map(|(listed, _)| listed));
+    let listed: Vec<&[u32]> = listed.collect::<Option<_>>().ok_or(Refusal::BadRecord)?;
+    let mut times = vec![0u32; lines.len()];
+    for &line in listed.iter().copied().flatten() {
+        if let Some(times) = times.get_mut(line as usize) {
+            *times = times.saturating_add(1);
         }
-        components[place].lines.push(line as u32);
     }
-    let mut without = CheckBatch::default();
-    for (chain, line) in listed.into_iter().enumerate() {
-        let component = line.map_or(&mut without, |line| &mut components[places[line]]);
-        component.chains.push(chain as u32);
+    match times.iter().all(|&times| times == 1) {
+        true => Ok(listed),
+        false => Err(Refusal::NotAcceptable),
     }
-    components.extend((!without.chains.is_empty()).then_some(without));
-    Ok(components)
 }
 
 /// What lines bring of each district.
@@ -174,14 +129,6 @@ fn sum(one: [Capacity; 2], other: [Capacity; 2]) -> [Capacity; 2] {
 
 fn within(shares: [Capacity; 2], capacity: Capacity) -> bool {
     shares.iter().all(|share| share.lines <= capacity.lines && share.points <= capacity.points)
-}
-
-fn too_large(component: &CheckBatch, [first, second]: [Capacity; 2]) -> CheckFault {
-    CheckFault::TooLarge {
-        chain: component.chains.first().copied().unwrap_or_default() as usize,
-        lines: first.lines + second.lines,
-        points: first.points + second.points,
-    }
 }
 
 /// Lends batches to the library, one after another, in the same rooms.
@@ -217,10 +164,42 @@ impl<'a> Checker<'a> {
     ///
     /// As [`Rooms::check`].
     pub fn check(&mut self, batch: &CheckBatch) -> Result<(), Refusal> {
+        self.lend(batch)?;
+        self.rooms.check(self.lent.lines(), self.delivered.delivered(), self.settings)
+    }
+
+    /// Judges chains that no call can hold, without the library.
+    ///
+    /// # Errors
+    ///
+    /// [`Refusal::NoPlace`], [`Refusal::BadOrigin`], [`Refusal::NotAcceptable`].
+    pub fn check_beyond(&mut self, chains: &[u32]) -> Result<(), Refusal> {
+        for &chain in chains {
+            let listed = self.chains.named(self.lines, chain as usize).map(|(listed, _)| listed);
+            let mut lines = listed.ok_or(Refusal::BadRecord)?.to_vec();
+            lines.sort_unstable();
+            self.lend(&CheckBatch { chains: vec![chain], lines })?;
+            let (lines, place) = (self.lent.lines(), |x: &f64| x.is_finite());
+            let mut points = Points::of(lines.coordinates, lines.dimension);
+            if !points.all(|point: [f64; POINT]| point.iter().all(place)) {
+                return Err(Refusal::NoPlace);
+            }
+            if !self.settings.origin.iter().all(place) {
+                return Err(Refusal::BadOrigin);
+            }
+            if find(lines, self.delivered.delivered(), self.settings).is_some() {
+                return Err(Refusal::NotAcceptable);
+            }
+        }
+        Ok(())
+    }
+
+    /// Puts the lines and the chains of a batch, by its own positions, where they are lent from.
+    fn lend(&mut self, batch: &CheckBatch) -> Result<(), Refusal> {
         self.lent.clear();
         self.delivered.clear();
         for &line in &batch.lines {
-            self.lend(line as usize)?;
+            self.lend_line(line as usize)?;
         }
         for &chain in &batch.chains {
             let named = self.chains.named(self.lines, chain as usize);
@@ -229,10 +208,10 @@ impl<'a> Checker<'a> {
             let place = |line: &u32| batch.lines.binary_search(line).map_or(u32::MAX, |k| k as u32);
             self.delivered.push_numbers(listed.iter().map(place), numbers);
         }
-        self.rooms.check(self.lent.lines(), self.delivered.delivered(), self.settings)
+        Ok(())
     }
 
-    fn lend(&mut self, line: usize) -> Result<(), Refusal> {
+    fn lend_line(&mut self, line: usize) -> Result<(), Refusal> {
         let Lines { dimension, coordinates, counts, groups, kinds } = self.lines;
         let [first, count] =
             [self.firsts.get(line).copied(), counts.get(line).map(|&n| n as usize)];

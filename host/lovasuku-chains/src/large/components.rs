@@ -55,16 +55,15 @@ pub fn components(lines: &[Line], all: &[Settings]) -> Vec<Vec<u32>> {
 }
 
 /// The lowest line of each component so far, reached by going down from any of its lines.
-pub struct Lowest(Vec<usize>);
+struct Lowest(Vec<usize>);
 
 impl Lowest {
-    /// Each line is a component by itself.
-    pub fn new(lines: usize) -> Self {
+    fn new(lines: usize) -> Self {
         Lowest((0..lines).collect())
     }
 
     /// The lowest line of the component that holds a line. The way is made shorter for the next.
-    pub fn of(&mut self, mut line: usize) -> usize {
+    fn of(&mut self, mut line: usize) -> usize {
         while self.0[line] != line {
             self.0[line] = self.0[self.0[line]];
             line = self.0[line];
@@ -72,8 +71,7 @@ impl Lowest {
         line
     }
 
-    /// Makes one component of those that hold two lines.
-    pub fn unite(&mut self, a: usize, b: usize) {
+    fn unite(&mut self, a: usize, b: usize) {
         let (a, b) = (self.of(a), self.of(b));
         self.0[a.max(b)] = a.min(b);
     }

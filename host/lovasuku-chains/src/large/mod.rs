@@ -37,9 +37,8 @@ mod joints;
 use crate::{Dimension, PathLine, Refusal, Settings};
 pub use batches::{batches, zoom_batches, Batch, Capacity, TooLarge};
 pub use calls::Caller;
-pub use checks::{check, check_batches, CheckBatch, CheckFault, Checker};
-pub(crate) use components::key;
-use components::Lowest;
+pub use checks::{check, check_batches, CheckBatch, CheckBatches, Checker};
+pub(crate) use components::{exact_key, key, Key};
 pub use gaps::{gaps, Gap, Why};
 pub use joints::{blocking, distance, Joint, JointKind};
 use std::error::Error;
@@ -64,7 +63,7 @@ pub struct Line<'a> {
 impl<'a> Line<'a> {
     /// The first and the last point of a line that may be joined. A line of fewer than two points
     /// passes through.
-    fn ends(&self) -> Option<[Point; 2]> {
+    pub(crate) fn ends(&self) -> Option<[Point; 2]> {
         match *self.points? {
             [first, .., last] => Some([first, last]),
             _ => None,

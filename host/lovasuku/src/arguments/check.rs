@@ -1,9 +1,10 @@
 //! The arguments of `lovasuku check`.
 
-use super::options::{flag, named, path, reading, settings, within};
-use super::reading as reading_of;
+use super::options::{flag, named, path, reading, store, with_one_tolerance};
+use super::{reading as reading_of, store as store_of};
 use crate::delivery::{Point, Reading};
 use crate::districts::District;
+use crate::store::Asked;
 use clap::{Arg, ArgMatches, Command};
 use lovasuku_chains::Settings;
 use std::path::{Path, PathBuf};
@@ -19,6 +20,8 @@ pub struct CheckRequest {
     pub class: Option<String>,
     pub district: Option<District>,
     pub reading: Reading,
+    /// What is asked of the store that the lines are in.
+    pub store: Asked,
     /// The property of a chain that lists its lines in the order of travel.
     pub path: String,
     pub quiet: bool,
@@ -27,7 +30,7 @@ pub struct CheckRequest {
 const LONG: &str = "\
 Check chains that were made elsewhere of the lines of a delivery.
 
-CHAINS is GeoJSON, a feature a chain, whose property path lists its lines in the order of travel: their
+CHAINS is GeoJSON or a layer of a store, a feature a chain, whose property path lists its lines in the order of travel: their
 ids, or their positions where they have none, counted from 0; or objects whose member line is such a name,
 as join writes them. Which lines were turned is not read. The chains are accepted exactly if every line
 stands in one chain, once; the lines of a chain are of one class and one district; what passes through,
@@ -74,12 +77,15 @@ const SHARED: [(&str, &str); 9] = [
 fn shared(all: impl IntoIterator<Item = Arg>) -> impl Iterator<Item = Arg> {
     all.into_iter().filter_map(|arg| {
         let (_, help) = SHARED.into_iter().find(|(name, _)| arg.get_id() == name)?;
-        let arg = match arg.get_id() == "tolerance" {
-            // One delivery is checked under one tolerance.
-            true => arg.value_parser(|text: &str| within(text, 0.0, f64::MAX)),
-            false => arg,
-        };
         Some(arg.help(help).long_help(help))
+    })
+}
+
+/// What is asked of the store that the lines are in.
+fn store_of_lines() -> impl Iterator<Item = Arg> {
+    store().into_iter().map(|arg| match arg.get_help().map(|help| help.to_string()) {
+        Some(help) => arg.help(help.replace("of IN", "of LINES").replace("to IN", "to LINES")),
+        None => arg,
     })
 }
 
@@ -92,17 +98,17 @@ pub fn check() -> Command {
             path("chains")
                 .value_name("CHAINS")
                 .required(true)
-                .help("The chains as GeoJSON, or - for the standard input"),
+                .help("The chains: GeoJSON, - for the standard input, or what GDAL reads"),
         )
         .arg(
             path("of")
                 .long("of")
                 .value_name("LINES")
                 .required(true)
-                .help("The lines as GeoJSON, or - for the standard input"),
+                .help("The lines: GeoJSON, - for the standard input, or what GDAL reads"),
         )
         .next_help_heading("Meeting")
-        .args(shared(settings()))
+        .args(shared(with_one_tolerance()))
         .next_help_heading("Reading")
         .args(shared(reading()))
         .arg(
@@ -111,6 +117,9 @@ pub fn check() -> Command {
                 .default_value("path")
                 .help("The property of a chain that lists its lines in the order of travel"),
         )
+        .next_help_heading("Stores")
+        .args(store_of_lines())
+        .next_help_heading("Outputs")
         .arg(flag("quiet").short('q').help("Show no progress, no verdict and no warnings"))
 }
 
@@ -128,6 +137,7 @@ pub fn of_check(matches: &ArgMatches) -> Result<CheckRequest, String> {
         class: text("class"),
         district: matches.get_one::<District>("district").cloned(),
         reading: reading_of(matches),
+        store: store_of(matches),
         path: text("path").unwrap_or_default(),
         quiet: matches.get_flag("quiet"),
     };

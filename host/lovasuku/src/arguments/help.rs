@@ -33,6 +33,8 @@ Examples:
       writes the chains of four zoom levels, chains-0.geojson to chains-10.geojson
   lovasuku join roads.geojson -o chains.geojson --map map.svg --arrows
       shows on the map which way each line was drawn, as property path tells
+  lovasuku join roads.geojson -o chains.geojson --tolerance 2 --bend 60 --page page.html
+      makes a page that tells of every joint why it was made; page.html#chain=12 leads to a chain
   lovasuku join tile.geojson -o chains.geojson --tolerance 2 --origin -1024,0
       the same with cells counted from a corner that this tile and its neighbours share
   lovasuku join roads.geojson -o chains.geojsonl --bend 40 --class surface --keep longest
@@ -75,7 +77,9 @@ of the grid runs between them; and two corners of one cell are up to 14.1 apart.
 because each end lies in exactly one, so that which ends meet never depends on the order of the lines.
 The summary counts bridges longer than T and gaps below T that stayed open, and --bridges lists them
 with their places.
-Degrees are units too: for 2 metres at the equator T is about 0.00002.
+Degrees are units too: for 2 metres at the equator T is about 0.00002.";
+
+pub const TOLERANCES: &str = "\
 Several with commas between them, as 0,2,5,10, are joined in one run that joins what meets exactly only
 once. The names of all outputs then have {tolerance} in them, which becomes each as it is written.";
 
@@ -89,6 +93,35 @@ pub const WINDOW: &str = "\
 Write only the chains whose extents overlap or touch this window, X1 to X2 and Y1 to Y2. They are those of
 the whole delivery: what is joined does not depend on the window, and neither do the ids of chains. With
 them go their bridges, and the gaps at them. The map shows everything, and the window.";
+
+pub const PAGE: &str = "\
+Write a page that answers for a route: one file that any browser opens, without a network. It shows the
+lines and the chains, the bridges, the gaps that stayed open, the loops and the junctions; of a chain its
+lines in the order of travel, and between each two why they are joined; of a junction every pair of ends
+with its measure and the library's reason; and which pairs would stand at a stricter limit. A link such as
+FILE.html#chain=12 leads to a chain, and so for junction, bridge, gap and line. It holds the lines and
+their properties, as far as these are not too many. `lovasuku why` tells the same of two lines.";
+
+pub const WHY: &str = "\
+Tell of two lines of a delivery why they are joined, or why they are not.
+
+IN is the delivery that was joined, not its chains, and the options are those of `lovasuku join`: with them
+the lines are joined once more, and nothing is written. The answer is a line of where the two are, and a
+sentence for each joint between them, or for each place where their ends meet and are not joined: the round,
+how many ends meet, the measure of their directions as a number and in degrees, the limit, the place among
+the pairs that were selected, and of a pair that was not the reason of the library. --page shows the same.";
+
+pub const WHY_EXAMPLES: &str = "\
+Examples:
+  lovasuku why roads.geojson H3 H4 --bend 60 --tolerance 2
+      tells why the lines H3 and H4 are joined, or why they are not, by these settings
+  lovasuku why roads.geojsonl 17 203
+      the same of lines without ids, by their positions counted from 0
+
+Exit status:
+  0  the question is answered
+  1  the input is at fault, or no line has such a name
+  2  the arguments are at fault";
 
 pub const OFFSET: &str = "\
 The same by a bend as road crews state it: so many millimetres of offset per metre run, a whole number

@@ -3,10 +3,12 @@
 mod check;
 mod help;
 mod options;
+mod why;
 mod zooms;
 
 use crate::delivery::{Heights, Point, Reading};
 use crate::districts::District;
+use crate::source::Wanted;
 use crate::store;
 use crate::writing::{Format, Keep};
 pub use check::CheckRequest;
@@ -14,6 +16,7 @@ use clap::error::ErrorKind;
 use clap::{ArgMatches, Command};
 use lovasuku_chains::{limit_of_bend, Offset, Settings, Window};
 use std::path::{Path, PathBuf};
+pub use why::Question;
 use zooms::Tolerances;
 
 /// What a run of `lovasuku join` is asked for.
@@ -23,6 +26,7 @@ pub struct Request {
     pub output: PathBuf,
     pub map: Option<PathBuf>,
     pub bridges: Option<PathBuf>,
+    pub page: Option<PathBuf>,
     /// The map shows the way that each line was drawn.
     pub arrows: bool,
     /// The format of outputs where their names do not decide.
@@ -53,10 +57,16 @@ pub struct Request {
 }
 
 impl Request {
+    /// What is to be read.
+    pub fn wanted(&self) -> Wanted<'_> {
+        Wanted { input: &self.input, reading: &self.reading, store: &self.store }
+    }
+
     /// The paths of all outputs.
     fn outputs(&self) -> Vec<&Path> {
-        let all = [Some(&self.output), self.bridges.as_ref(), self.map.as_ref()];
-        all.into_iter().flatten().map(PathBuf::as_path).collect()
+        let others = [&self.bridges, &self.map, &self.page].map(Option::as_ref);
+        let all = [Some(&self.output)].into_iter().chain(others);
+        all.flatten().map(PathBuf::as_path).collect()
     }
 }
 
@@ -66,6 +76,7 @@ pub enum Asked {
     /// A run for each of several tolerances, which share all else but the names of their outputs.
     Join(Vec<Request>),
     Check(Box<CheckRequest>),
+    Why(Box<Question>),
     /// The manual page of the command, or of a subcommand.
     Manual(Option<String>),
 }
@@ -80,6 +91,7 @@ pub fn asked() -> Asked {
             Ok(request) => Asked::Check(Box::new(request)),
             Err(fault) => failed(&mut command, name, fault),
         },
+        Some(("why", question)) => Asked::Why(Box::new(why::of(question))),
         Some((name, join)) => match of_join(join) {
             Ok(requests) => Asked::Join(requests),
             Err(fault) => failed(&mut command, name, fault),
@@ -107,30 +119,25 @@ pub fn command() -> Command {
         .after_help(help::EXAMPLES)
         .subcommand(options::join())
         .subcommand(check::check())
+        .subcommand(why::command())
         .subcommand(options::manual())
 }
 
 fn of_join(matches: &ArgMatches) -> Result<Vec<Request>, String> {
     let path = |name: &str| matches.get_one::<PathBuf>(name).cloned();
-    let number = |name: &str| matches.get_one::<f64>(name).copied();
     let text = |name: &str| matches.get_one::<String>(name).cloned();
-    let bend = number("bend");
-    let offset = matches.get_one::<Offset>("offset").copied();
-    let limit = number("limit").or_else(|| offset.map(Offset::limit));
+    let (settings, bend, offset) = settings(matches);
     let request = Request {
         input: path("input").unwrap_or_default(),
         output: path("output").unwrap_or_default(),
         map: path("map"),
         bridges: path("bridges"),
+        page: path("page"),
         arrows: matches.get_flag("arrows"),
         format: text("format").and_then(|name| Format::of(&name)),
         driver: text("format").filter(|name| Format::of(name).is_none()),
         into: text("into").unwrap_or_default(),
-        settings: Settings {
-            tolerance: 0.0,
-            origin: matches.get_one::<Point>("origin").copied().unwrap_or_default(),
-            limit: limit.or_else(|| bend.and_then(limit_of_bend)),
-        },
+        settings,
         window: matches.get_one::<Window>("window").copied(),
         bend,
         offset,
@@ -147,6 +154,20 @@ fn of_join(matches: &ArgMatches) -> Result<Vec<Request>, String> {
         Some(tolerances) => zooms::requests(&request, tolerances),
         None => Err("no tolerance is named".into()),
     }
+}
+
+/// The settings but for the tolerance, with the bend or the offset that the limit was given by.
+fn settings(matches: &ArgMatches) -> (Settings, Option<f64>, Option<Offset>) {
+    let number = |name: &str| matches.get_one::<f64>(name).copied();
+    let bend = number("bend");
+    let offset = matches.get_one::<Offset>("offset").copied();
+    let limit = number("limit").or_else(|| offset.map(Offset::limit));
+    let settings = Settings {
+        tolerance: 0.0,
+        origin: matches.get_one::<Point>("origin").copied().unwrap_or_default(),
+        limit: limit.or_else(|| bend.and_then(limit_of_bend)),
+    };
+    (settings, bend, offset)
 }
 
 fn reading(matches: &ArgMatches) -> Reading {

@@ -28,6 +28,7 @@ pub fn join() -> Command {
         .args(reading())
         .next_help_heading("Stores")
         .args(store())
+        .arg(into())
         .next_help_heading("Properties and lengths")
         .args(properties())
 }
@@ -39,12 +40,12 @@ pub fn manual() -> Command {
         .arg(
             Arg::new("page")
                 .value_name("PAGE")
-                .value_parser(["join", "check"])
+                .value_parser(["join", "check", "why"])
                 .help("The page of a subcommand; without it that of the command"),
         )
 }
 
-fn outputs() -> [Arg; 7] {
+fn outputs() -> [Arg; 8] {
     [
         path("output")
             .short('o')
@@ -62,6 +63,11 @@ fn outputs() -> [Arg; 7] {
         path("bridges").long("bridges").value_name("FILE").help(
             "Write each segment that the tolerance made, and each gap below it that stayed open",
         ),
+        path("page")
+            .long("page")
+            .value_name("FILE.html")
+            .help("Write a page for any browser that tells of every joint why it was made")
+            .long_help(help::PAGE),
         named("window")
             .value_name("X1,Y1,X2,Y2")
             .allow_hyphen_values(true)
@@ -78,7 +84,7 @@ fn outputs() -> [Arg; 7] {
     ]
 }
 
-pub(super) fn settings() -> [Arg; 7] {
+fn settings() -> [Arg; 7] {
     [
         Arg::new("tolerance")
             .long("tolerance")
@@ -87,7 +93,7 @@ pub(super) fn settings() -> [Arg; 7] {
             .allow_negative_numbers(true)
             .value_parser(Tolerances::of)
             .help("Join ends in one square cell of this side, in units of the coordinates")
-            .long_help(help::TOLERANCE),
+            .long_help(format!("{}\n{}", help::TOLERANCE, help::TOLERANCES)),
         Arg::new("origin")
             .long("origin")
             .value_name("X,Y")
@@ -127,6 +133,16 @@ pub(super) fn settings() -> [Arg; 7] {
     ]
 }
 
+/// The settings with one tolerance.
+pub(super) fn with_one_tolerance() -> impl Iterator<Item = Arg> {
+    settings().into_iter().map(|arg| match arg.get_id() == "tolerance" {
+        true => {
+            arg.value_parser(|text: &str| within(text, 0.0, f64::MAX)).long_help(help::TOLERANCE)
+        }
+        false => arg,
+    })
+}
+
 pub(super) fn reading() -> [Arg; 5] {
     [
         flag("explode")
@@ -147,7 +163,7 @@ pub(super) fn reading() -> [Arg; 5] {
     ]
 }
 
-fn store() -> [Arg; 5] {
+pub(super) fn store() -> [Arg; 4] {
     [
         named("layer").value_name("NAME").help("The layer or table of IN, where it has several"),
         named("sql")
@@ -159,12 +175,15 @@ fn store() -> [Arg; 5] {
         named("geometry")
             .value_name("COLUMN")
             .help("The column of geometry, where a layer has several"),
-        named("into")
-            .value_name("TABLE")
-            .default_value(CHAINS)
-            .help("The table that the chains are put into, where OUT is a database")
-            .long_help(help::INTO),
     ]
+}
+
+fn into() -> Arg {
+    named("into")
+        .value_name("TABLE")
+        .default_value(CHAINS)
+        .help("The table that the chains are put into, where OUT is a database")
+        .long_help(help::INTO)
 }
 
 fn properties() -> [Arg; 3] {
@@ -178,11 +197,15 @@ fn properties() -> [Arg; 3] {
         named("prefix")
             .value_name("PREFIX")
             .help("Begin the names members, path, count, loop and parts with this"),
-        named("units")
-            .value_name("UNIT")
-            .help("What the coordinates are in, as m, ft or degrees")
-            .long_help(help::UNITS),
+        units(),
     ]
+}
+
+pub(super) fn units() -> Arg {
+    named("units")
+        .value_name("UNIT")
+        .help("What the coordinates are in, as m, ft or degrees")
+        .long_help(help::UNITS)
 }
 
 pub(super) fn path(name: &'static str) -> Arg {

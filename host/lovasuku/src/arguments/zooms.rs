@@ -37,6 +37,7 @@ pub fn requests(request: &Request, tolerances: &Tolerances) -> Result<Vec<Reques
         ("--output", Some(&request.output)),
         ("--map", request.map.as_ref()),
         ("--bridges", request.bridges.as_ref()),
+        ("--page", request.page.as_ref()),
     ];
     let alike = |path: &Path| match path.to_string_lossy() {
         database if is_database(&database) => !request.into.contains(PLACE),
@@ -65,6 +66,7 @@ fn with_tolerance(request: &Request, (written, tolerance): &(String, f64)) -> Re
         output: named(&request.output),
         map: request.map.as_ref().map(named),
         bridges: request.bridges.as_ref().map(named),
+        page: request.page.as_ref().map(named),
         into: request.into.replace(PLACE, written),
         settings: request.settings.with_tolerance(*tolerance),
         ..request.clone()

@@ -1,10 +1,12 @@
-//! Chains that were made elsewhere, read from GeoJSON.
+//! Chains that were made elsewhere, read from GeoJSON or from a store.
 
+use super::has_heights;
 use super::names::Step;
-use crate::arguments::CheckRequest;
-use crate::delivery::{self, Delivery, Feature, Geometry, Run};
+use crate::delivery::{self, Delivery, Feature, Geometry, Reading, Run};
 use crate::progress::Progress;
+use crate::source::Source;
 use anyhow::{anyhow, bail, Result};
+use lovasuku_chains::Dimension;
 use rayon::prelude::*;
 use serde_json::Value;
 
@@ -16,6 +18,8 @@ pub struct Read {
     /// Its lines in the order of travel.
     pub path: Vec<Step>,
     geometry: Geometry,
+    /// What its positions have.
+    pub dimension: Dimension,
 }
 
 impl Read {
@@ -33,7 +37,7 @@ impl Read {
     }
 
     pub fn has_heights(&self) -> bool {
-        self.runs().any(|run| !run.heights.is_empty())
+        has_heights(self.dimension) && self.runs().any(|run| !run.heights.is_empty())
     }
 }
 
@@ -50,13 +54,40 @@ fn runs(geometry: &Geometry) -> impl Iterator<Item = &Run> {
 /// How many chains one core reads at a time.
 const PART: usize = 512;
 
+/// Reads chains, whose lines a property lists.
+pub fn read(
+    source: Source,
+    text: &str,
+    (property, reading): (&str, &Reading),
+    progress: &Progress,
+) -> Result<Vec<Read>> {
+    let rows = match source {
+        Source::Text => return of_text(text, (property, reading), progress),
+        Source::Layer(rows) => rows,
+    };
+    let (delivery, _) = rows.delivery(text, reading)?;
+    let chain = |(row, feature): (usize, Feature)| {
+        chain(feature, property, delivery.dimension)
+            .map_err(|fault| anyhow!("feature {row}: {fault}"))
+    };
+    delivery.features.into_iter().enumerate().map(chain).collect()
+}
+
 /// Reads the chains of a text.
-pub fn read(text: &str, request: &CheckRequest, progress: &Progress) -> Result<Vec<Read>> {
+fn of_text(
+    text: &str,
+    (property, reading): (&str, &Reading),
+    progress: &Progress,
+) -> Result<Vec<Read>> {
     let features = delivery::features(text).map_err(|fault| anyhow!(fault))?;
     progress.begin("reading", features.len());
+    let of = |text: &&str| {
+        let feature = Feature::of(text, reading.heights)?;
+        chain(feature, property, Dimension::Xyz)
+    };
     let part = |texts: &[&str]| -> Vec<Result<Read, String>> {
         progress.add(texts.len());
-        texts.iter().map(|text| chain(text, request)).collect()
+        texts.iter().map(of).collect()
     };
     let read: Vec<_> = features.par_chunks(PART).flat_map_iter(part).collect();
     let mut chains = Vec::with_capacity(read.len());
@@ -69,9 +100,7 @@ pub fn read(text: &str, request: &CheckRequest, progress: &Progress) -> Result<V
     Ok(chains)
 }
 
-fn chain(text: &str, request: &CheckRequest) -> Result<Read, String> {
-    let feature = Feature::of(text, request.reading.heights)?;
-    let property = &request.path;
+fn chain(feature: Feature, property: &str, dimension: Dimension) -> Result<Read, String> {
     let list = feature.property(property).ok_or_else(|| {
         format!(
             "it has no property {property:?} that lists its lines (--path PROPERTY names another)"
@@ -84,7 +113,7 @@ fn chain(text: &str, request: &CheckRequest) -> Result<Read, String> {
         Geometry::Other(what) => return Err(format!("its geometry is {what}, not a line")),
         line => line,
     };
-    Ok(Read { id: feature.id.map(str::to_owned), path, geometry })
+    Ok(Read { id: feature.id.map(str::to_owned), path, geometry, dimension })
 }
 
 /// The first chain whose geometry is of another kind than its line's or has other parts, or is one of parts

@@ -6,10 +6,12 @@ mod words;
 
 use crate::arguments::CheckRequest;
 use crate::classes::Classes;
-use crate::delivery::{self, Delivery, Geometry, Run};
-use crate::joining::{check_batches, Capacity, CheckFault, Checker};
+use crate::delivery::{Delivery, Geometry, Heights, Reading, Run};
+use crate::joining::{check_batches, Capacity, CheckBatch, Checker};
 use crate::numbers::count;
 use crate::progress::Progress;
+use crate::source::{Source, Wanted};
+use crate::store::Asked;
 use anyhow::{bail, Context, Result};
 use chains::Read;
 use lovasuku_chains::{
@@ -18,7 +20,6 @@ use lovasuku_chains::{
 use names::Names;
 use rayon::prelude::*;
 use std::io::Write;
-use std::path::Path;
 use std::process::ExitCode;
 use words::Words;
 
@@ -52,26 +53,33 @@ pub fn main(request: &CheckRequest) -> ExitCode {
 /// The verdict on chains, and what the user has to know about the names of lines.
 pub fn run(request: &CheckRequest) -> Result<(Verdict, Vec<String>)> {
     let progress = Progress::new(!request.quiet);
-    let of = || name_of(&request.of);
-    let text = delivery::text(&request.of).with_context(of)?;
-    let delivery = &delivery::read(&text, &request.reading, &progress).with_context(of)?;
+    let lines = lines_of(request);
+    let of = || lines.whole_name();
+    let (source, text) = Source::read(lines, &progress).with_context(of)?;
+    let (delivery, _) = source.delivery(&text, lines.reading, &progress).with_context(of)?;
+    let delivery = &delivery;
     let (class, district) = (request.class.as_deref(), request.district.as_ref());
     let classes = &Classes::of(delivery, class, district).with_context(of)?;
     let names = Names::of(delivery, request.reading.explode).with_context(of)?;
-    let from = || name_of(&request.chains);
-    let text = delivery::text(&request.chains).with_context(from)?;
-    let read = &chains::read(&text, request, &progress).with_context(from)?;
+    let (reading, store) = (&as_they_are(request.reading.heights), &Asked::default());
+    let wanted = Wanted { input: &request.chains, reading, store };
+    let from = || wanted.whole_name();
+    let (source, text) = Source::read(wanted, &progress).with_context(from)?;
+    let list = (&request.path[..], reading);
+    let read = &chains::read(source, &text, list, &progress).with_context(from)?;
     let verdict = judged(request, delivery, classes, &names, read, &progress);
     progress.end();
     Ok((verdict.with_context(from)?, delivery.warnings.clone()))
 }
 
-/// The name of an input, by its path unless it is the standard input.
-fn name_of(path: &Path) -> String {
-    match path == Path::new("-") {
-        true => "standard input".into(),
-        false => path.display().to_string(),
-    }
+/// The lines that the chains are of.
+fn lines_of(request: &CheckRequest) -> Wanted<'_> {
+    Wanted { input: &request.of, reading: &request.reading, store: &request.store }
+}
+
+/// How chains are read: with nothing left out but heights, where these are not wanted.
+fn as_they_are(heights: Heights) -> Reading {
+    Reading { heights, explode: false, drop_empty: false, skip_other: false, id: None }
 }
 
 fn judged(
@@ -86,7 +94,7 @@ fn judged(
         Ok(listed) => listed,
         Err(words) => return Ok(Verdict::Not(words)),
     };
-    let high = delivery.has_heights() || read.iter().any(Read::has_heights);
+    let high = has_heights(delivery.dimension) || read.iter().any(Read::has_heights);
     let dimension = if high { Dimension::Xyz } else { Dimension::Xy };
     let lines = lent_lines(dimension, delivery, classes);
     let chains = lent_chains(dimension, read, &listed);
@@ -94,11 +102,14 @@ fn judged(
     let shape = chains::other_shape(delivery, read, &listed);
     let accepted = accepted(lines, chains, request.settings, progress)?;
     let words = Words { delivery, classes, read, lines, chains };
-    if accepted && shape.is_none() {
-        let of = (count(read.len(), "chain"), count(delivery.features.len(), "line"));
-        return Ok(Verdict::Accepted(words::accepted(of, request.settings)));
+    if let (Some(beyond), None) = (accepted, shape) {
+        let of = [count(read.len(), "chain"), count(delivery.features.len(), "line")];
+        return Ok(Verdict::Accepted(words::accepted(of, request.settings, beyond)));
     }
-    let found = if accepted { None } else { find(lines, chains, request.settings) };
+    let found = match accepted {
+        Some(_) => None,
+        None => find(lines, chains, request.settings),
+    };
     let first = match (shape, found) {
         (Some(chain), Some(found)) if found.chain.map_or(false, |at| at < chain) => words.of(found),
         (Some(chain), _) => words.of_shape(chain, &listed),
@@ -119,7 +130,7 @@ fn listed(
     for (chain, each) in read.iter().enumerate() {
         let lines = each.path.iter().map(|step| names.line(step).ok_or(step));
         let lines = lines.collect::<std::result::Result<Vec<u32>, _>>().map_err(|step| {
-            let (name, of) = (each.name(chain), name_of(&request.of));
+            let (name, of) = (each.name(chain), lines_of(request).whole_name());
             format!("not accepted: {name}: it lists {step}, which is no line of {of}")
         })?;
         listed.push(lines);
@@ -130,10 +141,11 @@ fn listed(
 /// The lines as the library takes them. A MultiLineString passes through, its parts one behind another.
 fn lent_lines(dimension: Dimension, delivery: &Delivery, classes: &Classes) -> LinesBuf {
     let mut lent = LinesBuf::of(dimension);
+    let of = |run| positions(run, delivery.dimension);
     for (feature, &group) in delivery.features.iter().zip(&classes.groups) {
         match &feature.geometry {
-            Geometry::Line(run) => lent.push(positions(run), group),
-            Geometry::Lines(parts) => lent.push_passing(parts.iter().flat_map(positions), group),
+            Geometry::Line(run) => lent.push(of(run), group),
+            Geometry::Lines(parts) => lent.push_passing(parts.iter().flat_map(of), group),
             Geometry::Other(_) => lent.push_passing([[0.0; 3]; 0], group),
         }
     }
@@ -143,38 +155,51 @@ fn lent_lines(dimension: Dimension, delivery: &Delivery, classes: &Classes) -> L
 fn lent_chains(dimension: Dimension, read: &[Read], listed: &[Vec<u32>]) -> DeliveredBuf {
     let mut lent = DeliveredBuf::of(dimension);
     for (chain, lines) in read.iter().zip(listed) {
-        lent.push(lines.iter().copied(), chain.runs().flat_map(positions));
+        let positions = chain.runs().flat_map(|run| positions(run, chain.dimension));
+        lent.push(lines.iter().copied(), positions);
     }
     lent
 }
 
+/// True where positions have heights. Measures are not looked at.
+fn has_heights(dimension: Dimension) -> bool {
+    matches!(dimension, Dimension::Xyz | Dimension::Xyzm)
+}
+
 /// The positions of a run with their heights, NaN where there is none.
-fn positions(run: &Run) -> impl Iterator<Item = [f64; 3]> + '_ {
-    let height = |k: usize| run.heights.get(k).copied().unwrap_or(f64::NAN);
+fn positions(run: &Run, dimension: Dimension) -> impl Iterator<Item = [f64; 3]> + '_ {
+    let extras = has_heights(dimension).then(|| dimension.extras());
+    let height = move |k: usize| {
+        let height = extras.and_then(|extras| run.heights.get(extras * k));
+        height.copied().unwrap_or(f64::NAN)
+    };
     run.points.iter().enumerate().map(move |(k, &[x, y])| [x, y, height(k)])
 }
 
-/// Whether the library accepts the chains, on all cores.
+/// Whether the chains are accepted, on all cores: if so, how many of them no call of the library can hold.
 fn accepted(
     lines: Lines,
     chains: Delivered,
     settings: Settings,
     progress: &Progress,
-) -> Result<bool> {
+) -> Result<Option<usize>> {
     progress.begin("checking", chains.len());
-    let check = |checker: &mut Checker, batch: &crate::joining::CheckBatch| {
+    let check = |checker: &mut Checker, batch: &CheckBatch| {
         let checked = checker.check(batch);
         progress.add(batch.chains.len());
         checked
     };
-    let checked = check_batches(lines, chains, Capacity::default()).and_then(|batches| {
-        let checker = || Checker::new(lines, chains, settings);
-        let all = batches.par_iter().map_init(checker, check);
-        all.collect::<std::result::Result<(), Refusal>>().map_err(CheckFault::from)
+    let checker = || Checker::new(lines, chains, settings);
+    let checked = check_batches(lines, chains, Capacity::default()).and_then(|cut| {
+        cut.batches.par_iter().map_init(checker, check).collect::<Checked<()>>()?;
+        checker().check_beyond(&cut.beyond).map(|()| cut.beyond.len())
     });
     match checked {
-        Ok(()) => Ok(true),
-        Err(CheckFault::Refused(Refusal::NotAcceptable | Refusal::BadRecord)) => Ok(false),
-        Err(fault) => bail!(fault),
+        Ok(beyond) => Ok(Some(beyond)),
+        Err(Refusal::NotAcceptable | Refusal::BadRecord) => Ok(None),
+        Err(refusal) => bail!(refusal),
     }
 }
+
+/// What a call of the library came to.
+type Checked<T> = std::result::Result<T, Refusal>;

@@ -4,16 +4,23 @@ use super::chains::Read;
 use crate::classes::Classes;
 use crate::delivery::{Delivery, Geometry, Point};
 use crate::measure::Measure;
+use crate::numbers::count;
 use lovasuku_chains::{Delivered, Finding, Lines, Settings, Unacceptable};
 
-/// Chains that are accepted: so many of so many lines, under these settings.
-pub fn accepted((chains, lines): (String, String), settings: Settings) -> String {
+/// Chains that are accepted: so many of so many lines, under these settings, and how many of them no call of the
+/// library can hold.
+pub fn accepted([chains, lines]: [String; 2], settings: Settings, beyond: usize) -> String {
     let Settings { tolerance, origin: [x, y], .. } = settings;
-    let from = match tolerance > 0.0 && [x, y] != [0.0; 2] {
-        true => format!(" from {x} {y}"),
-        false => String::new(),
-    };
-    format!("accepted: {chains} of {lines}, tolerance {tolerance}{from}")
+    let mut words = format!("accepted: {chains} of {lines}, tolerance {tolerance}");
+    if tolerance > 0.0 && [x, y] != [0.0; 2] {
+        words += &format!(" from {x} {y}");
+    }
+    if beyond > 0 {
+        let chains = count(beyond, "chain");
+        words +=
+            &format!("; {chains} of more lines or positions than a call holds, judged without one");
+    }
+    words
 }
 
 /// What words are found from.

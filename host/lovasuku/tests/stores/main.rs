@@ -11,3 +11,4 @@ mod heights;
 mod places;
 mod roads;
 mod settings;
+mod together;
