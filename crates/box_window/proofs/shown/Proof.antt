@@ -12,50 +12,50 @@ returns c = shown-beyond _ _ _ (c .if1 .taken)
 mul-at : tie.Need-mul-at
 mul-at c = search needs
 
-mul-overlap : tie.Need-mul-overlap
-mul-overlap c = search needs
+mul-touch : tie.Need-mul-touch
+mul-touch c = search needs
 
-shared-slice-read-overlap : tie.Need-shared-slice-read-overlap
-shared-slice-read-overlap c = search needs
+shared-slice-read-touch : tie.Need-shared-slice-read-touch
+shared-slice-read-touch c = search needs
 
-add-overlap : tie.Need-add-overlap
-add-overlap c = search needs
+add-touch : tie.Need-add-touch
+add-touch c = search needs
 
-mul-overlap-2 : tie.Need-mul-overlap-2
-mul-overlap-2 c = search needs
+mul-touch-2 : tie.Need-mul-touch-2
+mul-touch-2 c = search needs
 
-shared-slice-read-overlap-2 : tie.Need-shared-slice-read-overlap-2
-shared-slice-read-overlap-2 c = search needs
+shared-slice-read-touch-2 : tie.Need-shared-slice-read-touch-2
+shared-slice-read-touch-2 c = search needs
 
-overlap-requires : tie.Need-overlap-requires
-overlap-requires c κs = search needs
+touch-requires : tie.Need-touch-requires
+touch-requires c κs = search needs
 
-add-overlap-2 : tie.Need-add-overlap-2
-add-overlap-2 c = search needs
+add-touch-2 : tie.Need-add-touch-2
+add-touch-2 c = search needs
 
-mul-overlap-3 : tie.Need-mul-overlap-3
-mul-overlap-3 c = search needs
+mul-touch-3 : tie.Need-mul-touch-3
+mul-touch-3 c = search needs
 
-shared-slice-read-overlap-3 : tie.Need-shared-slice-read-overlap-3
-shared-slice-read-overlap-3 c = search needs
+shared-slice-read-touch-3 : tie.Need-shared-slice-read-touch-3
+shared-slice-read-touch-3 c = search needs
 
-add-overlap-3 : tie.Need-add-overlap-3
-add-overlap-3 c = search needs
+add-touch-3 : tie.Need-add-touch-3
+add-touch-3 c = search needs
 
-mul-overlap-4 : tie.Need-mul-overlap-4
-mul-overlap-4 c = search needs
+mul-touch-4 : tie.Need-mul-touch-4
+mul-touch-4 c = search needs
 
-shared-slice-read-overlap-4 : tie.Need-shared-slice-read-overlap-4
-shared-slice-read-overlap-4 c = search needs
+shared-slice-read-touch-4 : tie.Need-shared-slice-read-touch-4
+shared-slice-read-touch-4 c = search needs
 
-overlap-requires-2 : tie.Need-overlap-requires-2
-overlap-requires-2 c κs = search needs
+touch-requires-2 : tie.Need-touch-requires-2
+touch-requires-2 c κs = search needs
 
 returns-2 : tie.Need-returns-2
-returns-2 c = c .overlap2 .ensures ∙ shown-both (c .before .before .before .before .before .before .before .before .before .args .w) (now (c .before .before .before .before .before .before .before .before .before .args .boxes)) (c .before .before .before .before .before .before .before .before .before .args .j) (c .before .before .before .before .before .before .before .if1 .left) (sym (c .before .before .before .before .overlap .ensures) ∙ c .before .before .before .if2 .taken)
+returns-2 c = c .touch2 .ensures ∙ shown-both (c .before .before .before .before .before .before .before .before .before .args .w) (now (c .before .before .before .before .before .before .before .before .before .args .boxes)) (c .before .before .before .before .before .before .before .before .before .args .j) (c .before .before .before .before .before .before .before .if1 .left) (sym (c .before .before .before .before .touch .ensures) ∙ c .before .before .before .if2 .taken)
 
 returns-3 : tie.Need-returns-3
-returns-3 c = shown-neither (c .before .before .before .before .before .before .args .w) (now (c .before .before .before .before .before .before .args .boxes)) (c .before .before .before .before .before .before .args .j) (c .before .before .before .before .if1 .left) (sym (c .before .overlap .ensures) ∙ c .if2 .left)
+returns-3 c = shown-neither (c .before .before .before .before .before .before .args .w) (now (c .before .before .before .before .before .before .args .boxes)) (c .before .before .before .before .before .before .args .j) (c .before .before .before .before .if1 .left) (sym (c .before .touch .ensures) ∙ c .if2 .left)
 
 pub shown-spec : {M : Type 1} → statement M
 shown-spec =
@@ -63,18 +63,18 @@ shown-spec =
     (tie.spec
     returns
     mul-at
-    mul-overlap
-    shared-slice-read-overlap
-    add-overlap
-    mul-overlap-2
-    shared-slice-read-overlap-2
-    overlap-requires
-    add-overlap-2
-    mul-overlap-3
-    shared-slice-read-overlap-3
-    add-overlap-3
-    mul-overlap-4
-    shared-slice-read-overlap-4
-    overlap-requires-2
+    mul-touch
+    shared-slice-read-touch
+    add-touch
+    mul-touch-2
+    shared-slice-read-touch-2
+    touch-requires
+    add-touch-2
+    mul-touch-3
+    shared-slice-read-touch-3
+    add-touch-3
+    mul-touch-4
+    shared-slice-read-touch-4
+    touch-requires-2
     returns-2
     returns-3)
