@@ -27,20 +27,44 @@
 //! [`zoom_batches`] and [`zooms_in_order`]. [`check`] checks chains made elsewhere, of any number, in the
 //! same way, by [`check_batches`] and a [`Checker`] for each core.
 
+mod arranging;
+mod assembling;
 mod batches;
+mod batching;
+mod boxing;
+mod calling;
 mod calls;
+mod capacity;
 mod checks;
 mod components;
+mod cores;
+mod delivered;
+mod first_round;
 mod gaps;
+mod gathering;
 mod joints;
+mod judging;
+mod junctions;
+mod laying;
+mod nodes;
+mod outlines;
+mod pieces;
+mod rooms;
+mod rounds;
+mod spots;
 
+use crate::size::MOST_ENDS;
 use crate::{Dimension, PathLine, Refusal, Settings};
 pub use batches::{batches, zoom_batches, Batch, Capacity, TooLarge};
 pub use calls::Caller;
+pub use capacity::Capacity as Holds;
 pub use checks::{check, check_batches, CheckBatch, CheckBatches, Checker};
 pub(crate) use components::{exact_key, key, Key};
+pub use cores::Cores;
+pub use delivered::Delivered;
 pub use gaps::{gaps, Gap, Why};
 pub use joints::{blocking, distance, Joint, JointKind};
+pub use rooms::{Rooms, Way};
 use std::error::Error;
 use std::fmt;
 
@@ -105,13 +129,38 @@ pub enum Fault {
     TooLarge(TooLarge),
     /// The library refused a call.
     Refused(Refusal),
+    /// More ends meet than a pairing call holds.
+    Crowded {
+        /// How many.
+        ends: usize,
+        /// The point of one of them.
+        place: Point,
+    },
+    /// A chain came out of a call otherwise than it was outlined.
+    Differs {
+        /// One of its lines.
+        line: u32,
+    },
+    /// There are more lines or coordinates than numbers of 32 bits can tell apart.
+    TooMany,
 }
+
+/// Stands for no number.
+pub(crate) const NONE: u32 = u32::MAX;
 
 impl fmt::Display for Fault {
     fn fmt(&self, f: &mut fmt::Formatter<'_>) -> fmt::Result {
         match self {
             Fault::TooLarge(large) => large.fmt(f),
             Fault::Refused(refusal) => refusal.fmt(f),
+            Fault::Crowded { ends, place: [x, y] } => write!(
+                f,
+                "{ends} ends meet at {x} {y}, more than the {MOST_ENDS} that can be paired"
+            ),
+            Fault::Differs { line } => {
+                write!(f, "the chain of line {line} came out otherwise than it was outlined")
+            }
+            Fault::TooMany => write!(f, "there are more than 2^30 lines or 2^32 coordinates"),
         }
     }
 }

@@ -1,0 +1,281 @@
+//! A round: nodes, outlines, and the chains of these from the library's calls.
+
+use super::batching::{Batch, Batches};
+use super::calling::{Caller, Callers, Record};
+use super::capacity::Capacity;
+use super::cores::Cores;
+use super::gathering::{Plan, Without};
+use super::laying::lay;
+use super::nodes::{Nodes, Sorting};
+use super::outlines::Outlines;
+use super::pieces::Pieces;
+use super::spots::Grid;
+use super::Fault;
+use crate::{Refusal, Settings};
+use std::ops::Range;
+
+/// What the calls of a round are lent.
+pub trait Lender: Pieces {
+    /// Lends a piece, whole or by a stand-in.
+    fn lend(&self, caller: &mut Caller, piece: u32, whole: bool);
+
+    /// Lends a line without length at the point of an end.
+    fn block(&self, caller: &mut Caller, end: u32);
+
+    /// Makes the call, and gives the number of its chains.
+    fn call(&self, caller: &mut Caller, settings: Settings) -> Result<usize, Refusal>;
+
+    /// The piece that a line of the delivery is of.
+    fn piece_of(&self, line: u32) -> u32;
+
+    /// The first line of a piece.
+    fn line_of(&self, piece: u32) -> u32;
+
+    /// True where a chain of a call is the one of these steps, whose pieces were lent whole.
+    fn is_same(&self, caller: &Caller, record: &Record, steps: &[u32]) -> bool;
+}
+
+/// How the calls of a round are made.
+#[derive(Clone, Copy)]
+pub struct Ways<'a> {
+    pub settings: Settings,
+    pub capacity: Capacity,
+    pub cores: Cores,
+    pub callers: &'a Callers,
+    /// Is told how many lines are done.
+    pub tell: &'a (dyn Fn(usize) + Sync),
+}
+
+/// A round.
+#[derive(Debug, Default)]
+pub struct Round {
+    pub nodes: Nodes,
+    pub outlines: Outlines,
+    pub batches: Batches,
+    /// The coordinates of each slot's chain.
+    sizes: Vec<u32>,
+    /// The coordinates of chains of several pieces, each in the room of its slot.
+    laid: Vec<f64>,
+}
+
+impl Round {
+    /// Joins pieces.
+    pub fn run(
+        &mut self,
+        pieces: &impl Lender,
+        grid: Grid,
+        sorting: &mut Sorting,
+        ways: Ways,
+    ) -> Result<(), Fault> {
+        let Ways { settings, capacity, cores, callers, .. } = ways;
+        self.nodes.meet(pieces, (grid, settings.limit), sorting, (cores, callers))?;
+        self.outlines.walk(pieces, &self.nodes);
+        self.batches.cut(pieces, &self.nodes, &self.outlines, capacity);
+        self.sizes.clear();
+        self.sizes.resize(self.batches.slots(), 0);
+        let room = self.batches.room(0..self.batches.slots() as u32);
+        // Whatever was laid there before is written over or not looked at.
+        self.laid.resize(pieces.stride() * room.len(), 0.0);
+        let Round { nodes, outlines, batches, sizes, laid } = self;
+        let plan = Plan { nodes, outlines, batches };
+        Making { pieces, plan, ways }.batches(batches.all(), sizes, laid)
+    }
+
+    /// The numbers of an outline's chain, or nothing where it is of one piece, untouched.
+    pub fn chain(&self, outline: u32, stride: usize) -> Option<&[f64]> {
+        match *self.outlines.steps(outline) {
+            [] | [_] => None,
+            [step, ..] => {
+                let slot = self.batches.slot(step >> 1)?;
+                let first = self.batches.room(slot..slot + 1).start;
+                let count = self.sizes[slot as usize] as usize;
+                Some(&self.laid[stride * first..stride * (first + count)])
+            }
+        }
+    }
+}
+
+/// The making of a round's chains.
+struct Making<'a, P> {
+    pieces: &'a P,
+    plan: Plan<'a>,
+    ways: Ways<'a>,
+}
+
+impl<P: Lender> Making<'_, P> {
+    /// Makes the chains of batches, whose sizes and coordinates go into the given slices.
+    fn batches(
+        &self,
+        batches: &[Batch],
+        sizes: &mut [u32],
+        laid: &mut [f64],
+    ) -> Result<(), Fault> {
+        let (before, after) = batches.split_at(batches.len() / 2);
+        match (before, after) {
+            ([], []) => Ok(()),
+            ([], &[batch, ..]) => self.batch(batch, sizes, laid),
+            ([first, ..], [middle, ..]) => {
+                let slots = first.slots().start..middle.slots().start;
+                let (sizes, other_sizes) = sizes.split_at_mut(slots.len());
+                let (laid, other_laid) = laid.split_at_mut(self.numbers(slots));
+                self.ways.cores.both_or(
+                    || self.batches(before, sizes, laid),
+                    || self.batches(after, other_sizes, other_laid),
+                )
+            }
+            // The second half is never the shorter one.
+            (_, []) => Ok(()),
+        }
+    }
+
+    fn batch(&self, batch: Batch, sizes: &mut [u32], laid: &mut [f64]) -> Result<(), Fault> {
+        let slots = batch.slots();
+        if batch.beyond {
+            self.lay(slots.start, sizes, laid);
+            return Ok(());
+        }
+        let mut caller = self.ways.callers.this(self.ways.cores);
+        self.slots(&mut caller, slots, sizes, laid)
+    }
+
+    /// Makes the chains of slots by one call, or by two of half of them each.
+    fn slots(
+        &self,
+        caller: &mut Caller,
+        slots: Range<u32>,
+        sizes: &mut [u32],
+        laid: &mut [f64],
+    ) -> Result<(), Fault> {
+        if self.lend(caller, slots.clone()) {
+            return self.call(caller, slots, sizes, laid);
+        }
+        if slots.len() == 1 {
+            self.lay(slots.start, sizes, laid);
+            return Ok(());
+        }
+        let middle = slots.start + slots.len() as u32 / 2;
+        let (before, after) = (slots.start..middle, middle..slots.end);
+        let (sizes, other_sizes) = sizes.split_at_mut(before.len());
+        let (laid, other_laid) = laid.split_at_mut(self.numbers(before.clone()));
+        self.slots(caller, before, sizes, laid)?;
+        self.slots(caller, after, other_sizes, other_laid)
+    }
+
+    /// Lends the pieces of slots, with their neighbours if one call holds these, and tells whether
+    /// it holds them at all.
+    fn lend(&self, caller: &mut Caller, slots: Range<u32>) -> bool {
+        let lines = self.ways.capacity.lines;
+        match caller.gathered.with_neighbours(self.plan, slots.clone(), lines) {
+            Ok(()) if self.put(caller) => return true,
+            Ok(()) | Err(Without::Many) if slots.len() > 1 => return false,
+            Ok(()) | Err(Without::Many | Without::Crowded) => (),
+        }
+        caller.gathered.alone(self.plan, slots);
+        self.put(caller)
+    }
+
+    /// Lends what was gathered, and tells whether a call holds it.
+    fn put(&self, caller: &mut Caller) -> bool {
+        let Capacity { lines, points, .. } = self.ways.capacity;
+        caller.lent.clear();
+        let gathered = std::mem::take(&mut caller.gathered);
+        for (piece, whole) in gathered.pieces() {
+            self.pieces.lend(caller, piece, whole);
+        }
+        for &end in &gathered.blocked {
+            self.pieces.block(caller, end);
+        }
+        caller.gathered = gathered;
+        let most = points * self.pieces.stride();
+        caller.lent.len() <= lines && caller.lent.coordinates.len() <= most
+    }
+
+    /// Makes the call for slots, and takes their chains out of what it answers.
+    fn call(
+        &self,
+        caller: &mut Caller,
+        slots: Range<u32>,
+        sizes: &mut [u32],
+        laid: &mut [f64],
+    ) -> Result<(), Fault> {
+        let chains = self.pieces.call(caller, self.ways.settings)?;
+        caller.calls += 1;
+        let mut found = 0;
+        for record in caller.answer.records(chains) {
+            let slot = self.slot(caller, &record).filter(|slot| slots.contains(slot));
+            if let Some(slot) = slot {
+                let at = self.numbers(slots.start..slot);
+                let size = self.take(caller, &record, slot, &mut laid[at..])?;
+                sizes[(slot - slots.start) as usize] = size;
+                found += 1;
+            }
+        }
+        (self.ways.tell)(self.lines(slots.clone()));
+        match found == slots.len() {
+            true => Ok(()),
+            false => Err(self.differs(slots.start)),
+        }
+    }
+
+    /// The slot of a chain of a call, which may be any where it is not one of the call's own.
+    fn slot(&self, caller: &Caller, record: &Record) -> Option<u32> {
+        let line = caller.lent.whose(*record.members.first()?)?;
+        self.plan.batches.slot(self.pieces.piece_of(line))
+    }
+
+    /// Takes the chain of a slot out of an answer, if it is the one that was outlined, and gives how many
+    /// coordinates were laid.
+    fn take(
+        &self,
+        caller: &Caller,
+        record: &Record,
+        slot: u32,
+        room: &mut [f64],
+    ) -> Result<u32, Fault> {
+        let steps = self.steps(slot);
+        if steps.len() == 1 {
+            // A stand-in is one line.
+            let alone = record.members.len() == 1 && record.marks == [0];
+            return if alone { Ok(0) } else { Err(self.differs(slot)) };
+        }
+        if !self.pieces.is_same(caller, record, steps) {
+            return Err(self.differs(slot));
+        }
+        let stride = self.pieces.stride();
+        let from = stride * record.points.start..stride * record.points.end;
+        match (room.get_mut(..from.len()), caller.answer.merged.get(from)) {
+            (Some(room), Some(merged)) => room.copy_from_slice(merged),
+            _ => return Err(self.differs(slot)),
+        }
+        Ok(record.points.len() as u32)
+    }
+
+    /// Lays the chain of a slot without a call.
+    fn lay(&self, slot: u32, sizes: &mut [u32], laid: &mut [f64]) {
+        let steps = self.steps(slot);
+        if steps.len() > 1 {
+            sizes[0] = (lay(self.pieces, steps, laid) / self.pieces.stride()) as u32;
+        }
+        (self.ways.tell)(self.lines(slot..slot + 1));
+    }
+
+    fn steps(&self, slot: u32) -> &[u32] {
+        self.plan.outlines.steps(self.plan.batches.outline(slot))
+    }
+
+    /// The numbers that slots have room for.
+    fn numbers(&self, slots: Range<u32>) -> usize {
+        self.pieces.stride() * self.plan.batches.room(slots).len()
+    }
+
+    /// The lines of slots.
+    fn lines(&self, slots: Range<u32>) -> usize {
+        let pieces = slots.flat_map(|slot| self.steps(slot)).map(|step| step >> 1);
+        pieces.map(|piece| self.pieces.lines(piece)).sum()
+    }
+
+    fn differs(&self, slot: u32) -> Fault {
+        let piece = self.steps(slot)[0] >> 1;
+        Fault::Differs { line: self.pieces.line_of(piece) }
+    }
+}
