@@ -69,24 +69,22 @@ impl<'a> Rounds<'a> {
     /// The coordinates of a chain.
     fn run(&self, chain: u32) -> Run<'a> {
         let stride = self.stride();
-        if let Some(numbers) = self.last().chain(chain, stride) {
-            return Run::Merged(numbers);
-        }
-        let step = self.last().outlines.steps(chain)[0];
-        let piece = step >> 1;
-        match (self.second, self.first.outlines.len()) {
-            (Some(_), _) => match self.first.chain(piece, stride) {
-                Some(numbers) => Run::Merged(numbers),
-                None => Run::Own(self.first.outlines.steps(piece)[0] >> 1),
-            },
-            (None, _) => Run::Own(piece),
-        }
+        let of = |round: &'a Round, outline: u32| match *round.outlines.steps(outline) {
+            [step] => Err(step >> 1),
+            _ => Ok(round.chain(outline, stride)),
+        };
+        let laid = match self.second {
+            None => of(self.first, chain),
+            Some(second) => of(second, chain).or_else(|piece| of(self.first, piece)),
+        };
+        laid.map_or_else(Run::Own, Run::Merged)
     }
 }
 
 impl Whole {
-    /// Puts together the chains of the last round, and behind them the lines that pass through.
-    pub fn put_together(&mut self, rounds: Rounds, cores: Cores) {
+    /// Puts together the chains of the last round, and behind them the lines that pass through, with
+    /// boxes if they are asked for.
+    pub fn put_together(&mut self, rounds: Rounds, boxes: bool, cores: Cores) {
         let lines = rounds.lines.lines.len();
         self.passing.clear();
         self.passing.extend((0..lines as u32).filter(|&line| rounds.lines.passes(line)));
@@ -100,7 +98,6 @@ impl Whole {
         self.listing.resize(members, 0);
         self.way.resize(members, 0);
         self.merged.resize(rounds.stride() * points, 0.0);
-        self.boxes.resize(BOXES * chains + BOXES_BESIDE, 0.0);
         let part = Part {
             table: &mut self.table,
             members: &mut self.members,
@@ -108,11 +105,13 @@ impl Whole {
             listing: &mut self.listing,
             way: &mut self.way,
             merged: &mut self.merged,
-            boxes: &mut self.boxes[..BOX * chains],
         };
         let putting = Putting { rounds, passing: &self.passing, before: &self.before, cores };
         putting.put(0..chains, part);
-        boxing::put_levels(&mut self.boxes, chains);
+        self.boxes.resize(if boxes { BOXES * chains + BOXES_BESIDE } else { 0 }, 0.0);
+        if boxes {
+            putting.put_boxes(&mut self.boxes);
+        }
     }
 
     /// Counts what stands before each chain.
@@ -140,7 +139,6 @@ struct Part<'a> {
     listing: &'a mut [u32],
     way: &'a mut [u8],
     merged: &'a mut [f64],
-    boxes: &'a mut [f64],
 }
 
 impl<'a> Part<'a> {
@@ -152,9 +150,8 @@ impl<'a> Part<'a> {
         let (listing, listing_behind) = self.listing.split_at_mut(members);
         let (way, way_behind) = self.way.split_at_mut(members);
         let (merged, merged_behind) = self.merged.split_at_mut(numbers);
-        let (boxes, boxes_behind) = self.boxes.split_at_mut(BOX * chains);
         [
-            Part { table, members: of_members, marks, listing, way, merged, boxes },
+            Part { table, members: of_members, marks, listing, way, merged },
             Part {
                 table: table_behind,
                 members: members_behind,
@@ -162,9 +159,16 @@ impl<'a> Part<'a> {
                 listing: listing_behind,
                 way: way_behind,
                 merged: merged_behind,
-                boxes: boxes_behind,
             },
         ]
+    }
+
+    /// Puts a line of a chain at places among the members and in the listing.
+    fn put_line(&mut self, line: u32, mark: u8, member: usize, place: usize) {
+        self.members[member] = line;
+        self.marks[member] = mark;
+        self.listing[place] = line;
+        self.way[place] = mark;
     }
 }
 
@@ -177,84 +181,81 @@ struct Putting<'a> {
 }
 
 impl Putting<'_> {
-    fn put(&self, chains: Range<usize>, part: Part) {
-        if chains.len() <= PART || self.cores == Cores::One {
-            return self.put_in_turn(chains, part);
+    fn put(&self, chains: Range<usize>, mut part: Part) {
+        let [from, _] = [self.before[chains.start], self.before[chains.end]];
+        if chains.len() > PART && self.cores != Cores::One {
+            let middle = chains.start + chains.len() / 2;
+            let [members, points] = [0, 1].map(|k| (self.before[middle][k] - from[k]) as usize);
+            let numbers = self.rounds.stride() * points;
+            let [one, other] = part.split(middle - chains.start, members, numbers);
+            let after = middle..chains.end;
+            self.cores.both(|| self.put(chains.start..middle, one), || self.put(after, other));
+            return;
         }
-        let middle = chains.start + chains.len() / 2;
-        let [one, other] = self.split(part, chains.start..middle);
-        self.cores.both(|| self.put(chains.start..middle, one), || self.put(middle..chains.end, other));
-    }
-
-    /// The part of chains that stand first in it, and what is behind it.
-    fn split<'p>(&self, part: Part<'p>, chains: Range<usize>) -> [Part<'p>; 2] {
-        let [from, to] = [self.before[chains.start], self.before[chains.end]];
-        let numbers = self.rounds.stride() * (to[1] - from[1]) as usize;
-        part.split(chains.len(), (to[0] - from[0]) as usize, numbers)
-    }
-
-    fn put_in_turn(&self, chains: Range<usize>, mut part: Part) {
-        for chain in chains {
-            let [one, rest] = self.split(part, chain..chain + 1);
-            part = rest;
-            self.put_chain(chain, one);
+        for (place, chain) in chains.enumerate() {
+            let [member, point] = [0, 1].map(|k| (self.before[chain][k] - from[k]) as usize);
+            let record = self.put_chain(chain, [member, point], &mut part);
+            part.table[RECORD * place..RECORD * (place + 1)].copy_from_slice(&record);
         }
     }
 
-    fn put_chain(&self, chain: usize, part: Part) {
-        let [member, point] = self.before[chain];
-        let joined = self.rounds.last().outlines.len();
-        let run = match chain.checked_sub(joined) {
-            Some(place) => {
-                part.members[0] = self.passing[place];
-                part.listing[0] = self.passing[place];
-                part.marks[0] = 0;
-                part.way[0] = 0;
-                Run::Own(self.passing[place])
-            }
-            None => {
-                self.put_lines(chain as u32, part.members, part.marks, part.listing, part.way);
-                self.rounds.run(chain as u32)
-            }
-        };
-        let (source, first, numbers) = match run {
+    /// Puts the lines and the merged coordinates of a chain at places in a part, and gives its record.
+    fn put_chain(&self, chain: usize, [at, point]: [usize; 2], part: &mut Part) -> [u32; RECORD] {
+        let members = self.put_lines(chain, at, part);
+        let (source, first, numbers) = match self.run(chain) {
             Run::Own(line) => {
                 (0, self.rounds.lines.firsts[line as usize], self.rounds.lines.numbers(line))
             }
             Run::Merged(numbers) => {
-                part.merged.copy_from_slice(numbers);
-                (1, point, numbers)
+                let from = self.rounds.stride() * point;
+                part.merged[from..from + numbers.len()].copy_from_slice(numbers);
+                (1, self.before[chain][1], numbers)
             }
         };
-        let stride = self.rounds.stride();
-        let points = (numbers.len() / stride) as u32;
-        let looped = u32::from(boxing::is_loop(numbers, stride));
-        let members = part.members.len() as u32;
-        part.table.copy_from_slice(&[member, members, source, first, points, looped]);
-        part.boxes.copy_from_slice(&boxing::of(numbers, stride));
+        let points = numbers.len() / self.rounds.stride();
+        let looped = boxing::is_loop(numbers, self.rounds.stride());
+        [self.before[chain][0], members as u32, source, first, points as u32, u32::from(looped)]
     }
 
-    /// Puts the lines of a chain, as members and in the order in which the coordinates pass them.
-    fn put_lines(
-        &self,
-        chain: u32,
-        members: &mut [u32],
-        marks: &mut [u8],
-        listing: &mut [u32],
-        way: &mut [u8],
-    ) {
-        let mut at = 0;
-        self.rounds.pieces(chain, |steps, turned| {
-            let last = at + steps.len() - 1;
+    /// Puts the lines of a chain from a place on, and gives how many there are.
+    fn put_lines(&self, chain: usize, at: usize, part: &mut Part) -> usize {
+        if let Some(place) = chain.checked_sub(self.rounds.last().outlines.len()) {
+            part.put_line(self.passing[place], 0, at, at);
+            return 1;
+        }
+        let mut from = at;
+        self.rounds.pieces(chain as u32, |steps, turned| {
+            let last = from + steps.len() - 1;
             for (k, &step) in steps.iter().enumerate() {
-                let (line, mark) = (step >> 1, (step & 1 ^ turned) as u8);
-                members[at + k] = line;
-                marks[at + k] = mark;
-                let place = if turned == 0 { at + k } else { last - k };
-                listing[place] = line;
-                way[place] = mark;
+                let place = if turned == 0 { from + k } else { last - k };
+                part.put_line(step >> 1, (step & 1 ^ turned) as u8, from + k, place);
             }
-            at += steps.len();
+            from += steps.len();
         });
+        from - at
+    }
+
+    /// The coordinates of a chain, or of a line that passes through.
+    fn run(&self, chain: usize) -> Run<'_> {
+        match chain.checked_sub(self.rounds.last().outlines.len()) {
+            Some(place) => Run::Own(self.passing[place]),
+            None => self.rounds.run(chain as u32),
+        }
+    }
+
+    /// Puts the boxes of all chains, and those above them.
+    fn put_boxes(&self, boxes: &mut [f64]) {
+        let (stride, chains) = (self.rounds.stride(), self.before.len() - 1);
+        let put = |first: usize, boxes: &mut [f64]| {
+            for (k, room) in boxes.chunks_exact_mut(BOX).enumerate() {
+                let numbers = match self.run(first / BOX + k) {
+                    Run::Own(line) => self.rounds.lines.numbers(line),
+                    Run::Merged(numbers) => numbers,
+                };
+                room.copy_from_slice(&boxing::of(numbers, stride));
+            }
+        };
+        self.cores.parts((0, &mut boxes[..BOX * chains]), PART * BOX, &put, &|(), ()| ());
+        boxing::put_levels(boxes, chains);
     }
 }

@@ -6,6 +6,7 @@ use super::junctions::Junction;
 use super::NONE;
 use crate::chains::part;
 use crate::door::{self, BuildRooms, RawSettings};
+use crate::finishing::{finish, FinishRooms, RawPieces};
 use crate::rooms::grow;
 use crate::size::{BOXES, BOXES_BESIDE, LINE_WORKSPACE, RECORD};
 use crate::{Dimension, Lines, Refusal, Settings};
@@ -62,6 +63,81 @@ impl Lent {
     }
 }
 
+/// Puts numbers behind others. Few are put without a call for the copy.
+pub fn put(into: &mut Vec<f64>, numbers: &[f64]) {
+    match *numbers {
+        [a, b] => into.extend_from_slice(&[a, b]),
+        [a, b, c, d] => into.extend_from_slice(&[a, b, c, d]),
+        [a, b, c, d, e, f] => into.extend_from_slice(&[a, b, c, d, e, f]),
+        [a, b, c, d, e, f, g, h] => into.extend_from_slice(&[a, b, c, d, e, f, g, h]),
+        _ => into.extend_from_slice(numbers),
+    }
+}
+
+/// The pieces of a finishing call.
+#[derive(Debug, Default)]
+pub struct LentPieces {
+    records: Vec<u32>,
+    members: Vec<u32>,
+    marks: Vec<u8>,
+    merged: Vec<f64>,
+    /// The first member of the piece that is being put.
+    first: usize,
+}
+
+/// The numbers of a piece's record.
+const PIECE: usize = 5;
+
+impl LentPieces {
+    pub fn clear(&mut self) {
+        self.records.clear();
+        self.members.clear();
+        self.marks.clear();
+        self.merged.clear();
+    }
+
+    /// Begins a piece.
+    pub fn begin(&mut self) {
+        self.first = self.members.len();
+    }
+
+    /// Puts a line of the call into the piece, with its mark.
+    pub fn put_line(&mut self, line: u32, mark: u8) {
+        self.members.push(line);
+        self.marks.push(mark);
+    }
+
+    /// Ends a piece of one line, of so many coordinates from one on.
+    pub fn end_own(&mut self, first: usize, points: usize) {
+        self.end(0, first, points);
+    }
+
+    /// Ends a piece of several lines with its numbers.
+    pub fn end_merged(&mut self, numbers: &[f64], stride: usize) {
+        let first = self.merged.len() / stride;
+        self.merged.extend_from_slice(numbers);
+        self.end(1, first, numbers.len() / stride);
+    }
+
+    fn end(&mut self, source: usize, first: usize, points: usize) {
+        let record = [self.first, self.members.len() - self.first, source, first, points];
+        self.records.extend(record.map(|number| number as u32));
+    }
+
+    /// The pieces as the call takes them. Round one's members stand in the order of its coordinates, so
+    /// that they are the listing too.
+    pub fn lent(&self) -> RawPieces<'_> {
+        RawPieces {
+            records: &self.records,
+            members: &self.members,
+            marks: &self.marks,
+            listing: &self.members,
+            merged: &self.merged,
+            k: (self.records.len() / PIECE) as u64,
+        }
+    }
+}
+
 /// The rooms that a call answers in.
 #[derive(Debug, Default)]
 pub struct Answer {
@@ -77,7 +153,7 @@ pub struct Answer {
 
 impl Answer {
     /// Makes the rooms long enough for so many lines and numbers.
-    pub fn grow(&mut self, lines: usize, numbers: usize) {
+    fn grow(&mut self, lines: usize, numbers: usize) {
         grow(&mut self.table, RECORD * lines);
         grow(&mut self.members, lines);
         grow(&mut self.marks, lines);
@@ -96,6 +172,23 @@ impl Answer {
         let Answer { table, members, marks, listing, merged, boxes, spare, workspace } = self;
         let rooms = BuildRooms { table, members, marks, listing, merged, boxes, spare, workspace };
         let answer = door::build(lines.dimension.wkb_type(), lines, raw, rooms);
+        Ok(door::result(answer)? as usize)
+    }
+
+    /// Finishes pieces of lines by round two, and gives the number of chains.
+    pub fn finish(
+        &mut self,
+        lines: Lines,
+        pieces: RawPieces,
+        settings: Settings,
+    ) -> Result<usize, Refusal> {
+        self.grow(lines.len(), lines.coordinates.len());
+        let (switch, limit) = settings.switch_and_limit();
+        let Settings { tolerance, origin, .. } = settings;
+        let raw = RawSettings { tolerance, origin, switch, limit };
+        let Answer { table, members, marks, listing, merged, boxes, workspace, .. } = self;
+        let rooms = FinishRooms { table, members, marks, listing, merged, boxes, workspace };
+        let answer = finish(lines.dimension.wkb_type(), lines, pieces, raw, rooms);
         Ok(door::result(answer)? as usize)
     }
 
@@ -131,9 +224,12 @@ pub struct Caller {
     pub junction: Junction,
     pub gathered: Gathered,
     pub lent: Lent,
+    pub pieces: LentPieces,
     pub answer: Answer,
-    /// How many building calls were made.
+    /// How many calls were made.
     pub calls: usize,
+    /// The outlines of several pieces whose chains were laid without a call.
+    pub laid: Vec<u32>,
 }
 
 /// A caller for each core.
@@ -152,8 +248,14 @@ impl Callers {
         self.0[cores.this()].lock().unwrap_or_else(PoisonError::into_inner)
     }
 
-    /// All callers.
-    pub fn all(&mut self) -> impl Iterator<Item = &mut Caller> {
-        self.0.iter_mut().map(|caller| caller.get_mut().unwrap_or_else(PoisonError::into_inner))
+    /// Takes out how many calls were made, and puts the outlines that were laid without one into a list.
+    pub fn take(&self, laid: &mut Vec<u32>) -> usize {
+        let mut calls = 0;
+        for caller in &self.0 {
+            let mut caller = caller.lock().unwrap_or_else(PoisonError::into_inner);
+            calls += std::mem::take(&mut caller.calls);
+            laid.append(&mut caller.laid);
+        }
+        calls
     }
 }

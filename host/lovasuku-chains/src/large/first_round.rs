@@ -1,6 +1,6 @@
 //! Round one: the lines of a delivery, joined where ends agree bit for bit.
 
-use super::calling::{Caller, Record};
+use super::calling::{put, Caller, Record};
 use super::pieces::{stand_in, LinePieces, Pieces};
 use super::rounds::Lender;
 use super::NONE;
@@ -23,8 +23,8 @@ impl Lender for LinePieces<'_> {
         let (lent, stride) = (&mut caller.lent, self.stride());
         let before = lent.coordinates.len();
         match whole {
-            true => lent.coordinates.extend(numbers),
-            false => stand_in(numbers, stride, |some| lent.coordinates.extend(some)),
+            true => put(&mut lent.coordinates, numbers),
+            false => stand_in(numbers, stride, |some| put(&mut lent.coordinates, some)),
         }
         let points = (lent.coordinates.len() - before) / stride;
         lent.end_line(points, self.group(line), line);

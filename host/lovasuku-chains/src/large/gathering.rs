@@ -1,14 +1,16 @@
 //! What a call is lent: the pieces of its outlines, and what else ends at their nodes.
 //!
-//! With neighbours, every piece that ends at a node of an outline is lent, so that each such node is
-//! decided by the library with all its ends. Without, an outline's own pieces are lent alone. Where
-//! ends were paired, those of an outline are whole pairs and free ends, and of such a part of a node's
-//! ends the library selects the same pairs: a pair that was not selected shares an end with one that
-//! was and comes before it, and that one is of the part. Two ends that were not joined, alone at a node
-//! of which the others are not lent, would be joined; a line without length is put there, which is paired with
-//! nothing and makes them three or more.
+//! Alone, the pieces of outlines are lent and no others. The ends of an outline at a node are whole pairs of
+//! those that were selected there, and free ends. Of such a part of a node's ends the library selects
+//! the same pairs: a pair that qualifies and was not selected shares an end with one that was and comes
+//! before it, and that one is of the part. Two free ends that are all of the part would be joined,
+//! since two ends alone are, at any angle; so a line without length is put there. It has no
+//! direction, is paired with nothing, and makes them three or more.
+//!
+//! With neighbours, every piece that ends at a node of an outline is lent too, so that the library
+//! decides each such node once more, with all its ends.
 
-use super::batching::Batches;
+use super::batching::{Batch, Batches};
 use super::nodes::Nodes;
 use super::outlines::Outlines;
 use std::ops::Range;
@@ -24,16 +26,25 @@ pub struct Plan<'a> {
     pub batches: &'a Batches,
 }
 
+/// A batch, or the part of it that a call is made for.
+#[derive(Clone, Debug)]
+pub struct Asked {
+    pub batch: Batch,
+    pub slots: Range<u32>,
+}
+
 /// What a call is lent.
 #[derive(Debug, Default)]
 pub struct Gathered {
-    /// The pieces, ascending; even numbers of those that are lent whole, odd ones of those for which
-    /// a stand-in is.
-    pieces: Vec<u32>,
+    /// The pieces of its outlines, ascending; even numbers of those that are lent whole, odd ones of those
+    /// for which a stand-in is.
+    own: Vec<u32>,
+    /// The others, ascending, for which stand-ins are lent: odd numbers.
+    others: Vec<u32>,
     /// The ends at whose points a line without length is put.
     pub blocked: Vec<u32>,
-    /// The own ends at nodes of three or more, each behind its node.
-    crossing: Vec<[u32; 2]>,
+    /// The free ends of its outlines at nodes of three or more, each behind its node.
+    free: Vec<[u32; 2]>,
 }
 
 /// Why pieces are not lent with their neighbours.
@@ -46,48 +57,47 @@ pub enum Without {
 }
 
 impl Gathered {
-    /// The pieces in ascending order, each with whether it is lent whole.
-    pub fn pieces(&self) -> impl Iterator<Item = (u32, bool)> + '_ {
-        self.pieces.iter().map(|&piece| (piece >> 1, piece & 1 == 0))
+    /// Tells of all pieces in ascending order, each with whether it is lent whole.
+    pub fn each(&self, mut piece: impl FnMut(u32, bool)) {
+        let mut others = &self.others[..];
+        for &own in &self.own {
+            let before = others.iter().take_while(|&&other| other < own).count();
+            let (these, rest) = others.split_at(before);
+            these.iter().for_each(|other| piece(other >> 1, false));
+            others = rest;
+            piece(own >> 1, own & 1 == 0);
+        }
+        others.iter().for_each(|other| piece(other >> 1, false));
     }
 
-    /// How many pieces and lines without length there are.
-    pub fn len(&self) -> usize {
-        self.pieces.len() + self.blocked.len()
-    }
-
-    /// Gathers the pieces of the outlines of slots with all neighbours, as long as there are no more
-    /// than so many.
+    /// Gathers the pieces of outlines with all neighbours, as long as there are no more than so many.
     pub fn with_neighbours(
         &mut self,
         plan: Plan,
-        slots: Range<u32>,
+        asked: &Asked,
         most: usize,
     ) -> Result<(), Without> {
-        self.take(plan, slots.clone());
-        let own = self.pieces.len();
-        for k in 0..own {
-            let first = self.pieces[k] & !1;
+        self.take(plan, asked);
+        for k in 0..self.own.len() {
+            let first = self.own[k] & !1;
             for end in [first, first + 1] {
                 if let Some(crossing) = plan.nodes.crossing(end) {
-                    self.neighbours(plan, &slots, end, crossing)?;
+                    self.neighbours(plan, &asked.slots, end, crossing)?;
                 }
             }
-            if self.pieces.len() > 2 * most {
-                self.each_once(own, most)?;
+            if self.others.len() > 2 * most {
+                self.each_once(most)?;
             }
         }
-        self.each_once(own, most)?;
-        self.pieces.sort_unstable();
-        Ok(())
+        self.each_once(most)
     }
 
-    /// Takes neighbours, which stand behind so many own pieces, out where they stand twice, and tells
-    /// where there are too many all the same.
-    fn each_once(&mut self, own: usize, most: usize) -> Result<(), Without> {
-        self.pieces[own..].sort_unstable();
-        self.pieces.dedup();
-        match self.pieces.len() > most {
+    /// Puts neighbours in ascending order, takes them out where they stand twice, and tells where there
+    /// are too many all the same.
+    fn each_once(&mut self, most: usize) -> Result<(), Without> {
+        self.others.sort_unstable();
+        self.others.dedup();
+        match self.own.len() + self.others.len() > most {
             true => Err(Without::Many),
             false => Ok(()),
         }
@@ -101,52 +111,65 @@ impl Gathered {
         end: u32,
         crossing: u32,
     ) -> Result<(), Without> {
-        let from = self.pieces.len();
+        let from = self.others.len();
         for (k, other) in plan.nodes.at(crossing).enumerate() {
             if k == MOST_NEIGHBOURS {
                 return Err(Without::Crowded);
             }
             let is_own = plan.batches.slot(other >> 1).map_or(false, |slot| slots.contains(&slot));
             if !is_own {
-                self.pieces.push(other | 1);
+                self.others.push(other | 1);
             } else if other < end {
-                self.pieces.truncate(from);
+                self.others.truncate(from);
                 break;
             }
         }
         Ok(())
     }
 
-    /// Gathers the pieces of the outlines of slots alone, with what keeps their ends apart.
-    pub fn alone(&mut self, plan: Plan, slots: Range<u32>) {
-        self.take(plan, slots);
-        self.crossing.clear();
-        for first in self.pieces.iter().map(|&piece| piece & !1) {
-            for end in [first, first + 1] {
-                self.crossing.extend(plan.nodes.crossing(end).map(|node| [node, end]));
+    /// Gathers the pieces of outlines alone, with what keeps their free ends apart.
+    pub fn alone(&mut self, plan: Plan, asked: &Asked) {
+        self.take(plan, asked);
+        self.free.clear();
+        for slot in asked.slots.clone() {
+            let steps = plan.outlines.steps(plan.batches.outline(slot));
+            if let ([first, ..], [.., last]) = (steps, steps) {
+                self.put_free(plan, *first);
+                self.put_free(plan, last ^ 1);
             }
         }
-        self.crossing.sort_unstable();
+        self.free.sort_unstable();
         let same_node = |a: &[u32; 2], b: &[u32; 2]| a[0] == b[0];
-        for node in groups(&self.crossing, same_node) {
+        for node in groups(&self.free, same_node) {
             if let [[_, one], [_, other]] = *node {
-                if plan.nodes.joined(one) != Some(other) && one >> 1 != other >> 1 {
+                if one >> 1 != other >> 1 {
                     self.blocked.push(one);
                 }
             }
         }
-        self.pieces.sort_unstable();
     }
 
-    /// Takes the pieces of the outlines of slots: those of several whole.
-    fn take(&mut self, plan: Plan, slots: Range<u32>) {
-        self.pieces.clear();
-        self.blocked.clear();
-        for slot in slots {
-            let steps = plan.outlines.steps(plan.batches.outline(slot));
-            let stood_in = u32::from(steps.len() == 1);
-            self.pieces.extend(steps.iter().map(|&step| step & !1 | stood_in));
+    /// Adds an end of an outline, if it is free and three ends or more meet there.
+    fn put_free(&mut self, plan: Plan, end: u32) {
+        if plan.nodes.joined(end).is_none() {
+            self.free.extend(plan.nodes.crossing(end).map(|node| [node, end]));
         }
+    }
+
+    /// Takes the pieces of outlines.
+    fn take(&mut self, plan: Plan, asked: &Asked) {
+        let Asked { batch, slots } = asked;
+        self.own.clear();
+        self.others.clear();
+        self.blocked.clear();
+        let pieces = plan.batches.pieces(*batch);
+        if batch.slots() == *slots {
+            return self.own.extend(pieces);
+        }
+        let is_asked = |piece: &&u32| {
+            plan.batches.slot(*piece >> 1).map_or(false, |slot| slots.contains(&slot))
+        };
+        self.own.extend(pieces.iter().filter(is_asked));
     }
 }
 

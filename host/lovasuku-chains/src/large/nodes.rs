@@ -16,7 +16,7 @@ const PART: usize = 16_384;
 /// What ends are sorted in. Nothing in it is kept.
 #[derive(Debug, Default)]
 pub struct Sorting {
-    spots: Vec<Spot>,
+    spots: Vec<[Spot; 2]>,
     entries: Vec<u64>,
     spare: Vec<u64>,
 }
@@ -98,14 +98,17 @@ impl Sorting {
     fn look(&mut self, pieces: &impl Pieces, grid: Grid, cores: Cores) -> Bounds {
         let count = pieces.count();
         // The spots of ends that pass through are not looked at, whatever was there before.
-        self.spots.resize(2 * count, Spot::default());
+        self.spots.resize(count, [Spot::default(); 2]);
         let stride = pieces.stride();
-        let take = |first: usize, spots: &mut [Spot]| {
+        let take = |first: usize, spots: &mut [[Spot; 2]]| {
             let mut bounds = Bounds::NONE;
-            for (k, spot) in spots.iter_mut().enumerate() {
-                let end = (first + k) as u32;
-                let run = pieces.run(end >> 1);
-                if let Some(point) = run.and_then(|run| end_of(run, stride, end & 1)) {
+            for (k, ends) in spots.iter_mut().enumerate() {
+                let run = match pieces.run((first + k) as u32) {
+                    Some(run) => run,
+                    None => continue,
+                };
+                for (side, spot) in ends.iter_mut().enumerate() {
+                    let point = end_of(run, stride, side as u32).unwrap_or_default();
                     *spot = grid.spot(point);
                     bounds = bounds.with(*spot);
                 }
@@ -114,8 +117,12 @@ impl Sorting {
         };
         let bounds = cores.parts((0, &mut self.spots[..]), PART, &take, &|a, b| a.and(b));
         self.entries.clear();
-        let joined = (0..count as u32).filter(|&piece| pieces.run(piece).is_some());
-        self.entries.extend(joined.flat_map(|piece| [2 * piece, 2 * piece + 1]).map(u64::from));
+        self.entries.reserve(2 * count);
+        for piece in 0..count as u32 {
+            if pieces.run(piece).is_some() {
+                self.entries.extend([2 * piece, 2 * piece + 1].map(u64::from));
+            }
+        }
         bounds
     }
 }

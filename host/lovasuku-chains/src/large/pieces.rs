@@ -84,6 +84,7 @@ pub struct LinePieces<'a> {
 
 impl<'a> LinePieces<'a> {
     /// All numbers of a line.
+    #[inline]
     pub fn numbers(&self, line: u32) -> &'a [f64] {
         let stride = self.lines.dimension.stride();
         let line = line as usize;
@@ -92,6 +93,7 @@ impl<'a> LinePieces<'a> {
     }
 
     /// True where a line passes through: by its kind, or for want of two coordinates.
+    #[inline]
     pub fn passes(&self, line: u32) -> bool {
         self.lines.kinds[line as usize] != 0 || self.lines.counts[line as usize] < 2
     }
@@ -110,6 +112,7 @@ impl Pieces for LinePieces<'_> {
         self.lines.groups[piece as usize]
     }
 
+    #[inline]
     fn run(&self, piece: u32) -> Option<&[f64]> {
         (!self.passes(piece)).then(|| self.numbers(piece))
     }

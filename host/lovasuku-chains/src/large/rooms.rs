@@ -4,11 +4,12 @@ use super::assembling::{Rounds, Whole};
 use super::calling::Callers;
 use super::capacity::Capacity;
 use super::cores::Cores;
-use super::delivered::Delivered;
+use super::joined::Joined;
 use super::judging;
 use super::nodes::Sorting;
 use super::pieces::LinePieces;
 use super::rounds::{Round, Ways};
+use super::second_round::ChainPieces;
 use super::spots::Grid;
 use super::Fault;
 use crate::size::RECORD;
@@ -19,6 +20,11 @@ use crate::{Chains, Lines, Settings};
 pub struct Way<'a> {
     /// How much a call is given.
     pub capacity: Capacity,
+    /// Whether every node at which lines were joined or kept apart is decided by a building call once
+    /// more, with all its ends, as far as a call holds them.
+    pub neighbours: bool,
+    /// Whether boxes are kept, for questions which chains lie in a window.
+    pub boxes: bool,
     /// On which cores.
     pub cores: Cores,
     /// Is told, from any of the cores, how many lines more are done.
@@ -28,7 +34,13 @@ pub struct Way<'a> {
 impl Default for Way<'_> {
     /// Calls as the library takes them, on all cores, with nothing told.
     fn default() -> Self {
-        Way { capacity: Capacity::default(), cores: Cores::default(), tell: &|_| () }
+        Way {
+            capacity: Capacity::default(),
+            neighbours: false,
+            boxes: false,
+            cores: Cores::default(),
+            tell: &|_| (),
+        }
     }
 }
 
@@ -39,8 +51,11 @@ pub struct Rooms {
     sorting: Sorting,
     callers: Callers,
     first: Round,
+    second: Round,
     whole: Whole,
+    /// The chains that were laid without a call.
     laid: Vec<u32>,
+    calls: usize,
 }
 
 impl Rooms {
@@ -49,7 +64,7 @@ impl Rooms {
         &'a mut self,
         lines: Lines<'a>,
         settings: Settings,
-    ) -> Result<Delivered<'a>, Fault> {
+    ) -> Result<Joined<'a>, Fault> {
         self.build_by(lines, settings, Way::default())
     }
 
@@ -59,40 +74,38 @@ impl Rooms {
         lines: Lines<'a>,
         settings: Settings,
         way: Way,
-    ) -> Result<Delivered<'a>, Fault> {
+    ) -> Result<Joined<'a>, Fault> {
         way.cores.within(|| self.join(lines, settings, way))?;
         let Whole { table, members, marks, listing, way, merged, boxes, .. } = &self.whole;
-        let chains = Chains {
-            lines,
-            table,
-            members,
-            marks,
-            listing,
-            way,
-            merged,
-            boxes,
-            boxed: table.len() / RECORD,
-        };
-        Ok(Delivered {
-            chains,
-            nodes: &self.first.nodes,
-            pieces: &self.first.outlines,
-            beyond: &self.laid,
-            calls: 0,
-        })
+        let boxed = table.len() / RECORD;
+        let chains = Chains { lines, table, members, marks, listing, way, merged, boxes, boxed };
+        let Round { nodes, outlines, .. } = &self.first;
+        Ok(Joined { chains, nodes, pieces: outlines, laid: &self.laid, calls: self.calls })
     }
 
     fn join(&mut self, lines: Lines, settings: Settings, way: Way) -> Result<(), Fault> {
-        judging::judge(lines, settings, way.cores)?;
-        let Rooms { firsts, sorting, callers, first, whole, laid } = self;
-        judging::count(lines.counts, firsts);
-        callers.grow(way.cores);
-        let pieces = LinePieces { lines, firsts };
-        let Way { capacity, cores, tell } = way;
-        let ways = Ways { settings, capacity, cores, callers, tell };
-        first.run(&pieces, Grid::Exact, sorting, ways)?;
+        let Way { capacity, neighbours, boxes, cores, tell } = way;
+        judging::judge(lines, settings, cores)?;
+        judging::count(lines.counts, &mut self.firsts);
+        self.callers.grow(cores);
+        let Rooms { firsts, sorting, callers, first, second, whole, laid, calls } = self;
+        // What a build that ended with a fault left behind is of no use.
+        callers.take(laid);
         laid.clear();
-        whole.put_together(Rounds { lines: pieces, first, second: None }, cores);
+        let lines = LinePieces { lines, firsts };
+        let ways = Ways { settings, capacity, neighbours, cores, callers, tell };
+        first.run(&lines, Grid::Exact, sorting, ways)?;
+        *calls = callers.take(laid);
+        let mut rounds = Rounds { lines, first, second: None };
+        if let Some(grid) = Grid::of_round_two(settings) {
+            second.run(&ChainPieces { lines, first }, grid, sorting, ways)?;
+            laid.iter_mut().for_each(|piece| *piece = second.outlines.of(*piece));
+            *calls += callers.take(laid);
+            rounds.second = Some(second);
+        }
+        laid.sort_unstable();
+        laid.dedup();
+        whole.put_together(rounds, boxes, cores);
         Ok(())
     }
 }

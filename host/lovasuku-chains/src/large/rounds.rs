@@ -4,7 +4,7 @@ use super::batching::{Batch, Batches};
 use super::calling::{Caller, Callers, Record};
 use super::capacity::Capacity;
 use super::cores::Cores;
-use super::gathering::{Plan, Without};
+use super::gathering::{Asked, Plan, Without};
 use super::laying::lay;
 use super::nodes::{Nodes, Sorting};
 use super::outlines::Outlines;
@@ -40,6 +40,7 @@ pub trait Lender: Pieces {
 pub struct Ways<'a> {
     pub settings: Settings,
     pub capacity: Capacity,
+    pub neighbours: bool,
     pub cores: Cores,
     pub callers: &'a Callers,
     /// Is told how many lines are done.
@@ -67,10 +68,10 @@ impl Round {
         sorting: &mut Sorting,
         ways: Ways,
     ) -> Result<(), Fault> {
-        let Ways { settings, capacity, cores, callers, .. } = ways;
+        let Ways { settings, capacity, neighbours, cores, callers, .. } = ways;
         self.nodes.meet(pieces, (grid, settings.limit), sorting, (cores, callers))?;
         self.outlines.walk(pieces, &self.nodes);
-        self.batches.cut(pieces, &self.nodes, &self.outlines, capacity);
+        self.batches.cut(pieces, &self.nodes, &self.outlines, (capacity, neighbours));
         self.sizes.clear();
         self.sizes.resize(self.batches.slots(), 0);
         let room = self.batches.room(0..self.batches.slots() as u32);
@@ -81,15 +82,15 @@ impl Round {
         Making { pieces, plan, ways }.batches(batches.all(), sizes, laid)
     }
 
-    /// The numbers of an outline's chain, or nothing where it is of one piece, untouched.
-    pub fn chain(&self, outline: u32, stride: usize) -> Option<&[f64]> {
-        match *self.outlines.steps(outline) {
-            [] | [_] => None,
-            [step, ..] => {
-                let slot = self.batches.slot(step >> 1)?;
+    /// The numbers of the chain of an outline of several pieces.
+    pub fn chain(&self, outline: u32, stride: usize) -> &[f64] {
+        let piece = self.outlines.steps(outline)[0] >> 1;
+        match self.batches.slot(piece) {
+            None => &[],
+            Some(slot) => {
                 let first = self.batches.room(slot..slot + 1).start;
                 let count = self.sizes[slot as usize] as usize;
-                Some(&self.laid[stride * first..stride * (first + count)])
+                &self.laid[stride * first..stride * (first + count)]
             }
         }
     }
@@ -130,47 +131,50 @@ impl<P: Lender> Making<'_, P> {
 
     fn batch(&self, batch: Batch, sizes: &mut [u32], laid: &mut [f64]) -> Result<(), Fault> {
         let slots = batch.slots();
+        let mut caller = self.ways.callers.this(self.ways.cores);
         if batch.beyond {
-            self.lay(slots.start, sizes, laid);
+            self.lay(&mut caller, slots.start, sizes, laid);
             return Ok(());
         }
-        let mut caller = self.ways.callers.this(self.ways.cores);
-        self.slots(&mut caller, slots, sizes, laid)
+        self.asked(&mut caller, Asked { batch, slots }, sizes, laid)
     }
 
-    /// Makes the chains of slots by one call, or by two of half of them each.
-    fn slots(
+    /// Makes the chains of a batch by one call, or by two of half of them each.
+    fn asked(
         &self,
         caller: &mut Caller,
-        slots: Range<u32>,
+        asked: Asked,
         sizes: &mut [u32],
         laid: &mut [f64],
     ) -> Result<(), Fault> {
-        if self.lend(caller, slots.clone()) {
-            return self.call(caller, slots, sizes, laid);
+        if self.lend(caller, &asked) {
+            return self.call(caller, asked.slots, sizes, laid);
         }
+        let Asked { batch, slots } = asked;
         if slots.len() == 1 {
-            self.lay(slots.start, sizes, laid);
+            self.lay(caller, slots.start, sizes, laid);
             return Ok(());
         }
         let middle = slots.start + slots.len() as u32 / 2;
         let (before, after) = (slots.start..middle, middle..slots.end);
         let (sizes, other_sizes) = sizes.split_at_mut(before.len());
         let (laid, other_laid) = laid.split_at_mut(self.numbers(before.clone()));
-        self.slots(caller, before, sizes, laid)?;
-        self.slots(caller, after, other_sizes, other_laid)
+        self.asked(caller, Asked { batch, slots: before }, sizes, laid)?;
+        self.asked(caller, Asked { batch, slots: after }, other_sizes, other_laid)
     }
 
-    /// Lends the pieces of slots, with their neighbours if one call holds these, and tells whether
-    /// it holds them at all.
-    fn lend(&self, caller: &mut Caller, slots: Range<u32>) -> bool {
-        let lines = self.ways.capacity.lines;
-        match caller.gathered.with_neighbours(self.plan, slots.clone(), lines) {
-            Ok(()) if self.put(caller) => return true,
-            Ok(()) | Err(Without::Many) if slots.len() > 1 => return false,
-            Ok(()) | Err(Without::Many | Without::Crowded) => (),
+    /// Lends the pieces of a batch, with their neighbours if that is asked for and one call holds
+    /// these, and tells whether it holds them at all.
+    fn lend(&self, caller: &mut Caller, asked: &Asked) -> bool {
+        if self.ways.neighbours {
+            let lines = self.ways.capacity.lines;
+            match caller.gathered.with_neighbours(self.plan, asked, lines) {
+                Ok(()) if self.put(caller) => return true,
+                Ok(()) | Err(Without::Many) if asked.slots.len() > 1 => return false,
+                Ok(()) | Err(Without::Many | Without::Crowded) => (),
+            }
         }
-        caller.gathered.alone(self.plan, slots);
+        caller.gathered.alone(self.plan, asked);
         self.put(caller)
     }
 
@@ -178,10 +182,9 @@ impl<P: Lender> Making<'_, P> {
     fn put(&self, caller: &mut Caller) -> bool {
         let Capacity { lines, points, .. } = self.ways.capacity;
         caller.lent.clear();
+        caller.pieces.clear();
         let gathered = std::mem::take(&mut caller.gathered);
-        for (piece, whole) in gathered.pieces() {
-            self.pieces.lend(caller, piece, whole);
-        }
+        gathered.each(|piece, whole| self.pieces.lend(caller, piece, whole));
         for &end in &gathered.blocked {
             self.pieces.block(caller, end);
         }
@@ -251,10 +254,11 @@ impl<P: Lender> Making<'_, P> {
     }
 
     /// Lays the chain of a slot without a call.
-    fn lay(&self, slot: u32, sizes: &mut [u32], laid: &mut [f64]) {
+    fn lay(&self, caller: &mut Caller, slot: u32, sizes: &mut [u32], laid: &mut [f64]) {
         let steps = self.steps(slot);
         if steps.len() > 1 {
             sizes[0] = (lay(self.pieces, steps, laid) / self.pieces.stride()) as u32;
+            caller.laid.push(self.plan.batches.outline(slot));
         }
         (self.ways.tell)(self.lines(slot..slot + 1));
     }
