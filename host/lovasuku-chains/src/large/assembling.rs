@@ -110,7 +110,8 @@ impl Whole {
         putting.put(0..chains, part);
         self.boxes.resize(if boxes { BOXES * chains + BOXES_BESIDE } else { 0 }, 0.0);
         if boxes {
-            putting.put_boxes(&mut self.boxes);
+            putting.put_boxes(0..chains, &mut self.boxes);
+            boxing::put_levels(&mut self.boxes, chains);
         }
     }
 
@@ -243,19 +244,21 @@ impl Putting<'_> {
         }
     }
 
-    /// Puts the boxes of all chains, and those above them.
-    fn put_boxes(&self, boxes: &mut [f64]) {
-        let (stride, chains) = (self.rounds.stride(), self.before.len() - 1);
-        let put = |first: usize, boxes: &mut [f64]| {
-            for (k, room) in boxes.chunks_exact_mut(BOX).enumerate() {
-                let numbers = match self.run(first / BOX + k) {
-                    Run::Own(line) => self.rounds.lines.numbers(line),
-                    Run::Merged(numbers) => numbers,
-                };
-                room.copy_from_slice(&boxing::of(numbers, stride));
-            }
-        };
-        self.cores.parts((0, &mut boxes[..BOX * chains]), PART * BOX, &put, &|(), ()| ());
-        boxing::put_levels(boxes, chains);
+    /// Puts the boxes of chains.
+    fn put_boxes(&self, chains: Range<usize>, boxes: &mut [f64]) {
+        if chains.len() > PART && self.cores != Cores::One {
+            let middle = chains.start + chains.len() / 2;
+            let (before, after) = (chains.start..middle, middle..chains.end);
+            let (boxes, others) = boxes.split_at_mut(BOX * before.len());
+            self.cores.both(|| self.put_boxes(before, boxes), || self.put_boxes(after, others));
+            return;
+        }
+        for (chain, room) in chains.zip(boxes.chunks_exact_mut(BOX)) {
+            let numbers = match self.run(chain) {
+                Run::Own(line) => self.rounds.lines.numbers(line),
+                Run::Merged(numbers) => numbers,
+            };
+            room.copy_from_slice(&boxing::of(numbers, self.rounds.stride()));
+        }
     }
 }

@@ -1,30 +1,14 @@
 //! Batches: what each call of the library is given.
 
 use super::components::components;
-use super::{at, Line, Point};
-use crate::size::{BORDER, MOST_DISTRICT_LINES, MOST_DISTRICT_POINTS};
+use super::{at, Capacity, Line, Point};
+use crate::size::BORDER;
 use crate::Settings;
 use std::error::Error;
 use std::fmt;
 
 /// The positions of the lines of one call. Those of one component ascend.
 pub type Batch = Vec<u32>;
-
-/// How much one call may be given of each district.
-#[derive(Clone, Copy, Debug, PartialEq)]
-pub struct Capacity {
-    /// The most lines.
-    pub lines: usize,
-    /// The most coordinates, counted in pairs of x and y.
-    pub points: usize,
-}
-
-impl Default for Capacity {
-    /// What the library takes.
-    fn default() -> Self {
-        Capacity { lines: MOST_DISTRICT_LINES, points: MOST_DISTRICT_POINTS }
-    }
-}
 
 /// How many batches the lines of a full call are spread over where there are more than one call
 /// holds, so that every core has work till the end.

@@ -59,10 +59,10 @@ impl Batches {
         pieces: &impl Pieces,
         nodes: &Nodes,
         outlines: &Outlines,
-        (capacity, neighbours): (Capacity, bool),
+        (capacity, batch, neighbours): (Capacity, usize, bool),
     ) {
         self.clear(pieces.count());
-        let mut filled = capacity.batch;
+        let mut filled = batch;
         for piece in nodes.ends().map(|end| end >> 1) {
             if self.slots[piece as usize] != NONE {
                 continue;
@@ -79,7 +79,7 @@ impl Batches {
                 self.give(steps, BEYOND);
                 continue;
             }
-            if filled + lines > capacity.batch {
+            if filled + lines > batch {
                 self.begin(false);
                 filled = 0;
             }

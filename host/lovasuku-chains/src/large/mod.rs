@@ -57,9 +57,9 @@ mod spots;
 
 use crate::size::MOST_ENDS;
 use crate::{Dimension, PathLine, Refusal, Settings};
-pub use batches::{batches, zoom_batches, Batch, Capacity, TooLarge};
+pub use batches::{batches, zoom_batches, Batch, TooLarge};
 pub use calls::Caller;
-pub use capacity::Capacity as Holds;
+pub use capacity::Capacity;
 pub use checks::{check, check_batches, CheckBatch, CheckBatches, Checker};
 pub(crate) use components::{exact_key, key, Key};
 pub use cores::Cores;

@@ -14,12 +14,18 @@ use super::spots::Grid;
 use super::Fault;
 use crate::size::RECORD;
 use crate::{Chains, Lines, Settings};
+use std::fmt;
+
+/// So many lines make a batch whose rooms the caches of a core hold.
+const BATCH: usize = 512;
 
 /// How a delivery is joined. The chains are the same in any way.
 #[derive(Clone, Copy)]
 pub struct Way<'a> {
-    /// How much a call is given.
+    /// How much a call may be given. Chains of more are laid without one.
     pub capacity: Capacity,
+    /// Chains are built by one call up to so many lines together. One chain may have more.
+    pub batch: usize,
     /// Whether every node at which lines were joined or kept apart is decided by a building call once
     /// more, with all its ends, as far as a call holds them.
     pub neighbours: bool,
@@ -31,11 +37,24 @@ pub struct Way<'a> {
     pub tell: &'a (dyn Fn(usize) + Sync),
 }
 
+impl fmt::Debug for Way<'_> {
+    fn fmt(&self, f: &mut fmt::Formatter<'_>) -> fmt::Result {
+        f.debug_struct("Way")
+            .field("capacity", &self.capacity)
+            .field("batch", &self.batch)
+            .field("neighbours", &self.neighbours)
+            .field("boxes", &self.boxes)
+            .field("cores", &self.cores)
+            .finish_non_exhaustive()
+    }
+}
+
 impl Default for Way<'_> {
     /// Calls as the library takes them, on all cores, with nothing told.
     fn default() -> Self {
         Way {
             capacity: Capacity::default(),
+            batch: BATCH,
             neighbours: false,
             boxes: false,
             cores: Cores::default(),
@@ -84,7 +103,7 @@ impl Rooms {
     }
 
     fn join(&mut self, lines: Lines, settings: Settings, way: Way) -> Result<(), Fault> {
-        let Way { capacity, neighbours, boxes, cores, tell } = way;
+        let Way { capacity, batch, neighbours, boxes, cores, tell } = way;
         judging::judge(lines, settings, cores)?;
         judging::count(lines.counts, &mut self.firsts);
         self.callers.grow(cores);
@@ -93,7 +112,7 @@ impl Rooms {
         callers.take(laid);
         laid.clear();
         let lines = LinePieces { lines, firsts };
-        let ways = Ways { settings, capacity, neighbours, cores, callers, tell };
+        let ways = Ways { settings, capacity, batch, neighbours, cores, callers, tell };
         first.run(&lines, Grid::Exact, sorting, ways)?;
         *calls = callers.take(laid);
         let mut rounds = Rounds { lines, first, second: None };

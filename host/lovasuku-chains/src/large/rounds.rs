@@ -40,6 +40,7 @@ pub trait Lender: Pieces {
 pub struct Ways<'a> {
     pub settings: Settings,
     pub capacity: Capacity,
+    pub batch: usize,
     pub neighbours: bool,
     pub cores: Cores,
     pub callers: &'a Callers,
@@ -68,10 +69,10 @@ impl Round {
         sorting: &mut Sorting,
         ways: Ways,
     ) -> Result<(), Fault> {
-        let Ways { settings, capacity, neighbours, cores, callers, .. } = ways;
+        let Ways { settings, capacity, batch, neighbours, cores, callers, .. } = ways;
         self.nodes.meet(pieces, (grid, settings.limit), sorting, (cores, callers))?;
         self.outlines.walk(pieces, &self.nodes);
-        self.batches.cut(pieces, &self.nodes, &self.outlines, (capacity, neighbours));
+        self.batches.cut(pieces, &self.nodes, &self.outlines, (capacity, batch, neighbours));
         self.sizes.clear();
         self.sizes.resize(self.batches.slots(), 0);
         let room = self.batches.room(0..self.batches.slots() as u32);
