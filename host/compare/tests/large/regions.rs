@@ -25,9 +25,10 @@ fn compare(name: &str, region: &BuildCall, ways: &[Way]) {
                 let in_this = |fault: String| {
                     format!("{name}, tolerance {tolerance}, limit {limit:?}, {way:?}: {fault}")
                 };
-                let joined =
-                    rooms.build_by(lines(&call, &coordinates), settings(&call), *way);
-                let held = joined.map_err(|fault| fault.to_string()).and_then(|joined| hold(&joined, &wanted));
+                let joined = rooms.build_by(lines(&call, &coordinates), settings(&call), *way);
+                let held = joined
+                    .map_err(|fault| fault.to_string())
+                    .and_then(|joined| hold(&joined, &wanted));
                 held.map_err(in_this).unwrap();
             }
         }

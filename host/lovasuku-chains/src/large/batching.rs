@@ -1,13 +1,14 @@
 //! Batches: the outlines whose chains one call builds.
 //!
-//! Outlines are taken in the order of their first ends among the nodes, so that those of a batch lie
-//! near each other and few lines of other outlines end at their nodes. An outline of one piece is that
+//! Outlines are taken by where they begin, so that those of a batch lie near each other and few lines of
+//! other outlines end at their nodes. An outline of one piece is that
 //! piece, untouched, and needs no call; it has one where every node is to be decided once more, unless
 //! it meets nothing. One of more lines or points than a call holds stands alone, behind all others, and
 //! is laid without. Each outline that needs a call or is laid has a slot, in the order of the batches.
 
 use super::capacity::Capacity;
-use super::nodes::Nodes;
+use super::cores::Cores;
+use super::nodes::{Nodes, Sorting};
 use super::outlines::Outlines;
 use super::pieces::Pieces;
 use super::NONE;
@@ -30,6 +31,24 @@ impl Batch {
     }
 }
 
+/// How outlines are cut into batches.
+#[derive(Clone, Copy, Debug)]
+pub struct Cutting {
+    pub capacity: Capacity,
+    /// A batch is filled up to so many lines.
+    pub batch: usize,
+    /// Whether every node is to be decided once more.
+    pub neighbours: bool,
+    pub cores: Cores,
+}
+
+/// The nodes of a round and the outlines over them.
+#[derive(Clone, Copy)]
+pub struct Plan<'a> {
+    pub nodes: &'a Nodes,
+    pub outlines: &'a Outlines,
+}
+
 /// The batches of a round.
 #[derive(Debug, Default)]
 pub struct Batches {
@@ -39,7 +58,7 @@ pub struct Batches {
     pieces: Vec<u32>,
     /// The outline of each slot.
     outlines: Vec<u32>,
-    /// The batch of each slot.
+    /// The batch of each slot, twice its number, and one more where its outline has one piece.
     homes: Vec<u32>,
     /// The slot of each piece's outline, if it has one.
     slots: Vec<u32>,
@@ -49,45 +68,44 @@ pub struct Batches {
     beyond: Vec<u32>,
 }
 
-/// Stands for the slot of an outline that is more than a call holds until it has one.
-const BEYOND: u32 = NONE - 1;
-
 impl Batches {
     /// Cuts the outlines of a round into batches.
     pub fn cut(
         &mut self,
         pieces: &impl Pieces,
-        nodes: &Nodes,
-        outlines: &Outlines,
-        (capacity, batch, neighbours): (Capacity, usize, bool),
+        Plan { nodes, outlines }: Plan,
+        sorting: &mut Sorting,
+        ways: Cutting,
     ) {
         self.clear(pieces.count());
+        let Cutting { capacity, batch, neighbours, cores } = ways;
+        let needs_a_call = |&outline: &u32| match *outlines.steps(outline) {
+            [step] => neighbours && meets(nodes, step),
+            _ => true,
+        };
+        let begin = |outline: u32| (outlines.steps(outline)[0], outline);
+        let all = (0..outlines.len() as u32).filter(needs_a_call).map(begin);
         let mut filled = batch;
-        for piece in nodes.ends().map(|end| end >> 1) {
-            if self.slots[piece as usize] != NONE {
-                continue;
-            }
-            let outline = outlines.of(piece);
+        for outline in sorting.by_place(all, cores) {
             let steps = outlines.steps(outline);
-            match *steps {
-                [step] if !neighbours || !meets(nodes, step) => continue,
-                _ => (),
-            }
-            let [lines, points] = size(pieces, steps);
-            if lines > capacity.lines || points > capacity.points {
+            let size = Size::of(pieces, steps);
+            if size.lines > capacity.lines || size.points > capacity.points {
                 self.beyond.push(outline);
-                self.give(steps, BEYOND);
                 continue;
             }
-            if filled + lines > batch {
+            if filled + size.lines > batch {
                 self.begin(false);
                 filled = 0;
             }
-            filled += lines;
-            self.put(pieces, outline, steps);
+            filled += size.lines;
+            self.put(outline, steps, size);
         }
-        self.put_beyond(pieces, outlines);
-        self.sort_pieces(outlines);
+        for k in 0..self.beyond.len() {
+            let steps = outlines.steps(self.beyond[k]);
+            self.begin(true);
+            self.put(self.beyond[k], steps, Size::of(pieces, steps));
+        }
+        self.sort_pieces();
     }
 
     fn clear(&mut self, pieces: usize) {
@@ -109,47 +127,32 @@ impl Batches {
     }
 
     /// Puts an outline into the last batch.
-    fn put(&mut self, pieces: &impl Pieces, outline: u32, steps: &[u32]) {
-        self.give(steps, self.outlines.len() as u32);
+    fn put(&mut self, outline: u32, steps: &[u32], size: Size) {
+        let slot = self.outlines.len() as u32;
+        steps.iter().for_each(|&step| self.slots[(step >> 1) as usize] = slot);
         self.outlines.push(outline);
-        self.homes.push(self.batches.len() as u32 - 1);
-        let room = match *steps {
-            [_] => 0,
-            _ => steps.iter().map(|&step| run_points(pieces, step >> 1)).sum(),
-        };
+        let home = self.batches.len() as u32 - 1;
+        self.homes.push(2 * home + u32::from(steps.len() == 1));
         let before = self.rooms.last().copied().unwrap_or_default();
-        self.rooms.push(before + room as u32);
+        self.rooms.push(before + size.room as u32);
         if let Some(batch) = self.batches.last_mut() {
             batch.slots[1] += 1;
             batch.pieces[1] += steps.len() as u32;
         }
     }
 
-    /// Gives the pieces of an outline a slot.
-    fn give(&mut self, steps: &[u32], slot: u32) {
-        steps.iter().for_each(|&step| self.slots[(step >> 1) as usize] = slot);
-    }
-
-    fn put_beyond(&mut self, pieces: &impl Pieces, outlines: &Outlines) {
-        for k in 0..self.beyond.len() {
-            let outline = self.beyond[k];
-            self.begin(true);
-            self.put(pieces, outline, outlines.steps(outline));
-        }
-    }
-
     /// Puts the pieces of each batch in ascending order.
-    fn sort_pieces(&mut self, outlines: &Outlines) {
+    fn sort_pieces(&mut self) {
         let count = self.batches.last().map_or(0, |batch| batch.pieces[1]);
         self.pieces.clear();
         self.pieces.resize(count as usize, 0);
         // Where the pieces of a batch end is where they begin until they are put.
         self.batches.iter_mut().for_each(|batch| batch.pieces[1] = batch.pieces[0]);
-        for (piece, &slot) in self.slots.iter().enumerate() {
+        for (piece, &slot) in (0u32..).zip(&self.slots) {
             if slot != NONE {
-                let batch = &mut self.batches[self.homes[slot as usize] as usize];
-                let alone = outlines.steps(self.outlines[slot as usize]).len() == 1;
-                self.pieces[batch.pieces[1] as usize] = 2 * piece as u32 + u32::from(alone);
+                let home = self.homes[slot as usize];
+                let batch = &mut self.batches[(home >> 1) as usize];
+                self.pieces[batch.pieces[1] as usize] = 2 * piece + (home & 1);
                 batch.pieces[1] += 1;
             }
         }
@@ -192,17 +195,28 @@ fn meets(nodes: &Nodes, step: u32) -> bool {
     [step, step ^ 1].iter().any(|&end| nodes.crossing(end).is_some())
 }
 
-/// The lines and points that a call has to be given for an outline. Of one piece it is given a stand-in.
-fn size(pieces: &impl Pieces, steps: &[u32]) -> [usize; 2] {
-    match *steps {
-        [_] => [1, 0],
-        _ => steps.iter().map(|&step| step >> 1).fold([0, 0], |[lines, points], piece| {
-            [lines + pieces.lines(piece), points + pieces.points(piece)]
-        }),
-    }
+/// How much an outline is.
+#[derive(Clone, Copy)]
+struct Size {
+    /// The lines and points that a call has to be given for it.
+    lines: usize,
+    points: usize,
+    /// The coordinates of its pieces, if there are several.
+    room: usize,
 }
 
-/// The coordinates of a piece.
-fn run_points(pieces: &impl Pieces, piece: u32) -> usize {
-    pieces.run(piece).map_or(0, <[f64]>::len) / pieces.stride()
+impl Size {
+    fn of(pieces: &impl Pieces, steps: &[u32]) -> Self {
+        let mut sum = Size { lines: 0, points: 0, room: 0 };
+        if steps.len() == 1 {
+            // A stand-in is one line.
+            return Size { lines: 1, ..sum };
+        }
+        for piece in steps.iter().map(|&step| step >> 1) {
+            sum.lines += pieces.lines(piece);
+            sum.points += pieces.points(piece);
+            sum.room += pieces.room(piece);
+        }
+        sum
+    }
 }

@@ -6,8 +6,7 @@ use crate::size::BOX;
 pub type Extent = [f64; BOX];
 
 /// The box of no coordinates.
-const EMPTY: Extent =
-    [f64::INFINITY, f64::INFINITY, f64::NEG_INFINITY, f64::NEG_INFINITY];
+const EMPTY: Extent = [f64::INFINITY, f64::INFINITY, f64::NEG_INFINITY, f64::NEG_INFINITY];
 
 /// The box around two. Of equal numbers those of the first stay.
 fn around(one: Extent, other: Extent) -> Extent {

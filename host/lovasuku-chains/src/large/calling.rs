@@ -2,7 +2,7 @@
 
 use super::cores::Cores;
 use super::gathering::Gathered;
-use super::junctions::Junction;
+use super::junctions::Junctions;
 use super::NONE;
 use crate::chains::part;
 use crate::door::{self, BuildRooms, RawSettings};
@@ -221,7 +221,7 @@ pub struct Record<'a> {
 /// Lends batches to the library, one after another, in the same rooms.
 #[derive(Debug, Default)]
 pub struct Caller {
-    pub junction: Junction,
+    pub junctions: Junctions,
     pub gathered: Gathered,
     pub lent: Lent,
     pub pieces: LentPieces,

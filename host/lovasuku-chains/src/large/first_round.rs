@@ -50,9 +50,10 @@ impl Lender for LinePieces<'_> {
     }
 
     fn is_same(&self, caller: &Caller, record: &Record, steps: &[u32]) -> bool {
-        let entered = record.members.iter().zip(record.marks).map(|(&line, &mark)| {
-            caller.lent.whose(line).map(|line| 2 * line + u32::from(mark))
-        });
+        let entered =
+            record.members.iter().zip(record.marks).map(|(&line, &mark)| {
+                caller.lent.whose(line).map(|line| 2 * line + u32::from(mark))
+            });
         entered.eq(steps.iter().copied().map(Some)) && record.members == record.listing
     }
 }

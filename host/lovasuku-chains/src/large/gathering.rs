@@ -20,7 +20,7 @@ pub const MOST_NEIGHBOURS: usize = 32;
 
 /// A round's nodes, outlines and batches.
 #[derive(Clone, Copy)]
-pub struct Plan<'a> {
+pub struct Cut<'a> {
     pub nodes: &'a Nodes,
     pub outlines: &'a Outlines,
     pub batches: &'a Batches,
@@ -71,18 +71,13 @@ impl Gathered {
     }
 
     /// Gathers the pieces of outlines with all neighbours, as long as there are no more than so many.
-    pub fn with_neighbours(
-        &mut self,
-        plan: Plan,
-        asked: &Asked,
-        most: usize,
-    ) -> Result<(), Without> {
-        self.take(plan, asked);
+    pub fn with_neighbours(&mut self, cut: Cut, asked: &Asked, most: usize) -> Result<(), Without> {
+        self.take(cut, asked);
         for k in 0..self.own.len() {
             let first = self.own[k] & !1;
             for end in [first, first + 1] {
-                if let Some(crossing) = plan.nodes.crossing(end) {
-                    self.neighbours(plan, &asked.slots, end, crossing)?;
+                if let Some(crossing) = cut.nodes.crossing(end) {
+                    self.neighbours(cut, &asked.slots, end, crossing)?;
                 }
             }
             if self.others.len() > 2 * most {
@@ -106,17 +101,17 @@ impl Gathered {
     /// Adds the neighbours at a node, unless an own end before this one has.
     fn neighbours(
         &mut self,
-        plan: Plan,
+        cut: Cut,
         slots: &Range<u32>,
         end: u32,
         crossing: u32,
     ) -> Result<(), Without> {
         let from = self.others.len();
-        for (k, other) in plan.nodes.at(crossing).enumerate() {
+        for (k, other) in cut.nodes.at(crossing).enumerate() {
             if k == MOST_NEIGHBOURS {
                 return Err(Without::Crowded);
             }
-            let is_own = plan.batches.slot(other >> 1).map_or(false, |slot| slots.contains(&slot));
+            let is_own = cut.batches.slot(other >> 1).map_or(false, |slot| slots.contains(&slot));
             if !is_own {
                 self.others.push(other | 1);
             } else if other < end {
@@ -128,14 +123,14 @@ impl Gathered {
     }
 
     /// Gathers the pieces of outlines alone, with what keeps their free ends apart.
-    pub fn alone(&mut self, plan: Plan, asked: &Asked) {
-        self.take(plan, asked);
+    pub fn alone(&mut self, cut: Cut, asked: &Asked) {
+        self.take(cut, asked);
         self.free.clear();
         for slot in asked.slots.clone() {
-            let steps = plan.outlines.steps(plan.batches.outline(slot));
+            let steps = cut.outlines.steps(cut.batches.outline(slot));
             if let ([first, ..], [.., last]) = (steps, steps) {
-                self.put_free(plan, *first);
-                self.put_free(plan, last ^ 1);
+                self.put_free(cut, *first);
+                self.put_free(cut, last ^ 1);
             }
         }
         self.free.sort_unstable();
@@ -150,31 +145,34 @@ impl Gathered {
     }
 
     /// Adds an end of an outline, if it is free and three ends or more meet there.
-    fn put_free(&mut self, plan: Plan, end: u32) {
-        if plan.nodes.joined(end).is_none() {
-            self.free.extend(plan.nodes.crossing(end).map(|node| [node, end]));
+    fn put_free(&mut self, cut: Cut, end: u32) {
+        if cut.nodes.joined(end).is_none() {
+            self.free.extend(cut.nodes.crossing(end).map(|node| [node, end]));
         }
     }
 
     /// Takes the pieces of outlines.
-    fn take(&mut self, plan: Plan, asked: &Asked) {
+    fn take(&mut self, cut: Cut, asked: &Asked) {
         let Asked { batch, slots } = asked;
         self.own.clear();
         self.others.clear();
         self.blocked.clear();
-        let pieces = plan.batches.pieces(*batch);
+        let pieces = cut.batches.pieces(*batch);
         if batch.slots() == *slots {
             return self.own.extend(pieces);
         }
         let is_asked = |piece: &&u32| {
-            plan.batches.slot(*piece >> 1).map_or(false, |slot| slots.contains(&slot))
+            cut.batches.slot(*piece >> 1).map_or(false, |slot| slots.contains(&slot))
         };
         self.own.extend(pieces.iter().filter(is_asked));
     }
 }
 
 /// The runs of a slice in which neighbours are the same.
-fn groups<'a, T>(all: &'a [T], same: impl Fn(&T, &T) -> bool + 'a) -> impl Iterator<Item = &'a [T]> {
+fn groups<'a, T>(
+    all: &'a [T],
+    same: impl Fn(&T, &T) -> bool + 'a,
+) -> impl Iterator<Item = &'a [T]> {
     let mut rest = all;
     std::iter::from_fn(move || {
         let first = rest.first()?;

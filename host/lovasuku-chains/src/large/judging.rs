@@ -42,8 +42,8 @@ pub fn judge(lines: Lines, settings: Settings, cores: Cores) -> Result<(), Fault
 fn are_places(numbers: &[f64], stride: usize, cores: Cores) -> bool {
     if numbers.len() > PART && cores != Cores::One {
         let (one, other) = numbers.split_at(numbers.len() / stride / 2 * stride);
-        let (one, other) = cores
-            .both(|| are_places(one, stride, cores), || are_places(other, stride, cores));
+        let (one, other) =
+            cores.both(|| are_places(one, stride, cores), || are_places(other, stride, cores));
         return one && other;
     }
     // No number but a finite one is 0 less itself.

@@ -1,11 +1,12 @@
 //! The nodes of a round: which ends meet, and which of them are joined.
 
-use super::arranging::{Arranger, Bounds, FIRST};
+use super::arranging::{Arranger, Bounds, Code, Seen, FIRST};
 use super::calling::Callers;
 use super::cores::Cores;
-use super::junctions::Junction;
+use super::junctions::Junctions;
 use super::pieces::{end_of, Pieces};
-use super::spots::{Grid, Spot};
+use super::sorting::sort;
+use super::spots::Grid;
 use super::{Fault, NONE};
 use crate::rooms::grow;
 use std::sync::atomic::{AtomicU32, Ordering::Relaxed};
@@ -13,10 +14,11 @@ use std::sync::atomic::{AtomicU32, Ordering::Relaxed};
 /// A core looks at about so many ends at a time.
 const PART: usize = 16_384;
 
-/// What ends are sorted in. Nothing in it is kept.
+/// What ends and outlines are sorted in. Nothing in it is kept beyond a round.
 #[derive(Debug, Default)]
 pub struct Sorting {
-    spots: Vec<[Spot; 2]>,
+    pieces: Vec<Seen>,
+    code: Code,
     entries: Vec<u64>,
     spare: Vec<u64>,
 }
@@ -44,22 +46,17 @@ impl Nodes {
         (cores, callers): (Cores, &Callers),
     ) -> Result<(), Fault> {
         let count = 2 * pieces.count();
-        let bounds = sorting.look(pieces, grid, cores);
-        let Sorting { spots, entries, spare } = sorting;
+        sorting.look(pieces, grid, cores);
+        let Sorting { pieces: seen, code, entries, spare } = sorting;
         grow(spare, entries.len());
         self.ends.clear();
         self.ends.resize(entries.len(), 0);
-        let arranger = Arranger { spots, group: |piece| pieces.group(piece), cores };
-        arranger.arrange(bounds, entries, spare, &mut self.ends);
+        let arranger = Arranger { pieces: seen, cores };
+        arranger.arrange(*code, entries, spare, &mut self.ends);
         forget(&mut self.joins, count, cores);
         forget(&mut self.crossings, count, cores);
         let joining = Joining { pieces, limit, nodes: self, cores, callers };
         joining.join(&self.ends, 0)
-    }
-
-    /// All ends, near ones near each other.
-    pub fn ends(&self) -> impl Iterator<Item = u32> + '_ {
-        self.ends.iter().map(|&end| end & !FIRST)
     }
 
     /// The end that an end is joined with.
@@ -94,28 +91,24 @@ fn forget(table: &mut Vec<AtomicU32>, count: usize, cores: Cores) {
 }
 
 impl Sorting {
-    /// Takes the spots of all ends, and gives their bounds.
-    fn look(&mut self, pieces: &impl Pieces, grid: Grid, cores: Cores) -> Bounds {
-        let count = pieces.count();
-        // The spots of ends that pass through are not looked at, whatever was there before.
-        self.spots.resize(count, [Spot::default(); 2]);
-        let stride = pieces.stride();
-        let take = |first: usize, spots: &mut [[Spot; 2]]| {
+    /// Looks at the ends of all pieces.
+    fn look(&mut self, pieces: &impl Pieces, grid: Grid, cores: Cores) {
+        let (count, stride) = (pieces.count(), pieces.stride());
+        // Of pieces that pass through whatever was seen before is not looked at.
+        self.pieces.resize(count, Seen::default());
+        let look = |first: usize, part: &mut [Seen]| {
             let mut bounds = Bounds::NONE;
-            for (k, ends) in spots.iter_mut().enumerate() {
-                let run = match pieces.run((first + k) as u32) {
-                    Some(run) => run,
-                    None => continue,
-                };
-                for (side, spot) in ends.iter_mut().enumerate() {
-                    let point = end_of(run, stride, side as u32).unwrap_or_default();
-                    *spot = grid.spot(point);
-                    bounds = bounds.with(*spot);
+            for (piece, seen) in (first as u32..).zip(part) {
+                if let Some(run) = pieces.run(piece) {
+                    let spot = |side| grid.spot(end_of(run, stride, side).unwrap_or_default());
+                    *seen = Seen { spots: [spot(0), spot(1)], group: pieces.group(piece) };
+                    bounds = bounds.with(seen.spots[0]).with(seen.spots[1]);
                 }
             }
             bounds
         };
-        let bounds = cores.parts((0, &mut self.spots[..]), PART, &take, &|a, b| a.and(b));
+        let bounds = cores.parts((0, &mut self.pieces[..]), PART, &look, &|a, b| a.and(b));
+        self.code = Code::of_grid(grid, bounds);
         self.entries.clear();
         self.entries.reserve(2 * count);
         for piece in 0..count as u32 {
@@ -123,7 +116,25 @@ impl Sorting {
                 self.entries.extend([2 * piece, 2 * piece + 1].map(u64::from));
             }
         }
-        bounds
+    }
+
+    /// Sorts numbers by where the ends that they are given with lie, so that near ones are near each
+    /// other.
+    pub fn by_place(
+        &mut self,
+        all: impl Iterator<Item = (u32, u32)>,
+        cores: Cores,
+    ) -> impl Iterator<Item = u32> + '_ {
+        let Sorting { pieces, code, entries, spare } = self;
+        let entry = |(end, number): (u32, u32)| {
+            let Seen { spots, .. } = pieces[(end >> 1) as usize];
+            code.of(spots[(end & 1) as usize]) << u32::BITS | u64::from(number)
+        };
+        entries.clear();
+        entries.extend(all.map(entry));
+        grow(spare, entries.len());
+        sort(entries, spare, cores);
+        entries.iter().map(|&entry| entry as u32)
     }
 }
 
@@ -155,6 +166,8 @@ impl<P: Pieces> Joining<'_, P> {
 
     fn join_in_turn(&self, ends: &[u32], place: usize) -> Result<(), Fault> {
         let mut caller = self.callers.this(self.cores);
+        // A fault may have left some behind.
+        caller.junctions.clear();
         let mut from = 0;
         while from < ends.len() {
             let more = ends[from + 1..].iter().take_while(|&&end| end & FIRST == 0).count();
@@ -162,11 +175,14 @@ impl<P: Pieces> Joining<'_, P> {
             match *node {
                 [_] => (),
                 [one, other] => self.join_two(one & !FIRST, other),
-                _ => self.join_many(&mut caller.junction, node, place + from)?,
+                _ => self.join_many(&mut caller.junctions, node, place + from)?,
             }
             from += node.len();
         }
-        Ok(())
+        match self.limit {
+            None => Ok(()),
+            Some(limit) => caller.junctions.pair(self.pieces, limit, |a, b| self.join_two(a, b)),
+        }
     }
 
     fn join_two(&self, one: u32, other: u32) {
@@ -178,7 +194,7 @@ impl<P: Pieces> Joining<'_, P> {
 
     fn join_many(
         &self,
-        junction: &mut Junction,
+        junctions: &mut Junctions,
         node: &[u32],
         place: usize,
     ) -> Result<(), Fault> {
@@ -187,9 +203,7 @@ impl<P: Pieces> Joining<'_, P> {
         }
         match self.limit {
             None => Ok(()),
-            Some(limit) => {
-                junction.pair(self.pieces, node, limit, |one, other| self.join_two(one, other))
-            }
+            Some(limit) => junctions.take(self.pieces, node, limit, |a, b| self.join_two(a, b)),
         }
     }
 }

@@ -25,6 +25,9 @@ pub trait Pieces: Sync {
     /// How many coordinates its lines have.
     fn points(&self, piece: u32) -> usize;
 
+    /// How many coordinates it has itself.
+    fn room(&self, piece: u32) -> usize;
+
     /// The point of an end.
     fn end(&self, end: u32) -> Option<Point> {
         self.run(end >> 1).and_then(|run| end_of(run, self.stride(), end & 1))
@@ -66,7 +69,9 @@ pub const STAND_IN: usize = 4;
 pub fn stand_in(run: &[f64], stride: usize, mut put: impl FnMut(&[f64])) {
     if run.len() <= STAND_IN * stride {
         put(run);
-        return if run.len() == stride { put(run) };
+        return if run.len() == stride {
+            put(run)
+        };
     }
     put(&run[..stride]);
     inward(run, stride, 0).into_iter().for_each(&mut put);
@@ -123,6 +128,10 @@ impl Pieces for LinePieces<'_> {
 
     fn points(&self, piece: u32) -> usize {
         self.lines.counts[piece as usize] as usize
+    }
+
+    fn room(&self, piece: u32) -> usize {
+        self.points(piece)
     }
 }
 

@@ -1,10 +1,10 @@
 //! A round: nodes, outlines, and the chains of these from the library's calls.
 
-use super::batching::{Batch, Batches};
+use super::batching::{Batch, Batches, Cutting, Plan};
 use super::calling::{Caller, Callers, Record};
 use super::capacity::Capacity;
 use super::cores::Cores;
-use super::gathering::{Asked, Plan, Without};
+use super::gathering::{Asked, Cut, Without};
 use super::laying::lay;
 use super::nodes::{Nodes, Sorting};
 use super::outlines::Outlines;
@@ -70,17 +70,19 @@ impl Round {
         ways: Ways,
     ) -> Result<(), Fault> {
         let Ways { settings, capacity, batch, neighbours, cores, callers, .. } = ways;
+        let cutting = Cutting { capacity, batch, neighbours, cores };
         self.nodes.meet(pieces, (grid, settings.limit), sorting, (cores, callers))?;
         self.outlines.walk(pieces, &self.nodes);
-        self.batches.cut(pieces, &self.nodes, &self.outlines, (capacity, batch, neighbours));
+        let plan = Plan { nodes: &self.nodes, outlines: &self.outlines };
+        self.batches.cut(pieces, plan, sorting, cutting);
         self.sizes.clear();
         self.sizes.resize(self.batches.slots(), 0);
         let room = self.batches.room(0..self.batches.slots() as u32);
         // Whatever was laid there before is written over or not looked at.
         self.laid.resize(pieces.stride() * room.len(), 0.0);
         let Round { nodes, outlines, batches, sizes, laid } = self;
-        let plan = Plan { nodes, outlines, batches };
-        Making { pieces, plan, ways }.batches(batches.all(), sizes, laid)
+        let cut = Cut { nodes, outlines, batches };
+        Making { pieces, cut, ways }.batches(batches.all(), sizes, laid)
     }
 
     /// The numbers of the chain of an outline of several pieces.
@@ -100,18 +102,13 @@ impl Round {
 /// The making of a round's chains.
 struct Making<'a, P> {
     pieces: &'a P,
-    plan: Plan<'a>,
+    cut: Cut<'a>,
     ways: Ways<'a>,
 }
 
 impl<P: Lender> Making<'_, P> {
     /// Makes the chains of batches, whose sizes and coordinates go into the given slices.
-    fn batches(
-        &self,
-        batches: &[Batch],
-        sizes: &mut [u32],
-        laid: &mut [f64],
-    ) -> Result<(), Fault> {
+    fn batches(&self, batches: &[Batch], sizes: &mut [u32], laid: &mut [f64]) -> Result<(), Fault> {
         let (before, after) = batches.split_at(batches.len() / 2);
         match (before, after) {
             ([], []) => Ok(()),
@@ -169,13 +166,13 @@ impl<P: Lender> Making<'_, P> {
     fn lend(&self, caller: &mut Caller, asked: &Asked) -> bool {
         if self.ways.neighbours {
             let lines = self.ways.capacity.lines;
-            match caller.gathered.with_neighbours(self.plan, asked, lines) {
+            match caller.gathered.with_neighbours(self.cut, asked, lines) {
                 Ok(()) if self.put(caller) => return true,
                 Ok(()) | Err(Without::Many) if asked.slots.len() > 1 => return false,
                 Ok(()) | Err(Without::Many | Without::Crowded) => (),
             }
         }
-        caller.gathered.alone(self.plan, asked);
+        caller.gathered.alone(self.cut, asked);
         self.put(caller)
     }
 
@@ -224,7 +221,7 @@ impl<P: Lender> Making<'_, P> {
     /// The slot of a chain of a call, which may be any where it is not one of the call's own.
     fn slot(&self, caller: &Caller, record: &Record) -> Option<u32> {
         let line = caller.lent.whose(*record.members.first()?)?;
-        self.plan.batches.slot(self.pieces.piece_of(line))
+        self.cut.batches.slot(self.pieces.piece_of(line))
     }
 
     /// Takes the chain of a slot out of an answer, if it is the one that was outlined, and gives how many
@@ -259,18 +256,18 @@ impl<P: Lender> Making<'_, P> {
         let steps = self.steps(slot);
         if steps.len() > 1 {
             sizes[0] = (lay(self.pieces, steps, laid) / self.pieces.stride()) as u32;
-            caller.laid.push(self.plan.batches.outline(slot));
+            caller.laid.push(self.cut.batches.outline(slot));
         }
         (self.ways.tell)(self.lines(slot..slot + 1));
     }
 
     fn steps(&self, slot: u32) -> &[u32] {
-        self.plan.outlines.steps(self.plan.batches.outline(slot))
+        self.cut.outlines.steps(self.cut.batches.outline(slot))
     }
 
     /// The numbers that slots have room for.
     fn numbers(&self, slots: Range<u32>) -> usize {
-        self.pieces.stride() * self.plan.batches.room(slots).len()
+        self.pieces.stride() * self.cut.batches.room(slots).len()
     }
 
     /// The lines of slots.

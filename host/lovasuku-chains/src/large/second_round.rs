@@ -77,6 +77,10 @@ impl Pieces for ChainPieces<'_> {
     fn points(&self, piece: u32) -> usize {
         self.steps(piece).iter().map(|step| self.lines.points(step >> 1)).sum()
     }
+
+    fn room(&self, piece: u32) -> usize {
+        self.numbers(piece).len() / self.stride()
+    }
 }
 
 impl Lender for ChainPieces<'_> {

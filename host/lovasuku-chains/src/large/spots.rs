@@ -27,7 +27,9 @@ impl Grid {
     pub fn spot(self, [x, y]: Point) -> Spot {
         match self {
             Grid::Exact => [of_bits(x), of_bits(y)],
-            Grid::Cells { side, origin } => [of_cell(x, origin[0], side), of_cell(y, origin[1], side)],
+            Grid::Cells { side, origin } => {
+                [of_cell(x, origin[0], side), of_cell(y, origin[1], side)]
+            }
         }
     }
 }
@@ -43,6 +45,14 @@ fn of_bits(x: f64) -> u64 {
     }
 }
 
+/// The float of such a number.
+pub fn float(number: u64) -> f64 {
+    f64::from_bits(match number & SIGN {
+        0 => !number,
+        _ => number ^ SIGN,
+    })
+}
+
 /// The floor of (coordinate - origin) / side, held within the range of i64, and 0 for NaN; as a number
 /// without sign that grows with it.
 fn of_cell(coordinate: f64, origin: f64, side: f64) -> u64 {
@@ -51,13 +61,15 @@ fn of_cell(coordinate: f64, origin: f64, side: f64) -> u64 {
 
 #[cfg(test)]
 mod tests {
-    use super::{of_bits, of_cell, Grid};
+    use super::{float, of_bits, of_cell, Grid};
 
     #[test]
     fn spots_are_in_the_order_of_places() {
         let numbers = [-1e300, -2.0, -1.0, -5e-324, -0.0, 0.0, 5e-324, 0.5, 1.0, 1.5, 1e300];
         let bits: Vec<u64> = numbers.iter().map(|&x| of_bits(x)).collect();
         assert!(bits.windows(2).all(|two| two[0] < two[1]));
+        let back = bits.iter().map(|&number| float(number).to_bits());
+        assert!(back.eq(numbers.iter().map(|x| x.to_bits())));
         let cells: Vec<u64> = numbers.iter().map(|&x| of_cell(x, 0.0, 1.0)).collect();
         assert!(cells.windows(2).all(|two| two[0] <= two[1]));
         let zero = 1 << 63;
