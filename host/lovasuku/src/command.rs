@@ -3,7 +3,7 @@
 use crate::arguments::Request;
 use crate::classes::Classes;
 use crate::delivery::{Delivery, Geometry};
-use crate::joining::{gaps, join, zooms, Capacity, Chain, Fault, Line};
+use crate::joining::{gaps, join, zooms, Chain, Fault, Line, Told};
 use crate::measure::{bounds, extent, Measure};
 use crate::outcome::{Outcome, Targets};
 use crate::page::{self, Page};
@@ -39,7 +39,7 @@ pub fn run(requests: &[Request]) -> Result<String> {
     let lines = lines(delivery, classes);
     let asked = (request.settings, request.window);
     let tolerances: Vec<f64> = requests.iter().map(|request| request.settings.tolerance).collect();
-    let zooms = zooms(delivery.dimension, &lines, asked, &tolerances, &progress)
+    let joined = zooms(delivery.dimension, &lines, asked, &tolerances, &progress)
         .map_err(|fault| named(delivery, classes, fault))
         .with_context(input)?;
     let (named, told) = match (&layer, targets.iter().any(Targets::has_store)) {
@@ -54,7 +54,7 @@ pub fn run(requests: &[Request]) -> Result<String> {
     let checksum = &checksum.with_context(input)?;
     let (lines, layer) = (&lines, layer.as_ref());
     let given = Given { delivery, classes, measure, lines, layer, reference, checksum };
-    let zooms = requests.iter().zip(zooms).map(|(request, chains)| given.zoom(request, chains));
+    let zooms = requests.iter().zip(&joined).map(|(request, told)| given.zoom(request, told));
     let zooms: Vec<Zoom> = zooms.collect();
     let warnings = given.put(&zooms, &targets, &progress)?;
     progress.end();
@@ -84,19 +84,21 @@ struct Given<'a> {
 /// What one tolerance came to.
 struct Zoom<'a> {
     request: &'a Request,
-    chains: Vec<Chain>,
+    chains: Vec<Chain<'a>>,
     /// The length of each chain.
     lengths: Vec<f64>,
     tally: Tally,
 }
 
 impl<'a> Given<'a> {
-    fn zoom<'r>(self, request: &'r Request, mut chains: Vec<Chain>) -> Zoom<'r> {
+    fn zoom<'r>(self, request: &'r Request, told: &'r Told) -> Zoom<'r> {
         let Given { delivery, measure, lines, .. } = self;
+        let mut chains: Vec<Chain> = told.chains().collect();
         look_at_parts(delivery, request.window, &mut chains);
         let lengths: Vec<f64> =
             chains.iter().map(|chain| length_of(delivery, measure, chain)).collect();
-        let tally = tally(request, delivery, lines, &chains, &lengths);
+        let mut tally = tally(request, delivery, lines, &chains, &lengths);
+        tally.laid = told.laid().to_vec();
         Zoom { request, chains, lengths, tally }
     }
 
@@ -176,9 +178,10 @@ pub fn explained(
 ) -> Result<Explained> {
     let exact = (settings.with_tolerance(0.0), None);
     let pieces = match settings.tolerance > 0.0 {
-        true => join(Dimension::Xy, lines, exact, Capacity::default(), progress)?,
-        false => Vec::new(),
+        true => join(Dimension::Xy, lines, exact, progress)?,
+        false => Told::default(),
     };
+    let pieces: Vec<Chain> = pieces.chains().collect();
     Ok(Explained::of(lines, chains, &pieces, settings)?)
 }
 
@@ -207,14 +210,14 @@ fn tally(
     tally
 }
 
-/// The fault, with the class and the first feature of a component that no call can hold.
+/// The fault, with the class and what may be done about it, or with the feature that it is of.
 fn named(delivery: &Delivery, classes: &Classes, fault: Fault) -> Error {
-    match &fault {
-        Fault::TooLarge(large) => anyhow!(
-            "{}: from feature {} on, {large}; a lower tolerance, --class or --district may part them",
-            classes.name(large.group),
-            delivery.name(large.first)
+    match fault {
+        Fault::Crowded { group, .. } => anyhow!(
+            "{}: {fault} (without --limit, --bend and --offset no ends are)",
+            classes.name(group)
         ),
-        _ => fault.into(),
+        Fault::Differs { line } => anyhow!("feature {}: {fault}", delivery.name(line)),
+        Fault::Refused(_) | Fault::TooMany => fault.into(),
     }
 }

@@ -63,7 +63,7 @@ pub struct Outcome<'a> {
     pub request: &'a Request,
     pub delivery: &'a Delivery<'a>,
     pub measure: &'a Measure,
-    pub chains: &'a [Chain],
+    pub chains: &'a [Chain<'a>],
     /// The length of each chain.
     pub lengths: &'a [f64],
     pub tally: &'a Tally,

@@ -111,7 +111,7 @@ fn more_ends_than_can_be_paired_are_a_fault_with_their_place() {
     assert_eq!(strict.chains().len(), 8_193);
     let paired = with_settings(&call, 0.0, Some(-0.5));
     let fault = rooms.build(lines(&call, &coordinates), settings(&paired)).unwrap_err();
-    assert_eq!(fault, Fault::Crowded { ends: 8_193, place: [7.0, 8.0] });
+    assert_eq!(fault, Fault::Crowded { ends: 8_193, place: [7.0, 8.0], group: 0 });
     // Of one end less there is no fault.
     let short = lovasuku_chains::Lines {
         coordinates: &coordinates[4..],

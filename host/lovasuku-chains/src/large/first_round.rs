@@ -41,6 +41,10 @@ impl Lender for LinePieces<'_> {
         caller.answer.build(caller.lent.lines(self.lines.dimension), settings)
     }
 
+    fn all_lines(&self) -> usize {
+        self.lines.len()
+    }
+
     fn piece_of(&self, line: u32) -> u32 {
         line
     }

@@ -37,8 +37,9 @@ impl Junctions {
         joined: impl FnMut(u32, u32),
     ) -> Result<(), Fault> {
         if node.len() > MOST_ENDS {
-            let place = pieces.end(node[0] & !FIRST).unwrap_or_default();
-            return Err(Fault::Crowded { ends: node.len(), place });
+            let first = node[0] & !FIRST;
+            let (place, group) = (pieces.end(first).unwrap_or_default(), pieces.group(first >> 1));
+            return Err(Fault::Crowded { ends: node.len(), place, group });
         }
         self.ends.extend(node.iter().map(|&end| end & !FIRST));
         self.nodes.push(self.ends.len());

@@ -54,24 +54,9 @@ impl Outlines {
         &self.steps[self.firsts[outline] as usize..self.firsts[outline + 1] as usize]
     }
 
-    /// All steps, outline by outline.
-    pub fn all_steps(&self) -> &[u32] {
-        &self.steps
-    }
-
-    /// The first step of each outline, and behind the last how many there are.
-    pub fn firsts(&self) -> &[u32] {
-        &self.firsts
-    }
-
     /// The outline of a piece that does not pass through.
     pub fn of(&self, piece: u32) -> u32 {
         self.of[piece as usize]
-    }
-
-    /// The outline of each piece, [`NONE`] where it passes through.
-    pub fn of_all(&self) -> &[u32] {
-        &self.of
     }
 }
 

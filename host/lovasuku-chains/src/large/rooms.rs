@@ -99,7 +99,9 @@ impl Rooms {
         let boxed = table.len() / RECORD;
         let chains = Chains { lines, table, members, marks, listing, way, merged, boxes, boxed };
         let Round { nodes, outlines, .. } = &self.first;
-        Ok(Joined { chains, nodes, pieces: outlines, laid: &self.laid, calls: self.calls })
+        let lines = LinePieces { lines, firsts: &self.firsts };
+        let (laid, calls) = (&self.laid, self.calls);
+        Ok(Joined { chains, lines, nodes, pieces: outlines, laid, calls })
     }
 
     fn join(&mut self, lines: Lines, settings: Settings, way: Way) -> Result<(), Fault> {

@@ -13,6 +13,7 @@ use super::spots::Grid;
 use super::Fault;
 use crate::{Refusal, Settings};
 use std::ops::Range;
+use std::sync::atomic::{AtomicUsize, Ordering::Relaxed};
 
 /// What the calls of a round are lent.
 pub trait Lender: Pieces {
@@ -24,6 +25,9 @@ pub trait Lender: Pieces {
 
     /// Makes the call, and gives the number of its chains.
     fn call(&self, caller: &mut Caller, settings: Settings) -> Result<usize, Refusal>;
+
+    /// How many lines all pieces have, with those that pass through.
+    fn all_lines(&self) -> usize;
 
     /// The piece that a line of the delivery is of.
     fn piece_of(&self, line: u32) -> u32;
@@ -82,7 +86,16 @@ impl Round {
         self.laid.resize(pieces.stride() * room.len(), 0.0);
         let Round { nodes, outlines, batches, sizes, laid } = self;
         let cut = Cut { nodes, outlines, batches };
-        Making { pieces, cut, ways }.batches(batches.all(), sizes, laid)
+        let told = AtomicUsize::new(0);
+        let tell = |lines: usize| {
+            told.fetch_add(lines, Relaxed);
+            (ways.tell)(lines);
+        };
+        let ways = Ways { tell: &tell, ..ways };
+        Making { pieces, cut, ways }.batches(batches.all(), sizes, laid)?;
+        // The lines for which no call was needed.
+        tell(pieces.all_lines().saturating_sub(told.load(Relaxed)));
+        Ok(())
     }
 
     /// The numbers of the chain of an outline of several pieces.

@@ -113,6 +113,10 @@ impl Lender for ChainPieces<'_> {
         answer.finish(lent.lines(self.lines.lines.dimension), pieces.lent(), settings)
     }
 
+    fn all_lines(&self) -> usize {
+        self.lines.all_lines()
+    }
+
     fn piece_of(&self, line: u32) -> u32 {
         self.first.outlines.of(line)
     }

@@ -1,5 +1,6 @@
 //! Where ends meet: places as whole numbers, in the order of x and of y.
 
+use super::keys::cell;
 use super::Point;
 use crate::Settings;
 
@@ -53,10 +54,9 @@ pub fn float(number: u64) -> f64 {
     })
 }
 
-/// The floor of (coordinate - origin) / side, held within the range of i64, and 0 for NaN; as a number
-/// without sign that grows with it.
+/// A cell as a number without sign that grows with it.
 fn of_cell(coordinate: f64, origin: f64, side: f64) -> u64 {
-    ((coordinate - origin) / side).floor() as i64 as u64 ^ SIGN
+    cell(coordinate, origin, side) as u64 ^ SIGN
 }
 
 #[cfg(test)]

@@ -98,13 +98,13 @@ impl Chains<'_> {
             out.push(b':');
             let part = |&line: &u32| delivery.features[line as usize].part;
             match k {
-                0 => list(&mut out, &chain.members, |out, &line| {
+                0 => list(&mut out, chain.members, |out, &line| {
                     out.extend(delivery.name(line).bytes())
                 }),
-                1 => list(&mut out, &chain.path, |out, step| self.step(out, *step)),
+                1 => list(&mut out, chain.path, |out, step| self.step(out, *step)),
                 2 => value(&mut out, &chain.members.len()),
                 3 => value(&mut out, &chain.is_loop),
-                _ => list(&mut out, &chain.members, |out, line| value(out, &part(line))),
+                _ => list(&mut out, chain.members, |out, line| value(out, &part(line))),
             }
         }
         let (properties, clash) = keep.properties(delivery, measure, chain, own);
