@@ -2,6 +2,7 @@
 
 use super::boxing;
 use super::cores::Cores;
+use super::fitting::{fit, resize};
 use super::pieces::LinePieces;
 use super::rounds::Round;
 use crate::size::{BOX, BOXES, BOXES_BESIDE, RECORD};
@@ -92,12 +93,12 @@ impl Whole {
         let chains = self.before.len() - 1;
         let [members, points] = self.before[chains].map(|count| count as usize);
         // Every number is written below, but for boxes above all levels, which are not looked at.
-        self.table.resize(RECORD * chains, 0);
-        self.members.resize(members, 0);
-        self.marks.resize(members, 0);
-        self.listing.resize(members, 0);
-        self.way.resize(members, 0);
-        self.merged.resize(rounds.stride() * points, 0.0);
+        resize(&mut self.table, RECORD * chains, 0);
+        resize(&mut self.members, members, 0);
+        resize(&mut self.marks, members, 0);
+        resize(&mut self.listing, members, 0);
+        resize(&mut self.way, members, 0);
+        resize(&mut self.merged, rounds.stride() * points, 0.0);
         let part = Part {
             table: &mut self.table,
             members: &mut self.members,
@@ -108,7 +109,8 @@ impl Whole {
         };
         let putting = Putting { rounds, passing: &self.passing, before: &self.before, cores };
         putting.put(0..chains, part);
-        self.boxes.resize(if boxes { BOXES * chains + BOXES_BESIDE } else { 0 }, 0.0);
+        let boxed = if boxes { BOXES * chains + BOXES_BESIDE } else { 0 };
+        resize(&mut self.boxes, boxed, 0.0);
         if boxes {
             putting.put_boxes(0..chains, &mut self.boxes);
             boxing::put_levels(&mut self.boxes, chains);
@@ -120,6 +122,7 @@ impl Whole {
         let stride = rounds.stride();
         let [mut members, mut points] = [0; 2];
         self.before.clear();
+        fit(&mut self.before, rounds.last().outlines.len() + self.passing.len() + 1);
         self.before.push([0; 2]);
         for chain in 0..rounds.last().outlines.len() as u32 {
             rounds.pieces(chain, |steps, _| members += steps.len() as u32);

@@ -8,6 +8,7 @@
 
 use super::capacity::Capacity;
 use super::cores::Cores;
+use super::fitting::{fit, resize};
 use super::nodes::{Nodes, Sorting};
 use super::outlines::Outlines;
 use super::pieces::Pieces;
@@ -86,7 +87,11 @@ impl Batches {
         let begin = |outline: u32| (outlines.steps(outline)[0], outline);
         let all = (0..outlines.len() as u32).filter(needs_a_call).map(begin);
         let mut filled = batch;
-        for outline in sorting.by_place(all, cores) {
+        let near = sorting.by_place(all, cores);
+        fit(&mut self.outlines, near.len());
+        fit(&mut self.homes, near.len());
+        fit(&mut self.rooms, near.len() + 1);
+        for outline in near {
             let steps = outlines.steps(outline);
             let size = Size::of(pieces, steps);
             if size.lines > capacity.lines || size.points > capacity.points {
@@ -114,7 +119,7 @@ impl Batches {
         self.homes.clear();
         self.beyond.clear();
         self.slots.clear();
-        self.slots.resize(pieces, NONE);
+        resize(&mut self.slots, pieces, NONE);
         self.rooms.clear();
         self.rooms.push(0);
     }
@@ -145,7 +150,7 @@ impl Batches {
     fn sort_pieces(&mut self) {
         let count = self.batches.last().map_or(0, |batch| batch.pieces[1]);
         self.pieces.clear();
-        self.pieces.resize(count as usize, 0);
+        resize(&mut self.pieces, count as usize, 0);
         // Where the pieces of a batch end is where they begin until they are put.
         self.batches.iter_mut().for_each(|batch| batch.pieces[1] = batch.pieces[0]);
         for (piece, &slot) in (0u32..).zip(&self.slots) {

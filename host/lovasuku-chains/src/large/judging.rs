@@ -1,6 +1,7 @@
 //! What is refused of a delivery, as the library refuses it of a call.
 
 use super::cores::Cores;
+use super::fitting::fit;
 use super::Fault;
 use crate::size::POINT;
 use crate::{Lines, Refusal, Settings, PASSING};
@@ -58,6 +59,7 @@ fn are_places(numbers: &[f64], stride: usize, cores: Cores) -> bool {
 /// Writes the first coordinate of each line, and behind the last how many there are.
 pub fn count(counts: &[u32], firsts: &mut Vec<u32>) {
     firsts.clear();
+    fit(firsts, counts.len() + 1);
     firsts.push(0);
     let mut sum = 0;
     firsts.extend(counts.iter().map(|&count| {

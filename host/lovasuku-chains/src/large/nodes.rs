@@ -3,6 +3,7 @@
 use super::arranging::{Arranger, Bounds, Code, Seen, FIRST};
 use super::calling::Callers;
 use super::cores::Cores;
+use super::fitting::{fit, resize};
 use super::junctions::Junctions;
 use super::pieces::{end_of, Pieces};
 use super::sorting::sort;
@@ -48,9 +49,10 @@ impl Nodes {
         let count = 2 * pieces.count();
         sorting.look(pieces, grid, cores);
         let Sorting { pieces: seen, code, entries, spare } = sorting;
+        fit(spare, entries.len());
         grow(spare, entries.len());
         self.ends.clear();
-        self.ends.resize(entries.len(), 0);
+        resize(&mut self.ends, entries.len(), 0);
         let arranger = Arranger { pieces: seen, cores };
         arranger.arrange(*code, entries, spare, &mut self.ends);
         forget(&mut self.joins, count, cores);
@@ -62,6 +64,13 @@ impl Nodes {
     /// The end that an end is joined with.
     pub fn joined(&self, end: u32) -> Option<u32> {
         some(&self.joins, end)
+    }
+
+    /// Joins two ends, whatever they are joined with.
+    #[cfg(test)]
+    pub fn join_anyhow(&self, one: u32, other: u32) {
+        self.joins[one as usize].store(other, Relaxed);
+        self.joins[other as usize].store(one, Relaxed);
     }
 
     /// Where the ends of an end's node begin, if there are three or more.
@@ -87,6 +96,7 @@ fn forget(table: &mut Vec<AtomicU32>, count: usize, cores: Cores) {
     table.truncate(count);
     let clear = |_, part: &mut [AtomicU32]| part.iter_mut().for_each(|each| *each.get_mut() = NONE);
     cores.parts((0, &mut table[..]), PART, &clear, &|(), ()| ());
+    fit(table, count);
     table.resize_with(count, || AtomicU32::new(NONE));
 }
 
@@ -95,7 +105,7 @@ impl Sorting {
     fn look(&mut self, pieces: &impl Pieces, grid: Grid, cores: Cores) {
         let (count, stride) = (pieces.count(), pieces.stride());
         // Of pieces that pass through whatever was seen before is not looked at.
-        self.pieces.resize(count, Seen::default());
+        resize(&mut self.pieces, count, Seen::default());
         let look = |first: usize, part: &mut [Seen]| {
             let mut bounds = Bounds::NONE;
             for (piece, seen) in (first as u32..).zip(part) {
@@ -110,7 +120,7 @@ impl Sorting {
         let bounds = cores.parts((0, &mut self.pieces[..]), PART, &look, &|a, b| a.and(b));
         self.code = Code::of_grid(grid, bounds);
         self.entries.clear();
-        self.entries.reserve(2 * count);
+        fit(&mut self.entries, 2 * count);
         for piece in 0..count as u32 {
             if pieces.run(piece).is_some() {
                 self.entries.extend([2 * piece, 2 * piece + 1].map(u64::from));
@@ -124,7 +134,7 @@ impl Sorting {
         &mut self,
         all: impl Iterator<Item = (u32, u32)>,
         cores: Cores,
-    ) -> impl Iterator<Item = u32> + '_ {
+    ) -> impl ExactSizeIterator<Item = u32> + '_ {
         let Sorting { pieces, code, entries, spare } = self;
         let entry = |(end, number): (u32, u32)| {
             let Seen { spots, .. } = pieces[(end >> 1) as usize];

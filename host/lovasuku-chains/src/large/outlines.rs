@@ -1,5 +1,6 @@
 //! Outlines: the pieces of each chain in the order in which a walk over the joins comes to them.
 
+use super::fitting::{fit, resize};
 use super::nodes::Nodes;
 use super::pieces::Pieces;
 use super::NONE;
@@ -22,7 +23,9 @@ impl Outlines {
         self.steps.clear();
         self.firsts.clear();
         self.of.clear();
-        self.of.resize(pieces.count(), NONE);
+        resize(&mut self.of, pieces.count(), NONE);
+        fit(&mut self.steps, pieces.count());
+        fit(&mut self.firsts, pieces.count() + 1);
         for start in 0..pieces.count() as u32 {
             if self.of[start as usize] == NONE && pieces.run(start).is_some() {
                 let outline = self.firsts.len() as u32;
@@ -41,6 +44,13 @@ impl Outlines {
             self.steps.push(end);
             entry = nodes.joined(end ^ 1);
         }
+    }
+
+    /// Turns the steps of all outlines, which are one.
+    #[cfg(test)]
+    pub fn turn(&mut self) {
+        self.steps.reverse();
+        self.steps.iter_mut().for_each(|step| *step ^= 1);
     }
 
     /// How many there are.

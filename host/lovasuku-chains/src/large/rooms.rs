@@ -64,6 +64,30 @@ impl Default for Way<'_> {
 }
 
 /// The rooms of deliveries, which are lent again and again.
+///
+/// They grow where a delivery needs more than any before it, and never shrink, so that a run of
+/// deliveries soon allocates nothing: on one core nothing at all, and on several what rayon's queue asks
+/// for now and then. [`most_bytes`](Rooms::most_bytes) tells how much they hold at most.
+///
+/// ```
+/// use lovasuku_chains::large::Rooms;
+/// use lovasuku_chains::{LinesBuf, Settings};
+///
+/// # fn main() -> Result<(), lovasuku_chains::large::Fault> {
+/// let mut roads = LinesBuf::default();
+/// for k in 0..3_000 {
+///     roads.push([[0.0, f64::from(k)], [1.0, f64::from(k)]], 0);
+///     roads.push([[2.0, f64::from(k)], [1.0, f64::from(k)]], 0);
+/// }
+/// let mut rooms = Rooms::default();
+/// let joined = rooms.build(roads.lines(), Settings::default())?;
+/// assert_eq!(joined.chains().len(), 3_000);
+/// assert!(joined.chains().iter().all(|chain| chain.marks() == [0, 1]));
+/// // The library laid them, some hundreds by each call.
+/// assert!(joined.laid().is_empty() && joined.calls() > 1);
+/// # Ok(())
+/// # }
+/// ```
 #[derive(Debug, Default)]
 pub struct Rooms {
     firsts: Vec<u32>,
@@ -78,7 +102,20 @@ pub struct Rooms {
 }
 
 impl Rooms {
-    /// Joins lines into chains, on all cores.
+    /// The most bytes that rooms hold for so many lines, numbers of coordinates and cores: 400 a line,
+    /// 24 a number, which is three times what it takes itself, and 12 megabytes a core.
+    pub fn most_bytes(lines: usize, numbers: usize, cores: usize) -> usize {
+        400 * lines + 24 * numbers + 12_000_000 * cores
+    }
+
+    /// Joins lines into chains, on all cores. No number of lines is refused that can be told apart by
+    /// numbers of 32 bits.
+    ///
+    /// # Errors
+    ///
+    /// What [`Rooms::build`](crate::Rooms::build) refuses of a call, in that order, but for how much a
+    /// call holds; more ends at a node than can be paired, where they are to be; and a chain that a call
+    /// built otherwise than it was outlined.
     pub fn build<'a>(
         &'a mut self,
         lines: Lines<'a>,
