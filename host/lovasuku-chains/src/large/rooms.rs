@@ -131,14 +131,37 @@ impl Rooms {
         settings: Settings,
         way: Way,
     ) -> Result<Joined<'a>, Fault> {
-        way.cores.within(|| self.join(lines, settings, way))?;
+        self.run(lines, settings, way)?;
+        Ok(self.joined(lines))
+    }
+
+    /// Joins lines into chains, which stay in the rooms.
+    pub(super) fn run(
+        &mut self,
+        lines: Lines,
+        settings: Settings,
+        way: Way,
+    ) -> Result<(), Fault> {
+        way.cores.within(|| self.join(lines, settings, way))
+    }
+
+    /// Lets go of all that chains were made by and that is not told of them.
+    pub(super) fn let_go(&mut self) {
+        self.sorting = Sorting::default();
+        self.callers = Callers::default();
+        self.first.let_go();
+        self.second = Round::default();
+    }
+
+    /// The chains of the lines that were joined last.
+    pub(super) fn joined<'a>(&'a self, lines: Lines<'a>) -> Joined<'a> {
         let Whole { table, members, marks, listing, way, merged, boxes, .. } = &self.whole;
         let boxed = table.len() / RECORD;
         let chains = Chains { lines, table, members, marks, listing, way, merged, boxes, boxed };
         let Round { nodes, outlines, .. } = &self.first;
         let lines = LinePieces { lines, firsts: &self.firsts };
         let (laid, calls) = (&self.laid, self.calls);
-        Ok(Joined { chains, lines, nodes, pieces: outlines, laid, calls })
+        Joined { chains, lines, nodes, pieces: outlines, laid, calls }
     }
 
     fn join(&mut self, lines: Lines, settings: Settings, way: Way) -> Result<(), Fault> {

@@ -107,6 +107,13 @@ impl Round {
         Ok(())
     }
 
+    /// Lets go of batches and of what was laid.
+    pub fn let_go(&mut self) {
+        self.batches = Batches::default();
+        self.sizes = Vec::new();
+        self.laid = Vec::new();
+    }
+
     /// The numbers of the chain of an outline of several pieces.
     pub fn chain(&self, outline: u32, stride: usize) -> &[f64] {
         let piece = self.outlines.steps(outline)[0] >> 1;

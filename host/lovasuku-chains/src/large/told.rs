@@ -82,6 +82,7 @@ pub fn join(
     way: Way,
 ) -> Result<Told, Fault> {
     let mut lent = LinesBuf::of(dimension);
+    lent.reserve(lines.len(), lines.iter().map(|line| line.points.map_or(0, <[Point]>::len)).sum());
     for line in lines {
         match line.points {
             Some(points) => lent.push_apart(points, line.extras, line.group),
@@ -90,8 +91,9 @@ pub fn join(
     }
     let mut rooms = Rooms::default();
     let way = Way { boxes: window.is_some(), ..way };
-    let joined = rooms.build_by(lent.lines(), settings, way)?;
-    Told::of(&joined, window)
+    rooms.run(lent.lines(), settings, way)?;
+    rooms.let_go();
+    Told::of(&rooms.joined(lent.lines()), window)
 }
 
 impl Told {
@@ -103,6 +105,7 @@ impl Told {
             members: chains.members().to_vec(),
             path: Vec::with_capacity(chains.members().len()),
             joints: Vec::with_capacity(chains.members().len().saturating_sub(chains.len())),
+            points: Vec::with_capacity(chains.merged().len() / dimension.stride()),
             width: dimension.extras(),
             chains: Vec::with_capacity(chains.len()),
             laid: joined.laid().to_vec(),
