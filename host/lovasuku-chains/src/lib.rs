@@ -60,7 +60,6 @@ mod dimension;
 pub mod door;
 pub mod explain;
 mod finding;
-mod finishing;
 pub mod large;
 mod lines;
 mod nearest;

@@ -43,12 +43,9 @@ pub fn run(requests: &[Request]) -> Result<String> {
     let joined = zooms(delivery.dimension, &lines, asked, &tolerances, &progress)
         .map_err(|fault| named(delivery, classes, fault))
         .with_context(input)?;
-    let (named, told) = match (&layer, targets.iter().any(Targets::has_store)) {
-        (None, true) => storing::reference(delivery, measure),
-        _ => (None, None),
-    };
-    let reference = layer.as_ref().map_or(named.as_ref(), |layer| layer.reference.as_ref());
     let layer = layer.as_ref();
+    let (named, told) = named_reference(layer, &targets, delivery, measure);
+    let reference = layer.map_or(named.as_ref(), |layer| layer.reference.as_ref());
     let checksum = &checksum(request, &text, layer.map(|_| delivery)).with_context(input)?;
     let given = Given { delivery, classes, measure, layer, reference, checksum };
     let zoom = |(request, told)| given.zoom(request, told, &lines, &progress);
@@ -63,6 +60,19 @@ pub fn run(requests: &[Request]) -> Result<String> {
         summary.text(requests.len() > 1, from.elapsed())
     };
     Ok(zooms.iter().zip(warnings).map(summary).collect::<Vec<_>>().join("\n"))
+}
+
+/// The reference system that GeoJSON names, where it goes into a store, and what there is to warn of.
+fn named_reference(
+    layer: Option<&About>,
+    targets: &[Targets],
+    delivery: &Delivery,
+    measure: &Measure,
+) -> (Option<Reference>, Option<String>) {
+    match (layer, targets.iter().any(Targets::has_store)) {
+        (None, true) => storing::reference(delivery, measure),
+        _ => (None, None),
+    }
 }
 
 /// The checksum of the input, where a page is asked for.

@@ -9,7 +9,7 @@ pub use lovasuku_chains::large::{
 use lovasuku_chains::{Dimension, Settings, Window};
 
 /// Joins lines of a dimension, and tells which chains meet a window. Every node is decided by the
-/// library with all its ends.
+/// library with all its ends, as far as a call holds them.
 pub fn join(
     dimension: Dimension,
     lines: &[Line],
@@ -23,7 +23,7 @@ pub fn join(
     large::join(dimension, lines, (settings, window), way)
 }
 
-/// Joins lines for each of several tolerances.
+/// Joins lines for each of several tolerances, with one round one for all.
 pub fn zooms(
     dimension: Dimension,
     lines: &[Line],
@@ -31,8 +31,9 @@ pub fn zooms(
     tolerances: &[f64],
     progress: &Progress,
 ) -> Result<Vec<Told>, Fault> {
-    let each = |&tolerance: &f64| {
-        join(dimension, lines, (settings.with_tolerance(tolerance), window), progress)
-    };
-    tolerances.iter().map(each).collect()
+    let rounds = 1 + tolerances.iter().filter(|&&tolerance| tolerance > 0.0).count();
+    progress.begin("joining", rounds * lines.len());
+    let tell = |lines: usize| progress.add(lines);
+    let way = Way { neighbours: true, tell: &tell, ..Way::default() };
+    large::join_zooms(dimension, lines, (settings, window), tolerances, way)
 }

@@ -5,11 +5,10 @@ use super::gathering::Gathered;
 use super::junctions::Junctions;
 use super::NONE;
 use crate::chains::part;
-use crate::door::{self, BuildRooms, RawSettings};
-use crate::finishing::{finish, FinishRooms, RawPieces};
+use crate::door::{self, BuildRooms, FinishRooms, RawSettings};
 use crate::rooms::grow;
 use crate::size::{BOXES, BOXES_BESIDE, LINE_WORKSPACE, RECORD};
-use crate::{Dimension, Lines, Refusal, Settings};
+use crate::{Dimension, Lines, Pieces, Refusal, Settings};
 use std::sync::{Mutex, MutexGuard, PoisonError};
 
 /// The lines of a call, and which lines of the delivery they are.
@@ -126,14 +125,13 @@ impl LentPieces {
 
     /// The pieces as the call takes them. Round one's members stand in the order of its coordinates, so
     /// that they are the listing too.
-    pub fn lent(&self) -> RawPieces<'_> {
-        RawPieces {
+    pub fn lent(&self) -> Pieces<'_> {
+        Pieces {
             records: &self.records,
             members: &self.members,
             marks: &self.marks,
             listing: &self.members,
             merged: &self.merged,
-            k: (self.records.len() / PIECE) as u64,
         }
     }
 }
@@ -179,7 +177,7 @@ impl Answer {
     pub fn finish(
         &mut self,
         lines: Lines,
-        pieces: RawPieces,
+        pieces: Pieces,
         settings: Settings,
     ) -> Result<usize, Refusal> {
         self.grow(lines.len(), lines.coordinates.len());
@@ -188,7 +186,8 @@ impl Answer {
         let raw = RawSettings { tolerance, origin, switch, limit };
         let Answer { table, members, marks, listing, merged, boxes, workspace, .. } = self;
         let rooms = FinishRooms { table, members, marks, listing, merged, boxes, workspace };
-        let answer = finish(lines.dimension.wkb_type(), lines, pieces, raw, rooms);
+        let k = (pieces.records.len() / PIECE) as u64;
+        let answer = door::finish(lines.dimension.wkb_type(), lines, pieces, k, raw, rooms);
         Ok(door::result(answer)? as usize)
     }
 

@@ -37,6 +37,17 @@ pub struct Way<'a> {
     pub tell: &'a (dyn Fn(usize) + Sync),
 }
 
+impl<'a> Way<'a> {
+    /// How the calls of a round are made.
+    fn ways<'w>(self, settings: Settings, callers: &'w Callers) -> Ways<'w>
+    where
+        'a: 'w,
+    {
+        let Way { capacity, batch, neighbours, cores, tell, .. } = self;
+        Ways { settings, capacity, batch, neighbours, cores, callers, tell }
+    }
+}
+
 impl fmt::Debug for Way<'_> {
     fn fmt(&self, f: &mut fmt::Formatter<'_>) -> fmt::Result {
         f.debug_struct("Way")
@@ -96,6 +107,9 @@ pub struct Rooms {
     first: Round,
     second: Round,
     whole: Whole,
+    /// The pieces of round one that were laid without a call, and its calls.
+    first_laid: Vec<u32>,
+    first_calls: usize,
     /// The chains that were laid without a call.
     laid: Vec<u32>,
     calls: usize,
@@ -136,13 +150,22 @@ impl Rooms {
     }
 
     /// Joins lines into chains, which stay in the rooms.
-    pub(super) fn run(
+    pub(super) fn run(&mut self, lines: Lines, settings: Settings, way: Way) -> Result<(), Fault> {
+        way.cores.within(|| {
+            self.first(lines, settings, way)?;
+            self.finish(lines, settings, way)
+        })
+    }
+
+    /// Joins the lines that were joined last once more, by another tolerance. Round one is that of before.
+    pub(super) fn run_again(
         &mut self,
         lines: Lines,
         settings: Settings,
         way: Way,
     ) -> Result<(), Fault> {
-        way.cores.within(|| self.join(lines, settings, way))
+        judging::judge(lines, settings, way.cores)?;
+        way.cores.within(|| self.finish(lines, settings, way))
     }
 
     /// Lets go of all that chains were made by and that is not told of them.
@@ -164,19 +187,28 @@ impl Rooms {
         Joined { chains, lines, nodes, pieces: outlines, laid, calls }
     }
 
-    fn join(&mut self, lines: Lines, settings: Settings, way: Way) -> Result<(), Fault> {
-        let Way { capacity, batch, neighbours, boxes, cores, tell } = way;
-        judging::judge(lines, settings, cores)?;
+    /// Round one.
+    fn first(&mut self, lines: Lines, settings: Settings, way: Way) -> Result<(), Fault> {
+        judging::judge(lines, settings, way.cores)?;
         judging::count(lines.counts, &mut self.firsts);
-        self.callers.grow(cores);
-        let Rooms { firsts, sorting, callers, first, second, whole, laid, calls } = self;
+        self.callers.grow(way.cores);
+        let Rooms { firsts, sorting, callers, first, first_laid, first_calls, .. } = self;
         // What a build that ended with a fault left behind is of no use.
-        callers.take(laid);
-        laid.clear();
+        callers.take(first_laid);
+        first_laid.clear();
         let lines = LinePieces { lines, firsts };
-        let ways = Ways { settings, capacity, batch, neighbours, cores, callers, tell };
-        first.run(&lines, Grid::Exact, sorting, ways)?;
-        *calls = callers.take(laid);
+        first.run(&lines, Grid::Exact, sorting, way.ways(settings, callers))?;
+        *first_calls = callers.take(first_laid);
+        Ok(())
+    }
+
+    /// Round two, where there is a tolerance, over what round one left, and the chains put together.
+    fn finish(&mut self, lines: Lines, settings: Settings, way: Way) -> Result<(), Fault> {
+        let Rooms { firsts, sorting, callers, first, second, whole, laid, calls, .. } = self;
+        laid.clone_from(&self.first_laid);
+        *calls = self.first_calls;
+        let lines = LinePieces { lines, firsts };
+        let ways = way.ways(settings, callers);
         let mut rounds = Rounds { lines, first, second: None };
         if let Some(grid) = Grid::of_round_two(settings) {
             second.run(&ChainPieces { lines, first }, grid, sorting, ways)?;
@@ -186,7 +218,7 @@ impl Rooms {
         }
         laid.sort_unstable();
         laid.dedup();
-        whole.put_together(rounds, boxes, cores);
+        whole.put_together(rounds, way.boxes, way.cores);
         Ok(())
     }
 }

@@ -81,6 +81,47 @@ pub fn join(
     (settings, window): (Settings, Option<Window>),
     way: Way,
 ) -> Result<Told, Fault> {
+    let lent = lent(dimension, lines);
+    let mut rooms = Rooms::default();
+    let way = Way { boxes: window.is_some(), ..way };
+    rooms.run(lent.lines(), settings, way)?;
+    rooms.let_go();
+    Told::of(&rooms.joined(lent.lines()), window)
+}
+
+/// Joins lines as [`join`] does for each of several tolerances, with one round one for all. The chains of each
+/// are those of a run with it alone.
+///
+/// # Errors
+///
+/// Those of [`Rooms::build`].
+pub fn join_zooms(
+    dimension: Dimension,
+    lines: &[Line],
+    (settings, window): (Settings, Option<Window>),
+    tolerances: &[f64],
+    way: Way,
+) -> Result<Vec<Told>, Fault> {
+    let lent = lent(dimension, lines);
+    let mut rooms = Rooms::default();
+    let way = Way { boxes: window.is_some(), ..way };
+    let mut zooms = Vec::with_capacity(tolerances.len());
+    for (k, &tolerance) in tolerances.iter().enumerate() {
+        let settings = settings.with_tolerance(tolerance);
+        match k {
+            0 => rooms.run(lent.lines(), settings, way)?,
+            _ => rooms.run_again(lent.lines(), settings, way)?,
+        }
+        if k + 1 == tolerances.len() {
+            rooms.let_go();
+        }
+        zooms.push(Told::of(&rooms.joined(lent.lines()), window)?);
+    }
+    Ok(zooms)
+}
+
+/// The lines as a delivery.
+fn lent(dimension: Dimension, lines: &[Line]) -> LinesBuf {
     let mut lent = LinesBuf::of(dimension);
     lent.reserve(lines.len(), lines.iter().map(|line| line.points.map_or(0, <[Point]>::len)).sum());
     for line in lines {
@@ -89,11 +130,7 @@ pub fn join(
             None => lent.push_empty(line.group),
         }
     }
-    let mut rooms = Rooms::default();
-    let way = Way { boxes: window.is_some(), ..way };
-    rooms.run(lent.lines(), settings, way)?;
-    rooms.let_go();
-    Told::of(&rooms.joined(lent.lines()), window)
+    lent
 }
 
 impl Told {
