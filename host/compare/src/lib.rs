@@ -12,6 +12,7 @@
 //! - [`room`]: rooms that show what was written into them.
 //! - [`building`], [`pairing`], [`why`], [`windows`], [`checks`], [`zooms`]: one call, compared, or building in
 //!   two.
+//! - [`large`]: one call, put as a delivery of any size.
 //! - [`extras`]: what holds of heights and measures, judged apart from the model.
 //! - [`laying`]: that lines laid by listing and marks are their chain, judged apart from it too.
 //! - [`shrink`]: a call that differs, made small.
@@ -26,6 +27,7 @@ pub mod checks;
 pub mod door;
 pub mod extras;
 pub mod judge;
+pub mod large;
 pub mod laying;
 pub mod pairing;
 pub mod room;

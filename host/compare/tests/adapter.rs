@@ -2,8 +2,13 @@
 
 use answers::format::Recorded;
 use answers::model::plane::Point;
+use answers::random::Random;
 use answers::replay::{load, FILES};
+use answers::styles::regions::REGIONS;
 use answers::{BuildCall, Built, Record, Refusal};
+use compare::large::wanted;
+use compare::Judge;
+use lovasuku_chains::large::Fault;
 use lovasuku_chains::{self as library, build_chains, LineInput, OwnedChain, PathLine};
 
 /// The angle in degrees that says the same as switch and limit, where one does to the bit.
@@ -46,10 +51,13 @@ fn recorded(call: &BuildCall, built: &Built) -> Vec<Bits> {
         let passes = call.kinds[lines[0]] == 1;
         let from = if source == 0 { &call.coordinates } else { &built.merged };
         let points = from[numbers].chunks_exact(2).map(|two| [two[0], two[1]]);
-        let mark = |line: u32| built.members.iter().position(|&member| member == line);
-        let turned = |line: u32| mark(line).map_or(false, |place| built.marks[place] == 1);
-        let path =
-            built.listing[places].iter().map(|&line| PathLine { line, turned: turned(line) });
+        let of_chain = &built.members[places.clone()];
+        let mark = |line: u32| of_chain.iter().position(|&member| member == line);
+        let turned =
+            |line: u32| mark(line).map_or(false, |place| built.marks[places.start + place] == 1);
+        let path = built.listing[places.clone()]
+            .iter()
+            .map(|&line| PathLine { line, turned: turned(line) });
         let points = if passes { vec![] } else { points.collect() };
         (lines, path.collect(), points, looped == 1 && !passes)
     };
@@ -78,7 +86,7 @@ fn the_adapter_builds_the_recorded_chains() {
                     assert_eq!(chains, recorded(call, built), "{name}\n{call}");
                     compared[usize::from(call.switch)] += 1;
                 }
-                (Err(library::Refusal::NoPlace), Err(Refusal(15))) => refused += 1,
+                (Err(Fault::Refused(library::Refusal::NoPlace)), Err(Refusal(15))) => refused += 1,
                 (chains, _) => panic!("{name}: {chains:?}, not {answer:?}\n{call}"),
             }
         }
@@ -89,4 +97,24 @@ fn the_adapter_builds_the_recorded_chains() {
         "{} calls without and {} with junctions compared, {refused} refused",
         compared[0], compared[1]
     );
+}
+
+#[test]
+fn the_adapter_builds_more_lines_than_a_call_holds() {
+    let (judge, sentence) = Judge::find();
+    println!("{sentence}");
+    for (name, region) in REGIONS {
+        for (tolerance, limit) in [(0.0, None), (1.0, Some(-0.5f64)), (60.0, None)] {
+            let call = BuildCall {
+                tolerance: f64::to_bits(tolerance),
+                switch: u8::from(limit.is_some()),
+                limit: limit.unwrap_or(0.0).to_bits(),
+                ..region(&mut Random::new(5), 6_000)
+            };
+            let angle = angle(&call).expect("the limit is that of an angle");
+            let chains = build_chains(inputs(&call), tolerance, angle).expect("no fault");
+            let chains: Vec<Bits> = chains.into_iter().map(bits).collect();
+            assert!(chains == recorded(&call, &wanted(judge, &call)), "{name}, {tolerance}");
+        }
+    }
 }

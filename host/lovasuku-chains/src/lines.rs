@@ -203,6 +203,14 @@ impl LinesBuf {
         self.kinds.push(kind);
     }
 
+    /// Makes room for so many lines more with so many coordinates.
+    pub fn reserve(&mut self, lines: usize, points: usize) {
+        self.coordinates.reserve_exact(self.dimension.stride().saturating_mul(points));
+        self.counts.reserve_exact(lines);
+        self.groups.reserve_exact(lines);
+        self.kinds.reserve_exact(lines);
+    }
+
     /// All lines so far.
     pub fn lines(&self) -> Lines<'_> {
         Lines {

@@ -1,5 +1,6 @@
 //! Chains that own what they hold, in the shape of tylertoo's `build_chains`.
 
+use crate::large::{self, Fault};
 use crate::size::POINT;
 use crate::{Chain, LinesBuf, PathLine, Refusal, Rooms, Settings};
 
@@ -63,15 +64,17 @@ impl From<Chain<'_>> for OwnedChain {
 /// The Rust compares degrees that a library's arc cosine rounds; here the angle becomes a limit of
 /// the dot product once, by [`limit_of_bend`](crate::limit_of_bend).
 ///
+/// There may be any number of lines: what one call does not hold is joined by [`large`], on all
+/// cores.
+///
 /// # Errors
 ///
-/// [`Refusal::TooMany`], [`Refusal::TooManyCoordinates`], [`Refusal::DistrictOverLines`],
-/// [`Refusal::DistrictOverCoordinates`] and [`Refusal::NoPlace`].
+/// [`Refusal::NoPlace`], and more ends at one node than can be paired, [`Fault::Crowded`].
 ///
 /// ```
 /// use lovasuku_chains::{build_chains, LineInput};
 ///
-/// # fn main() -> Result<(), lovasuku_chains::Refusal> {
+/// # fn main() -> Result<(), lovasuku_chains::large::Fault> {
 /// let lines = [
 ///     LineInput { points: Some(vec![(0.0, 0.0), (1.0, 0.0)]), group: 3 },
 ///     LineInput { points: None, group: 3 },
@@ -88,7 +91,7 @@ pub fn build_chains<P>(
     lines: impl IntoIterator<Item = LineInput<P>>,
     snap_tol: f64,
     junction_angle_deg: f64,
-) -> Result<Vec<OwnedChain>, Refusal>
+) -> Result<Vec<OwnedChain>, Fault>
 where
     P: IntoIterator<Item = (f64, f64)>,
 {
@@ -100,9 +103,26 @@ where
         }
     }
     let settings = Settings::default().with_tolerance(snap_tol).with_bend(junction_angle_deg);
-    let mut rooms = Rooms::default();
-    let chains = rooms.build(all.lines(), settings)?;
-    Ok(chains.iter().map(OwnedChain::from).collect())
+    let owned = |chains: crate::Chains| chains.iter().map(OwnedChain::from).collect();
+    match Rooms::default().build(all.lines(), settings) {
+        Ok(chains) => Ok(owned(chains)),
+        Err(refusal) if is_of_size(refusal) => {
+            let mut rooms = large::Rooms::default();
+            rooms.build(all.lines(), settings).map(|joined| owned(joined.chains()))
+        }
+        Err(refusal) => Err(refusal.into()),
+    }
+}
+
+/// True where a call was refused for holding too much.
+fn is_of_size(refusal: Refusal) -> bool {
+    let of_size = [
+        Refusal::TooMany,
+        Refusal::TooManyCoordinates,
+        Refusal::DistrictOverLines,
+        Refusal::DistrictOverCoordinates,
+    ];
+    of_size.contains(&refusal)
 }
 
 fn point((x, y): (f64, f64)) -> [f64; POINT] {

@@ -1,7 +1,7 @@
 //! What the safe calls promise beside the rules: borrowed coordinates, bits kept, rooms lent again,
 //! every refusal by its name.
 
-use lovasuku_chains::large::{join, Capacity, Fault, Line};
+use lovasuku_chains::large::{join, Fault, Line, Way};
 use lovasuku_chains::size::{
     BORDER, MOST_DISTRICT_LINES, MOST_DISTRICT_POINTS, MOST_ENDS, MOST_LINES, MOST_POINTS,
 };
@@ -79,12 +79,8 @@ fn a_coordinate_that_is_no_place_is_refused() {
             }
             let lines = [[[5.0, 5.0], [6.0, 5.0]], [[0.0, 0.0], point]];
             let lines = [0, 1].map(|k| Line { points: Some(&lines[k]), extras: &[], group: 0 });
-            let joined = join(
-                Dimension::Xy,
-                &lines,
-                Settings::default().with_tolerance(1.0),
-                Capacity::default(),
-            );
+            let settings = Settings::default().with_tolerance(1.0);
+            let joined = join(Dimension::Xy, &lines, (settings, None), Way::default());
             assert_eq!(joined, Err(Fault::Refused(Refusal::NoPlace)));
         }
     }

@@ -1,6 +1,6 @@
 //! Heights and measures by the safe calls: they ride along, decide nothing, and keep every bit.
 
-use lovasuku_chains::large::{join, Capacity, Line};
+use lovasuku_chains::large::{join, Capacity, Chain, Line, Way};
 use lovasuku_chains::size::BORDER;
 use lovasuku_chains::{
     chain_coordinates, chain_question, read_wkb, ByteOrder, Dimension, LinesBuf, Refusal, Rooms,
@@ -170,21 +170,27 @@ fn large_inputs_carry_extras_through_batches() {
                 group: 0,
             })
             .collect();
-        for capacity in [Capacity::default(), Capacity { lines: 2, points: 4 }] {
-            let chains = join(dimension, &lines, Settings::default(), capacity).unwrap();
+        let calls = [(2_048, 32_768), (2, 4), (1, 4), (2, 3)];
+        for capacity in calls.map(|(lines, points)| Capacity { lines, points }) {
+            let way = Way { capacity, ..Way::default() };
+            let told = join(dimension, &lines, (Settings::default(), None), way).unwrap();
+            assert_eq!(told.laid().is_empty(), capacity.lines > 1 && capacity.points > 3);
+            let chains: Vec<Chain> = told.chains().collect();
             assert_eq!(chains.len(), 2);
             let wanted: &[f64] = match width {
                 0 => &[],
                 1 => &[1.0, 2.0, 5.0],
                 _ => &[1.0, 2.0, 3.0, 4.0, 5.0, 6.0],
             };
-            assert_eq!((&chains[0].extras[..], chains[1].extras.is_empty()), (wanted, true));
+            assert_eq!((chains[0].extras, chains[1].extras.is_empty()), (wanted, true));
         }
     }
     // Extras that are not there are NaN.
     let lines =
         [0, 1].map(|k| Line { points: Some(&points[k]), extras: &extras[0][..k], group: 0 });
-    let chains = join(Dimension::Xyz, &lines, Settings::default(), Capacity::default()).unwrap();
-    assert!(chains[0].extras[..2].iter().all(|extra| extra.is_nan()));
-    assert_eq!(chains[0].extras[2], 1.0);
+    let settings = Settings::default();
+    let told = join(Dimension::Xyz, &lines, (settings, None), Way::default()).unwrap();
+    let chain = told.chains().next().unwrap();
+    assert!(chain.extras[..2].iter().all(|extra| extra.is_nan()));
+    assert_eq!(chain.extras[2], 1.0);
 }

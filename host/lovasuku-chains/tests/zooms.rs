@@ -1,6 +1,6 @@
 //! One exact round, many zooms: first and finish are build, and pieces may be lent otherwise.
 
-use lovasuku_chains::large::{join, join_zooms, zoom_batches, Capacity, Line};
+use lovasuku_chains::large::{join, join_zooms, Capacity, Line, Way};
 use lovasuku_chains::{
     Chains, Dimension, First, FirstBuf, LinesBuf, Pieces, Refusal, Rooms, Settings,
 };
@@ -158,11 +158,13 @@ fn apart(points: &[Vec<[f64; 2]>]) -> Vec<Line<'_>> {
 /// Joins for all tolerances at once and for each by itself, which have to agree.
 fn assert_alike(lines: &[Line], tolerances: &[f64], capacity: Capacity) {
     let settings = Settings::default().with_limit(-0.25);
-    let zooms = join_zooms(Dimension::Xy, lines, settings, tolerances, capacity).unwrap();
+    let way = Way { capacity, ..Way::default() };
+    let asked = (settings, None);
+    let zooms = join_zooms(Dimension::Xy, lines, asked, tolerances, way).unwrap();
     assert_eq!(zooms.len(), tolerances.len());
     for (zoom, &tolerance) in zooms.into_iter().zip(tolerances) {
         let settings = settings.with_tolerance(tolerance);
-        assert_eq!(Ok(zoom), join(Dimension::Xy, lines, settings, capacity), "{tolerance}");
+        assert_eq!(Ok(zoom), join(Dimension::Xy, lines, (settings, None), way), "{tolerance}");
     }
 }
 
@@ -179,9 +181,8 @@ fn many_zooms_beyond_one_call() {
             points.push(line.chunks(2).map(|p| [p[0] + far, p[1]]).collect());
         }
     }
-    let (lines, settings) = (apart(&points), Settings::default());
+    let lines = apart(&points);
     let small = Capacity { lines: 100, points: 1_000 };
-    assert!(zoom_batches(&lines, settings, &TOLERANCES, small).unwrap().len() > 10);
     for capacity in [small, Capacity::default()] {
         assert_alike(&lines, &TOLERANCES, capacity);
     }
@@ -193,6 +194,7 @@ fn lines_that_only_all_tolerances_together_hold_together() {
     let line = |k: usize| vec![[k as f64 + 0.1, 0.1], [k as f64 + 0.2, 0.1]];
     let points: Vec<Vec<[f64; 2]>> = (0..40).map(line).collect();
     let (lines, capacity) = (apart(&points), Capacity { lines: 5, points: 99 });
-    assert!(zoom_batches(&lines, Settings::default(), &[2.0, 3.0], capacity).is_err());
     assert_alike(&lines, &[2.0, 3.0], capacity);
+    // No tolerance behind one is joined by round one alone, whatever was joined before.
+    assert_alike(&lines, &[3.0, 0.0, 2.0, 3.0], capacity);
 }

@@ -3,7 +3,7 @@
 use crate::arguments::Request;
 use crate::classes::Classes;
 use crate::delivery::{Delivery, Geometry};
-use crate::joining::{gaps, join, zooms, Capacity, Chain, Fault, Line};
+use crate::joining::{gaps, join, zooms, Chain, Fault, Line, Told};
 use crate::measure::{bounds, extent, Measure};
 use crate::outcome::{Outcome, Targets};
 use crate::page::{self, Page};
@@ -13,10 +13,11 @@ use crate::store::{About, Reference};
 use crate::storing;
 use crate::summary::{of_degrees, Summary};
 use crate::tally::{length_of, Tally};
-use crate::writing::{self, Content, Output};
+use crate::writing;
 use anyhow::{anyhow, Context, Error, Result};
 use lovasuku_chains::explain::Explained;
 use lovasuku_chains::{Dimension, Settings, Window};
+use std::sync::atomic::AtomicUsize;
 use std::time::Instant;
 
 /// Joins a delivery for each of several tolerances, which the requests differ in: reads it, builds the chains,
@@ -39,23 +40,17 @@ pub fn run(requests: &[Request]) -> Result<String> {
     let lines = lines(delivery, classes);
     let asked = (request.settings, request.window);
     let tolerances: Vec<f64> = requests.iter().map(|request| request.settings.tolerance).collect();
-    let zooms = zooms(delivery.dimension, &lines, asked, &tolerances, &progress)
+    let joined = zooms(delivery.dimension, &lines, asked, &tolerances, &progress)
         .map_err(|fault| named(delivery, classes, fault))
         .with_context(input)?;
-    let (named, told) = match (&layer, targets.iter().any(Targets::has_store)) {
-        (None, true) => storing::reference(delivery, measure),
-        _ => (None, None),
-    };
-    let reference = layer.as_ref().map_or(named.as_ref(), |layer| layer.reference.as_ref());
-    let checksum = match targets.iter().any(|targets| targets.page.is_some()) {
-        true => page::checksum(&request.input, &text, layer.as_ref().map(|_| delivery)),
-        false => Ok(String::new()),
-    };
-    let checksum = &checksum.with_context(input)?;
-    let (lines, layer) = (&lines, layer.as_ref());
-    let given = Given { delivery, classes, measure, lines, layer, reference, checksum };
-    let zooms = requests.iter().zip(zooms).map(|(request, chains)| given.zoom(request, chains));
-    let zooms: Vec<Zoom> = zooms.collect();
+    let layer = layer.as_ref();
+    let (named, told) = named_reference(layer, &targets, delivery, measure);
+    let reference = layer.map_or(named.as_ref(), |layer| layer.reference.as_ref());
+    let checksum = &checksum(request, &text, layer.map(|_| delivery)).with_context(input)?;
+    let given = Given { delivery, classes, measure, layer, reference, checksum };
+    let zoom = |(request, told)| given.zoom(request, told, &lines, &progress);
+    let zooms: Vec<Zoom> = requests.iter().zip(&joined).map(zoom).collect::<Result<_>>()?;
+    drop(lines);
     let warnings = given.put(&zooms, &targets, &progress)?;
     progress.end();
     let summary = |(zoom, warnings): (&Zoom, Vec<String>)| {
@@ -67,13 +62,33 @@ pub fn run(requests: &[Request]) -> Result<String> {
     Ok(zooms.iter().zip(warnings).map(summary).collect::<Vec<_>>().join("\n"))
 }
 
+/// The reference system that GeoJSON names, where it goes into a store, and what there is to warn of.
+fn named_reference(
+    layer: Option<&About>,
+    targets: &[Targets],
+    delivery: &Delivery,
+    measure: &Measure,
+) -> (Option<Reference>, Option<String>) {
+    match (layer, targets.iter().any(Targets::has_store)) {
+        (None, true) => storing::reference(delivery, measure),
+        _ => (None, None),
+    }
+}
+
+/// The checksum of the input, where a page is asked for.
+fn checksum(request: &Request, text: &str, layer: Option<&Delivery>) -> Result<String> {
+    match request.page {
+        Some(_) => page::checksum(&request.input, text, layer),
+        None => Ok(String::new()),
+    }
+}
+
 /// What is given once for all tolerances.
 #[derive(Clone, Copy)]
 struct Given<'a> {
     delivery: &'a Delivery<'a>,
     classes: &'a Classes<'a>,
     measure: &'a Measure,
-    lines: &'a [Line<'a>],
     /// The layer that the lines came from, and the reference system of their coordinates.
     layer: Option<&'a About>,
     reference: Option<&'a Reference>,
@@ -84,20 +99,45 @@ struct Given<'a> {
 /// What one tolerance came to.
 struct Zoom<'a> {
     request: &'a Request,
-    chains: Vec<Chain>,
+    chains: Vec<Chain<'a>>,
     /// The length of each chain.
     lengths: Vec<f64>,
     tally: Tally,
+    /// The page, where it is asked for.
+    page: Option<Vec<u8>>,
 }
 
 impl<'a> Given<'a> {
-    fn zoom<'r>(self, request: &'r Request, mut chains: Vec<Chain>) -> Zoom<'r> {
-        let Given { delivery, measure, lines, .. } = self;
+    fn zoom<'r>(
+        self,
+        request: &'r Request,
+        told: &'r Told,
+        lines: &[Line],
+        progress: &Progress,
+    ) -> Result<Zoom<'r>> {
+        let Given { delivery, measure, .. } = self;
+        let mut chains: Vec<Chain> = told.chains().collect();
         look_at_parts(delivery, request.window, &mut chains);
         let lengths: Vec<f64> =
             chains.iter().map(|chain| length_of(delivery, measure, chain)).collect();
-        let tally = tally(request, delivery, lines, &chains, &lengths);
-        Zoom { request, chains, lengths, tally }
+        let mut tally = tally(request, delivery, lines, &chains, &lengths);
+        tally.laid = told.laid().to_vec();
+        let mut zoom = Zoom { request, chains, lengths, tally, page: None };
+        if request.page.is_some() {
+            zoom.page = Some(self.page(&zoom, lines, progress)?);
+        }
+        Ok(zoom)
+    }
+
+    /// The page of one tolerance.
+    fn page(self, zoom: &Zoom, lines: &[Line], progress: &Progress) -> Result<Vec<u8>> {
+        let Given { delivery, classes, measure, checksum, .. } = self;
+        let Zoom { request, chains, tally, .. } = zoom;
+        let explained = &explained(lines, chains, request.settings, progress)?;
+        let name = &short_name(request);
+        let page =
+            Page { name, checksum, request, delivery, classes, measure, chains, tally, explained };
+        Ok(page.text()?)
     }
 
     /// Puts the outputs of all tolerances in their places, and tells what the user has to know of each.
@@ -110,32 +150,20 @@ impl<'a> Given<'a> {
         let outcomes: Vec<Outcome> = zooms.iter().map(|zoom| self.outcome(zoom)).collect();
         let (mut outputs, mut of, mut warnings) = (Vec::new(), Vec::new(), Vec::new());
         for (zoom, (outcome, targets)) in outcomes.iter().zip(targets).enumerate() {
-            let (more, mut told) = outcome.outputs(targets, progress);
-            told.extend(of_degrees(self.measure, outcome.request.settings.tolerance));
+            let (more, told) = outcome.outputs(targets, progress);
             outputs.extend(more);
-            if let Some(target) = targets.page.clone() {
-                let text = self.page(&zooms[zoom], progress)?;
-                told.extend(page::of_size(text.len()));
-                outputs.push(Output { target, content: Content::Text(text) });
-            }
             of.resize(outputs.len(), zoom);
             warnings.push(told);
         }
         for (zoom, told) in of.into_iter().zip(writing::put(&outputs)?) {
             warnings[zoom].extend(told);
         }
+        for ((outcome, targets), warnings) in outcomes.iter().zip(targets).zip(&mut warnings) {
+            warnings.extend(outcome.warnings(targets));
+            warnings.extend(of_degrees(self.measure, outcome.request.settings.tolerance));
+            warnings.extend(outcome.page.and_then(|page| page::of_size(page.len())));
+        }
         Ok(warnings)
-    }
-
-    /// The page of one tolerance.
-    fn page(self, zoom: &Zoom, progress: &Progress) -> Result<Vec<u8>> {
-        let Given { delivery, classes, measure, lines, checksum, .. } = self;
-        let Zoom { request, chains, tally, .. } = zoom;
-        let explained = &explained(lines, chains, request.settings, progress)?;
-        let name = &short_name(request);
-        let page =
-            Page { name, checksum, request, delivery, classes, measure, chains, tally, explained };
-        Ok(page.text()?)
     }
 
     fn outcome<'o>(self, zoom: &'o Zoom) -> Outcome<'o>
@@ -143,8 +171,20 @@ impl<'a> Given<'a> {
         'a: 'o,
     {
         let Given { delivery, measure, layer, reference, .. } = self;
-        let Zoom { request, chains, lengths, tally } = zoom;
-        Outcome { request, delivery, measure, chains, lengths, tally, layer, reference }
+        let Zoom { request, chains, lengths, tally, page } = zoom;
+        let (page, clashes) = (page.as_deref(), AtomicUsize::default());
+        Outcome {
+            request,
+            delivery,
+            measure,
+            chains,
+            lengths,
+            tally,
+            layer,
+            reference,
+            page,
+            clashes,
+        }
     }
 }
 
@@ -176,9 +216,10 @@ pub fn explained(
 ) -> Result<Explained> {
     let exact = (settings.with_tolerance(0.0), None);
     let pieces = match settings.tolerance > 0.0 {
-        true => join(Dimension::Xy, lines, exact, Capacity::default(), progress)?,
-        false => Vec::new(),
+        true => join(Dimension::Xy, lines, exact, progress)?,
+        false => Told::default(),
     };
+    let pieces: Vec<Chain> = pieces.chains().collect();
     Ok(Explained::of(lines, chains, &pieces, settings)?)
 }
 
@@ -207,14 +248,14 @@ fn tally(
     tally
 }
 
-/// The fault, with the class and the first feature of a component that no call can hold.
+/// The fault, with the class and what may be done about it, or with the feature that it is of.
 fn named(delivery: &Delivery, classes: &Classes, fault: Fault) -> Error {
-    match &fault {
-        Fault::TooLarge(large) => anyhow!(
-            "{}: from feature {} on, {large}; a lower tolerance, --class or --district may part them",
-            classes.name(large.group),
-            delivery.name(large.first)
+    match fault {
+        Fault::Crowded { group, .. } => anyhow!(
+            "{}: {fault} (without --limit, --bend and --offset no ends are)",
+            classes.name(group)
         ),
-        _ => fault.into(),
+        Fault::Differs { line } => anyhow!("feature {}: {fault}", delivery.name(line)),
+        Fault::Refused(_) | Fault::TooMany => fault.into(),
     }
 }

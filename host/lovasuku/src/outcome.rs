@@ -12,10 +12,12 @@ use crate::progress::Progress;
 use crate::store::{About, Reference, Store};
 use crate::storing::{lost_in_geojson, store};
 use crate::tally::Tally;
-use crate::writing::{own_names, Bridges, Chains, Content, Format, Output, Target};
+use crate::writing::{own_names, Bridges, Chains, Content, Format, Output, Target, Text};
 use anyhow::Result;
 use lovasuku_chains::Settings;
+use std::io::{self, Write};
 use std::path::Path;
+use std::sync::atomic::{AtomicUsize, Ordering};
 
 /// Where the outputs go, and which of them are stores.
 pub struct Targets {
@@ -63,17 +65,21 @@ pub struct Outcome<'a> {
     pub request: &'a Request,
     pub delivery: &'a Delivery<'a>,
     pub measure: &'a Measure,
-    pub chains: &'a [Chain],
+    pub chains: &'a [Chain<'a>],
     /// The length of each chain.
     pub lengths: &'a [f64],
     pub tally: &'a Tally,
     /// The layer that the lines came from, and the reference system of their coordinates.
     pub layer: Option<&'a About>,
     pub reference: Option<&'a Reference>,
+    /// The page, where it is asked for.
+    pub page: Option<&'a [u8]>,
+    /// How many chains that were written have a member with a property of a chain's own name.
+    pub clashes: AtomicUsize,
 }
 
 impl Outcome<'_> {
-    /// The outputs, and what the user has to know about them.
+    /// The outputs, and what the user has to know about those that are stores.
     pub fn outputs<'o>(
         &'o self,
         targets: &'o Targets,
@@ -81,43 +87,59 @@ impl Outcome<'_> {
     ) -> (Vec<Output<'o>>, Vec<String>) {
         let output =
             |target: &Target, content: Content<'o>| Output { target: target.clone(), content };
+        let text = |text: Text<'o>| Content::Text(text);
         let mut warnings = Vec::new();
         let (target, store) = &targets.chains;
         let chains = match store {
             Some(store) => self.stored_chains(store, &mut warnings, progress),
-            None => Content::Text(self.chains(&mut warnings, progress)),
+            None => text(Box::new(move |into| self.write_chains(into, progress))),
         };
         let mut outputs = vec![output(target, chains)];
         if let Some((target, store)) = &targets.bridges {
-            outputs.push(output(
-                target,
-                match store {
-                    Some(store) => self.stored_bridges(store, progress),
-                    None => Content::Text(self.bridges(&target.path)),
-                },
-            ));
+            let bridges = match store {
+                Some(store) => self.stored_bridges(store, progress),
+                None => text(Box::new(move |into| self.write_bridges(into, &target.path))),
+            };
+            outputs.push(output(target, bridges));
         }
         if let Some(target) = &targets.map {
-            outputs.push(output(target, Content::Text(self.map())));
+            outputs.push(output(target, text(Box::new(move |into| into.write_all(&self.map())))));
+        }
+        if let (Some(target), Some(page)) = (&targets.page, self.page) {
+            outputs.push(output(target, text(Box::new(move |into| into.write_all(page)))));
         }
         (outputs, warnings)
     }
 
-    fn chains(&self, warnings: &mut Vec<String>, progress: &Progress) -> Vec<u8> {
-        let writer = self.writer();
-        let written = writer.write(self.chains, progress);
-        warnings.extend(told_of_clashes(written.clashes, &writer.own));
+    fn write_chains(&self, into: &mut dyn Write, progress: &Progress) -> io::Result<()> {
+        let mut text = self.format().begin(into, &self.members())?;
+        let clashes = self.writer().write(self.chains, &mut text, progress)?;
+        self.clashes.store(clashes, Ordering::Relaxed);
+        text.end()
+    }
+
+    fn format(&self) -> Format {
+        Format::of_output(&self.request.output, self.request.format)
+    }
+
+    /// What the user has to know about the chains that were written, where they are GeoJSON.
+    pub fn warnings(&self, targets: &Targets) -> Vec<String> {
+        if targets.chains.1.is_some() {
+            return Vec::new();
+        }
+        let mut warnings = Vec::new();
+        let clashes = self.clashes.load(Ordering::Relaxed);
+        warnings.extend(told_of_clashes(clashes, &self.writer().own));
         let members = self.members();
-        let format = Format::of_output(&self.request.output, self.request.format);
         let lost: Vec<&str> = members.iter().map(|(name, _)| name).collect();
-        if format != Format::Collection && !lost.is_empty() {
+        if self.format() != Format::Collection && !lost.is_empty() {
             warnings.push(format!(
                 "a series of features has no place for members of the collection: left out are {}",
                 lost.join(", ")
             ));
         }
         warnings.extend(lost_in_geojson(self.layer, self.delivery.dimension));
-        format.put(&members, &written.features)
+        warnings
     }
 
     /// What the features of chains are written by.
@@ -147,11 +169,13 @@ impl Outcome<'_> {
         Bridges { delivery, measure, tolerance }.write(self.chains, &self.tally.gaps)
     }
 
-    fn bridges(&self, path: &Path) -> Vec<u8> {
+    fn write_bridges(&self, into: &mut dyn Write, path: &Path) -> io::Result<()> {
         let features = self.bridge_features();
         let mut members = self.delivery.members.clone();
         members.retain(|name, text| name == "crs" && text != "null");
-        Format::of_output(path, self.request.format).put(&members, &features)
+        let mut text = Format::of_output(path, self.request.format).begin(into, &members)?;
+        features.iter().try_for_each(|feature| text.put(feature))?;
+        text.end()
     }
 
     fn map(&self) -> Vec<u8> {

@@ -100,8 +100,8 @@ const DEGREES: &str = "EPSG:4326";
 /// The geometry of a chain: its points, or those of its only line as they were.
 fn drawn<'a>(delivery: &'a Delivery, chain: &'a Chain) -> Drawn<'a> {
     let alone = chain.members.first().map(|&line| &delivery.features[line as usize].geometry);
-    match (&chain.points, alone) {
-        (Some(points), _) => Drawn::Line(points.into(), (&chain.extras).into()),
+    match (chain.points, alone) {
+        (Some(points), _) => Drawn::Line(points.into(), chain.extras.into()),
         (None, Some(Geometry::Line(run))) => {
             Drawn::Line((&run.points).into(), (&run.heights).into())
         }

@@ -32,6 +32,7 @@ impl Summary<'_> {
             ("empty", self.empty()),
             ("left out", self.left_out()),
             ("chains", Some(self.chains())),
+            ("laid", self.laid()),
             ("window", self.window()),
             ("joined", Some(self.joined())),
             ("bridges", Some(self.bridges())),
@@ -116,6 +117,23 @@ impl Summary<'_> {
                 self.measure.words(longest.length),
             ),
         }
+    }
+
+    /// Which chains were laid by the command's own code.
+    fn laid(&self) -> Option<String> {
+        let laid = &self.tally.laid;
+        let named: Vec<String> = laid.iter().take(NAMED).map(u32::to_string).collect();
+        let more = match laid.len().saturating_sub(NAMED) {
+            0 => String::new(),
+            more => format!(" and {} more", parted(more)),
+        };
+        let chains = count(laid.len(), "chain");
+        (!laid.is_empty()).then(|| {
+            format!(
+                "{chains} of more than a call of the library holds, end to end by the command itself: {}{more}",
+                named.join(", ")
+            )
+        })
     }
 
     fn window(&self) -> Option<String> {
@@ -223,6 +241,9 @@ impl Summary<'_> {
         }
     }
 }
+
+/// So many chains are named one by one.
+const NAMED: usize = 5;
 
 /// The tolerance from which on degrees are likely to have been taken for metres.
 const MANY_DEGREES: f64 = 0.1;

@@ -29,6 +29,8 @@ pub struct Tally {
     pub longest_bridge: Option<(usize, Joint)>,
     /// Gaps below the tolerance that stayed open.
     pub gaps: Vec<Gap>,
+    /// The positions of chains that are more than a call of the library holds.
+    pub laid: Vec<u32>,
 }
 
 /// The longest chain: its position, its lines and its length.
@@ -69,7 +71,7 @@ impl Tally {
             let lines = chain.members.len();
             self.longest_chain = Some(Longest { chain: position, lines, length });
         }
-        for joint in &chain.joints {
+        for joint in chain.joints {
             match joint.kind {
                 JointKind::Node => self.nodes += 1,
                 JointKind::Junction => self.junctions += 1,
@@ -97,8 +99,8 @@ pub fn length_of(delivery: &Delivery, measure: &Measure, chain: &Chain) -> f64 {
 }
 
 /// The runs of points that a chain is drawn by.
-pub fn runs_of<'a>(delivery: &'a Delivery, chain: &'a Chain) -> Vec<&'a [Point]> {
-    match (&chain.points, chain.members.first()) {
+pub fn runs_of<'a>(delivery: &'a Delivery, chain: &Chain<'a>) -> Vec<&'a [Point]> {
+    match (chain.points, chain.members.first()) {
         (Some(points), _) => vec![points],
         (None, Some(&line)) => delivery.features[line as usize].geometry.runs().collect(),
         (None, None) => Vec::new(),

@@ -1,11 +1,9 @@
-//! Batches give what one call gives, and joints tell what the chains were joined by.
+//! Batches of any size give the same chains, and joints tell what the chains were joined by.
 
 mod networks;
 
-use lovasuku_chains::{large, Dimension, PathLine, Settings};
-use lovasuku_command::delivery::Point;
-use lovasuku_command::joining::{join, Capacity, Chain, Fault, Joint, JointKind, Line};
-use lovasuku_command::progress::Progress;
+use lovasuku_chains::large::{join, Capacity, Chain, Joint, JointKind, Line, Point, Told, Way};
+use lovasuku_chains::{Dimension, PathLine, Settings};
 use networks::{network, Network};
 use std::collections::HashSet;
 
@@ -20,23 +18,17 @@ const SETTINGS: [Settings; 8] = [
     Settings { tolerance: 2.0, origin: [-1e9, 0.75], limit: Some(0.0) },
 ];
 
-fn chains(network: &Network, settings: Settings, capacity: Capacity) -> Option<Vec<Chain>> {
-    match join(Dimension::Xy, &network.lines(), (settings, None), capacity, &Progress::new(false)) {
-        Ok(chains) => Some(chains),
-        Err(fault) => {
-            assert!(matches!(fault, Fault::TooLarge(_)), "{fault}");
-            None
-        }
-    }
+fn told(network: &Network, settings: Settings, way: Way) -> Told {
+    join(Dimension::Xy, &network.lines(), (settings, None), way).unwrap()
 }
 
 /// All of a chain, with its points as bits.
 type Bits<'a> = (&'a [u32], &'a [PathLine], Option<Vec<[u64; 2]>>, bool, &'a [Joint]);
 
-fn bits(chain: &Chain) -> Bits<'_> {
-    let points = chain.points.as_ref();
+fn bits(chain: Chain) -> Bits {
+    let points = chain.points;
     let points = points.map(|points| points.iter().map(|point| point.map(f64::to_bits)).collect());
-    (&chain.members, &chain.path, points, chain.is_loop, &chain.joints)
+    (chain.members, chain.path, points, chain.is_loop, chain.joints)
 }
 
 /// Networks of so many seeds and of about so many lines, each with settings.
@@ -48,25 +40,24 @@ fn networks(seeds: u64, lines: usize) -> impl Iterator<Item = (u64, Network, Set
 }
 
 #[test]
-fn batches_equal_one_call() {
-    let mut compared = 0;
+fn batches_of_any_size_have_the_same_chains() {
+    let mut joints = 0;
     for (seed, network, settings) in networks(400, 60) {
-        let whole = chains(&network, settings, Capacity::default()).unwrap();
-        let one_core =
-            large::join(Dimension::Xy, &network.lines(), settings, Capacity::default()).unwrap();
-        assert!(whole.iter().map(bits).eq(one_core.iter().map(bits)), "seed {seed}, one core");
-        for lines in [4, 8, 16, 48] {
+        let whole = told(&network, settings, Way::default());
+        joints += whole.chains().map(|chain| chain.joints.len()).sum::<usize>();
+        for (lines, batch) in [(1, 1), (2, 1), (4, 2), (8, 4), (16, 9), (2_048, 1), (2_048, 30)] {
             let capacity = Capacity { lines, points: 6 * lines };
-            if let Some(cut) = chains(&network, settings, capacity) {
+            for neighbours in [false, true] {
+                let way = Way { capacity, batch, neighbours, ..Way::default() };
+                let cut = told(&network, settings, way);
                 assert!(
-                    whole.iter().map(bits).eq(cut.iter().map(bits)),
-                    "seed {seed}, {lines} lines"
+                    whole.chains().map(bits).eq(cut.chains().map(bits)),
+                    "seed {seed}, {way:?}"
                 );
-                compared += 1;
             }
         }
     }
-    assert!(compared > 500, "{compared}");
+    assert!(joints > 10_000, "{joints}");
 }
 
 type Segment = [[u64; 2]; 2];
@@ -87,7 +78,7 @@ fn segments(points: &[Point]) -> Vec<Segment> {
 fn a_segment_of_no_line_is_a_bridge() {
     let mut bridges = 0;
     for (_, network, settings) in networks(600, 35) {
-        for chain in chains(&network, settings, Capacity::default()).unwrap() {
+        for chain in told(&network, settings, Way::default()).chains() {
             bridges += check_bridges(&network.lines(), &chain);
         }
     }
@@ -97,7 +88,7 @@ fn a_segment_of_no_line_is_a_bridge() {
 /// Tests the bridges of a chain against its points and its lines, and counts them.
 fn check_bridges(lines: &[Line], chain: &Chain) -> usize {
     assert_eq!(chain.joints.len() + 1, chain.members.len());
-    let points = match &chain.points {
+    let points = match chain.points {
         None => return 0,
         Some(points) => points,
     };
@@ -122,11 +113,10 @@ fn check_bridges(lines: &[Line], chain: &Chain) -> usize {
     bridges.len()
 }
 
-fn joined(lines: &[&[Point]], settings: Settings) -> Vec<Chain> {
+fn joined(lines: &[&[Point]], settings: Settings) -> Told {
     let lines: Vec<Line> =
         lines.iter().map(|points| Line { points: Some(points), extras: &[], group: 0 }).collect();
-    join(Dimension::Xy, &lines, (settings, None), Capacity::default(), &Progress::new(false))
-        .unwrap()
+    join(Dimension::Xy, &lines, (settings, None), Way::default()).unwrap()
 }
 
 #[test]
@@ -141,7 +131,8 @@ fn joints_tell_what_they_were_made_by() {
         &[[1.25, 1.25], [3.0, 3.0]],
     ];
     let settings = Settings { tolerance: 0.5, origin: [0.0, 0.0], limit: Some(-1.0) };
-    let chains = joined(&lines, settings);
+    let told = joined(&lines, settings);
+    let chains: Vec<Chain> = told.chains().collect();
     let kinds = |chain: &Chain| chain.joints.iter().map(|joint| joint.kind).collect::<Vec<_>>();
     // The pair that is straight on is selected in round one; the two ends left there meet in round
     // two, with no segment between them, and a gap is closed by a bridge.
@@ -158,11 +149,12 @@ fn joints_tell_what_they_were_made_by() {
 fn a_bridge_to_a_piece_that_was_turned() {
     let lines: [&[Point]; 3] =
         [&[[0.0, 0.0], [1.25, 0.0]], &[[4.5, 0.0], [3.5, 0.0]], &[[4.5, 0.0], [6.0, 0.0]]];
-    let chains = joined(&lines, Settings { tolerance: 2.5, origin: [0.0, 0.0], limit: None });
-    assert_eq!(chains.len(), 2);
+    let told = joined(&lines, Settings { tolerance: 2.5, origin: [0.0, 0.0], limit: None });
+    assert_eq!(told.len(), 2);
     let lines: [&[Point]; 3] =
         [&[[0.0, 0.0], [1.25, 0.0]], &[[4.5, 0.0], [1.75, 0.0]], &[[4.5, 0.0], [6.0, 0.0]]];
-    let chains = joined(&lines, Settings { tolerance: 1.0, origin: [0.0, 0.0], limit: None });
+    let told = joined(&lines, Settings { tolerance: 1.0, origin: [0.0, 0.0], limit: None });
+    let chains: Vec<Chain> = told.chains().collect();
     // The piece of lines 1 and 2 runs from 6 to 1.75 and is walked backwards, so its members stand
     // against the way of the points.
     assert_eq!(chains[0].members, [0, 2, 1]);

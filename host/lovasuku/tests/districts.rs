@@ -56,17 +56,17 @@ fn a_district_s_chains_do_not_depend_on_the_other() {
 }
 
 #[test]
-fn each_district_has_a_share_of_a_call() {
+fn districts_may_be_of_any_size() {
     let road = |y: i32, lines: i32, d: i32| {
         let of = format!("\"d\":{d}");
         (0..lines).map(move |x| line([x, y], [x + 1, y], &of)).collect::<Vec<_>>()
     };
-    let both = |second: i32| [road(0, 2_048, 1), road(0, second, 2)].concat().join("\n");
-    assert_eq!(features(&joined(&both(2_048), &["--district", "d=2"])).len(), 2);
-    let run = run(&["join", "-", "-o", "-", "--district", "d=2"], &both(2_049));
-    assert_eq!((run.status, &run.out[..]), (1, ""));
-    let wanted = "all lines of the second district: from feature 2048 on, 2049 lines";
-    assert!(run.err.contains(wanted), "{}", run.err);
+    for second in [2_048, 2_049, 5_000] {
+        let both = [road(0, 2_048, 1), road(0, second, 2)].concat().join("\n");
+        let chains = features(&joined(&both, &["--district", "d=2"]));
+        let counts: Vec<_> = chains.iter().map(|chain| &chain["properties"]["count"]).collect();
+        assert_eq!(counts, [2_048, second]);
+    }
 }
 
 #[test]

@@ -15,7 +15,7 @@ use lovasuku_chains::explain::{Explained, Meeting, Round, Why};
 use lovasuku_chains::{Dimension, Refusal, Rooms, Settings};
 use lovasuku_command::command::explained;
 use lovasuku_command::delivery::{read, Geometry, Heights, Point, Reading};
-use lovasuku_command::joining::{join, Capacity, Line};
+use lovasuku_command::joining::{join, Chain, Line};
 use lovasuku_command::progress::Progress;
 use networks::network;
 
@@ -68,8 +68,8 @@ fn call(lines: &[Line], settings: Settings) -> BuildCall {
 /// Explains lines, has the explanation judged, and gives it with the joints of each chain.
 fn judged(lines: &[Line], settings: Settings) -> (Explained, Vec<Vec<Meeting>>) {
     let progress = Progress::new(false);
-    let chains =
-        join(Dimension::Xy, lines, (settings, None), Capacity::default(), &progress).unwrap();
+    let joined = join(Dimension::Xy, lines, (settings, None), &progress).unwrap();
+    let chains: Vec<Chain> = joined.chains().collect();
     let told = explained(lines, &chains, settings, &progress).unwrap();
     let mut rooms = Rooms::default();
     let whys = told.nodes().iter().map(|node| node.all_whys(&mut rooms, settings.limit));

@@ -2,15 +2,15 @@
 
 mod networks;
 
-use lovasuku_chains::large::{distance, gaps, join, Capacity, Chain, Gap, Line, Point};
+use lovasuku_chains::large::{distance, gaps, join, Chain, Gap, Line, Point, Way};
 use lovasuku_chains::{Dimension, Settings};
 use networks::network;
 
 /// An end of a chain: its chain, its point, the chain's other end and its group.
 type End = (usize, Point, Point, u32);
 
-fn points<'a>(lines: &[Line<'a>], chain: &'a Chain) -> &'a [Point] {
-    match &chain.points {
+fn points<'a>(lines: &[Line<'a>], chain: &Chain<'a>) -> &'a [Point] {
+    match chain.points {
         Some(points) => points,
         None => lines[chain.members[0] as usize].points.unwrap_or_default(),
     }
@@ -62,7 +62,8 @@ fn every_open_end_and_its_nearest() {
         let lines = network.lines();
         let origin = [0.0, 0.25 * (seed % 5) as f64];
         let settings = Settings { tolerance, origin, limit: None };
-        let chains = join(Dimension::Xy, &lines, settings, Capacity::default()).unwrap();
+        let told = join(Dimension::Xy, &lines, (settings, None), Way::default()).unwrap();
+        let chains: Vec<Chain> = told.chains().collect();
         let found = gaps(&lines, &chains, settings);
         let ends = ends(&lines, &chains);
         let open = ends.iter().filter(|(_, point, _, group)| at(&lines, *group, *point) == 1);

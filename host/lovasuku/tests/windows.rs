@@ -4,9 +4,8 @@ mod common;
 mod networks;
 
 use common::{feature, features, joined, run, sample_text, Folder};
+use lovasuku_chains::large::{join, Capacity, Chain, Line, Way};
 use lovasuku_chains::{Dimension, Settings, Window};
-use lovasuku_command::joining::{join, Capacity, Chain, Line};
-use lovasuku_command::progress::Progress;
 use networks::network;
 use serde_json::Value;
 
@@ -154,20 +153,21 @@ fn batches_find_what_one_call_finds() {
         let from = (seed % 9) as f64 * 4.0;
         let window = Window { least: [from, 6.0], greatest: [from + 9.0, 20.0] };
         let settings = Settings::default().with_tolerance([0.0, 1.0][seed as usize % 2]);
-        let chains = |capacity| {
-            let asked = (settings, Some(window));
-            join(Dimension::Xy, &lines, asked, capacity, &Progress::new(false)).ok()
+        let told = |capacity| {
+            let way = Way { capacity, batch: 8, ..Way::default() };
+            join(Dimension::Xy, &lines, (settings, Some(window)), way).unwrap()
         };
-        let whole = chains(Capacity::default()).unwrap();
+        let whole = told(Capacity::default());
+        let whole: Vec<Chain> = whole.chains().collect();
         found += inside(&whole).len();
-        for lines in [8, 16, 48] {
-            if let Some(cut) = chains(Capacity { lines, points: 6 * lines }) {
-                assert_eq!(inside(&cut), inside(&whole), "seed {seed}, {lines} lines");
-            }
+        for lines in [1, 8, 16, 48] {
+            let cut = told(Capacity { lines, points: 6 * lines });
+            let cut: Vec<Chain> = cut.chains().collect();
+            assert_eq!(inside(&cut), inside(&whole), "seed {seed}, {lines} lines");
         }
         for (k, chain) in whole.iter().enumerate() {
             let alone = lines[chain.members[0] as usize].points.unwrap_or_default();
-            let points = chain.points.as_deref().unwrap_or(alone);
+            let points = chain.points.unwrap_or(alone);
             let [x, y] = window.least;
             let [to_x, to_y] = window.greatest;
             assert_eq!(

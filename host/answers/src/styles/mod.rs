@@ -8,6 +8,7 @@ pub mod networks;
 pub mod origins;
 pub mod pairing;
 pub mod parting;
+pub mod regions;
 pub mod shapes;
 pub mod stars;
 pub mod tiny;

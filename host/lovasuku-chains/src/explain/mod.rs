@@ -8,7 +8,7 @@
 //!
 //! ```
 //! use lovasuku_chains::explain::{explain, Round, Why};
-//! use lovasuku_chains::large::{join, Capacity, Line};
+//! use lovasuku_chains::large::{join, Chain, Line, Way};
 //! use lovasuku_chains::{Dimension, Reason, Rooms, Settings};
 //!
 //! # fn main() -> Result<(), Box<dyn std::error::Error>> {
@@ -16,8 +16,9 @@
 //! let roads = [[[-1.0, 0.0], [0.0, 0.0]], [[0.0, 0.0], [1.0, 0.0]], [[0.0, 0.0], [0.0, 1.0]]];
 //! let lines = [0, 1, 2].map(|k| Line { points: Some(&roads[k]), extras: &[], group: 0 });
 //! let settings = Settings::default().with_limit(-0.5);
-//! let chains = join(Dimension::Xy, &lines, settings, Capacity::default())?;
-//! let explained = explain(&lines, &chains, settings, Capacity::default())?;
+//! let told = join(Dimension::Xy, &lines, (settings, None), Way::default())?;
+//! let chains: Vec<Chain> = told.chains().collect();
+//! let explained = explain(&lines, &chains, settings, Way::default())?;
 //!
 //! // The first two are joined: of three ends that meet in round one theirs are the first pair.
 //! let joint = explained.joints(0)[0];
@@ -36,7 +37,7 @@
 mod nodes;
 mod plane;
 
-use crate::large::{self, exact_key, join, key, Capacity, Chain, Line, Point};
+use crate::large::{self, exact_key, join, key, Chain, Line, Point, Told, Way};
 use crate::{Dimension, PathLine, Refusal, Rooms, Settings};
 use nodes::{nodes, Piece};
 pub use nodes::{End, Node, Round, Why};
@@ -104,7 +105,7 @@ impl From<Refusal> for Fault {
 }
 
 /// Explains chains that lines were joined into under settings. Where there is a tolerance the lines are
-/// joined once more without it, by calls of that capacity.
+/// joined once more without it, in that way.
 ///
 /// # Errors
 ///
@@ -113,12 +114,13 @@ pub fn explain(
     lines: &[Line],
     chains: &[Chain],
     settings: Settings,
-    capacity: Capacity,
+    way: Way,
 ) -> Result<Explained, Fault> {
     let pieces = match settings.tolerance > 0.0 {
-        true => join(Dimension::Xy, lines, settings.with_tolerance(0.0), capacity)?,
-        false => Vec::new(),
+        true => join(Dimension::Xy, lines, (settings.with_tolerance(0.0), None), way)?,
+        false => Told::default(),
     };
+    let pieces: Vec<Chain> = pieces.chains().collect();
     Explained::of(lines, chains, &pieces, settings)
 }
 
@@ -265,13 +267,13 @@ fn of_lines<'a>(lines: &'a [Line<'a>]) -> impl Iterator<Item = Piece<'a>> + 'a {
 /// The pieces of round two: what round one left of the lines that may be joined.
 fn of_pieces<'a>(
     lines: &'a [Line<'a>],
-    pieces: &'a [Chain],
+    pieces: &'a [Chain<'a>],
 ) -> impl Iterator<Item = Piece<'a>> + 'a {
-    let piece = |(piece, number): (&'a Chain, u32)| {
+    let piece = |(piece, number): (&'a Chain<'a>, u32)| {
         let (first, last) = (piece.path.first()?, piece.path.last()?);
         let line = lines.get(first.line as usize)?;
         line.ends()?;
-        let points = piece.points.as_deref().or(line.points)?;
+        let points = piece.points.or(line.points)?;
         let ends = [(first.line, first.turned), (last.line, !last.turned)];
         Some(Piece { number, group: line.group, points, ends })
     };

@@ -4,8 +4,8 @@
 //! ends of chains at which no other line ends, each with the end nearest to it. Of the two ends of a
 //! chain only the nearer one counts.
 
-use super::components::{exact_key, key};
 use super::joints::{distance, end_counts};
+use super::keys::{exact_key, key};
 use super::{at, Chain, Line, Point};
 use crate::{Nearest, Settings};
 use std::collections::{HashMap, HashSet};
@@ -96,7 +96,7 @@ pub fn gaps(lines: &[Line], chains: &[Chain], settings: Settings) -> Vec<Gap> {
 /// The length of a chain in units of the coordinates.
 fn length(lines: &[Line], chain: &Chain) -> f64 {
     let alone = || chain.members.first().and_then(|&line| at(lines, line).points);
-    let points = chain.points.as_deref().or_else(alone).unwrap_or_default();
+    let points = chain.points.or_else(alone).unwrap_or_default();
     points.windows(2).map(|two| distance(two[0], two[1])).sum()
 }
 
@@ -113,7 +113,7 @@ fn ends(lines: &[Line], chains: &[Chain]) -> Vec<End> {
             chain.joints.first().map(|joint| joint.lines[0]).or(chain.members.first().copied())?;
         let last = chain.joints.last().map_or(first, |joint| joint.lines[1]);
         let Line { group, .. } = at(lines, first);
-        let points = match &chain.points {
+        let points = match chain.points {
             Some(points) => [*points.first()?, *points.last()?],
             None => at(lines, first).ends()?,
         };

@@ -1,7 +1,7 @@
 //! Joints: where the lines of a chain were joined, and by what.
 
-use super::components::{exact_key, Key};
-use super::{at, Line, Point};
+use super::keys::{exact_key, Key};
+use super::{Line, Point};
 use std::collections::HashMap;
 
 /// A joint of two lines that follow each other in a chain.
@@ -43,16 +43,6 @@ pub fn distance([x, y]: Point, [to_x, to_y]: Point) -> f64 {
     (to_x - x).hypot(to_y - y)
 }
 
-/// A line on the way of a chain.
-#[derive(Clone, Copy, Debug, PartialEq)]
-pub struct Step {
-    pub line: u32,
-    /// True where the way runs from its last point to its first.
-    pub back: bool,
-    /// The piece of round one that holds it, where it was asked for.
-    pub piece: Option<u32>,
-}
-
 /// The number of ends at each key.
 pub type EndCounts = HashMap<Key, u32>;
 
@@ -71,34 +61,13 @@ pub fn end_counts<'a>(lines: impl Iterator<Item = Line<'a>>) -> EndCounts {
 /// are what keeps two lines from being joined.
 pub fn blocking(lines: &[Line]) -> usize {
     let flat = |line: &&Line| line.ends().is_some() && line.has_no_length();
+    if !lines.iter().any(|line| flat(&line)) {
+        return 0;
+    }
     let counts = end_counts(lines.iter().filter(|line| !flat(line)).copied());
     let blocks = |line: &Line| {
         let ends = line.ends().map(|[first, _]| exact_key(line.group, first));
         ends.and_then(|key| counts.get(&key)).map_or(false, |&count| count > 1)
     };
     lines.iter().filter(flat).filter(|line| blocks(line)).count()
-}
-
-/// The joints on a way.
-pub fn joints(lines: &[Line], way: &[Step], counts: &EndCounts) -> Vec<Joint> {
-    let joint = |two: &[Step]| {
-        let (from, to) = (two[0], two[1]);
-        let end = end_of(lines, from.line, !from.back)?;
-        let ends = [end, end_of(lines, to.line, to.back)?];
-        let key = exact_key(at(lines, from.line).group, end);
-        let kind = if from.piece != to.piece {
-            JointKind::Tolerance
-        } else if counts.get(&key).map_or(false, |&count| count > 2) {
-            JointKind::Junction
-        } else {
-            JointKind::Node
-        };
-        Some(Joint { lines: [from.line, to.line], ends, kind })
-    };
-    way.windows(2).filter_map(joint).collect()
-}
-
-/// The last or the first point of a line.
-fn end_of(lines: &[Line], line: u32, last: bool) -> Option<Point> {
-    lines.get(line as usize)?.ends().map(|[first, end]| if last { end } else { first })
 }

@@ -2,7 +2,7 @@
 
 use super::{explained, Explained, Fault, Settings};
 use lovasuku_chains::explain::{bend_of, cell_of, explain, Round, Why};
-use lovasuku_chains::large::{Capacity, Chain, Line, Point};
+use lovasuku_chains::large::{Chain, Line, Point, Way};
 use lovasuku_chains::{PathLine, Reason, Refusal, Rooms};
 
 /// Each reason of the pairs of a node, in their order.
@@ -19,7 +19,7 @@ fn a_crossing_with_a_pair_that_blocks() {
         &[[0.0, 1.0], [0.0, 0.0]],
     ];
     let (chains, told) = explained(&lines, Settings::default().with_limit(-0.5)).unwrap();
-    assert_eq!(chains[0].members, [0, 1]);
+    assert_eq!(chains.chains().next().unwrap().members, [0, 1]);
     let node = &told.nodes()[0];
     assert_eq!((told.nodes().len(), node.round, node.ends.len()), (1, Round::Exact, 4));
     assert_eq!(node.joined, [[0, 1]]);
@@ -95,12 +95,13 @@ fn chains_of_other_settings_have_no_reason() {
     let points: [[Point; 2]; 2] = [[[0.0, 0.0], [1.25, 0.0]], [[1.75, 0.0], [3.5, 0.0]]];
     let lines = [0, 1].map(|k| Line { points: Some(&points[k]), extras: &[], group: 0 });
     let settings = Settings::default().with_tolerance(1.0);
-    let (chains, _) = explained(&[&points[0], &points[1]], settings).unwrap();
-    let without = explain(&lines, &chains, Settings::default(), Capacity::default());
+    let (told, _) = explained(&[&points[0], &points[1]], settings).unwrap();
+    let chains: Vec<Chain> = told.chains().collect();
+    let without = explain(&lines, &chains, Settings::default(), Way::default());
     assert_eq!(without, Err(Fault::NoReason { lines: [0, 1] }));
     let turned = |line: u32| PathLine { line, turned: line == 1 };
-    let other = Chain { path: vec![turned(0), turned(1)], ..chains[0].clone() };
-    let other = explain(&lines, &[other], settings, Capacity::default()).unwrap_err();
+    let other = Chain { path: &[turned(0), turned(1)], ..chains[0] };
+    let other = explain(&lines, &[other], settings, Way::default()).unwrap_err();
     let words = "lines 0 and 1 follow each other in a chain, and no rule joins them under these \
                  settings";
     assert_eq!(other.to_string(), words);

@@ -11,7 +11,7 @@ use answers::BuildCall;
 use book::{Book, Judged};
 use damages::{Parts, DAMAGES};
 use lovasuku_chains::explain::{explain, Explained, Fault, Meeting, Round, Why};
-use lovasuku_chains::large::{self, join, Capacity, Chain, Line, Point};
+use lovasuku_chains::large::{self, join, Capacity, Chain, Line, Point, Told, Way};
 use lovasuku_chains::{Dimension, Refusal, Rooms, Settings};
 
 /// The points of each line of a call; nothing for one that passes through.
@@ -33,7 +33,7 @@ fn settings(call: &BuildCall) -> Settings {
 
 /// An explanation of a call with all reasons that it has.
 pub struct Case {
-    chains: Vec<Chain>,
+    told: Told,
     explained: Explained,
     whys: Vec<Vec<Why>>,
 }
@@ -44,20 +44,26 @@ impl Case {
         let all = runs.iter().map(Option::as_deref).zip(call.groups.iter().copied());
         let lines: Vec<Line> =
             all.map(|(points, group)| Line { points, extras: &[], group }).collect();
-        let chains = join(Dimension::Xy, &lines, settings, capacity)?;
-        let explained = explain(&lines, &chains, settings, capacity)?;
+        let way = Way { capacity, ..Way::default() };
+        let told = join(Dimension::Xy, &lines, (settings, None), way)?;
+        let chains: Vec<Chain> = told.chains().collect();
+        let explained = explain(&lines, &chains, settings, way)?;
         let mut rooms = Rooms::default();
         let all = explained.nodes().iter().map(|node| node.all_whys(&mut rooms, settings.limit));
         let whys = all.collect::<Result<_, Refusal>>()?;
-        Ok(Case { chains, explained, whys })
+        Ok(Case { told, explained, whys })
+    }
+
+    fn chains(&self) -> Vec<Chain<'_>> {
+        self.told.chains().collect()
     }
 
     fn joints(&self) -> Vec<Vec<Meeting>> {
-        (0..self.chains.len()).map(|chain| self.explained.joints(chain).to_vec()).collect()
+        (0..self.told.len()).map(|chain| self.explained.joints(chain).to_vec()).collect()
     }
 
     fn judged(&self, book: &Book) -> Judged {
-        book.judge(self.explained.nodes(), &self.whys, &self.chains, &self.joints())
+        book.judge(self.explained.nodes(), &self.whys, &self.chains(), &self.joints())
     }
 
     /// How many joints each round made, and how many pairs each joins.
@@ -91,7 +97,7 @@ impl Met {
             self.joints[round] += 1;
             self.junction_joints[round] += usize::from(nodes[joint.node].is_junction());
         }
-        for closing in (0..case.chains.len()).filter_map(|chain| case.explained.closing(chain)) {
+        for closing in (0..case.told.len()).filter_map(|chain| case.explained.closing(chain)) {
             self.closings[usize::from(nodes[closing.node].round == Round::Cells)] += 1;
         }
         for why in case.whys.concat() {
@@ -125,7 +131,7 @@ fn judge(call: &BuildCall, met: &mut Met) {
             let closing = case.explained.closing(*chain);
             closing.map_or(false, |ends| case.explained.nodes()[ends.node].round == round)
         };
-        (0..case.chains.len()).filter(closes).count()
+        (0..case.told.len()).filter(closes).count()
     };
     assert_eq!(cells + rings(Round::Cells), cells_pairs, "{call}");
     assert!(exact + rings(Round::Exact) <= exact_pairs, "{call}");
@@ -169,12 +175,13 @@ fn cells_from_other_corners_and_two_districts() {
 }
 
 /// The chains of lines of one group, and their explanation.
-fn explained(lines: &[&[Point]], settings: Settings) -> Result<(Vec<Chain>, Explained), Fault> {
+fn explained(lines: &[&[Point]], settings: Settings) -> Result<(Told, Explained), Fault> {
     let lines: Vec<Line> =
         lines.iter().map(|points| Line { points: Some(points), extras: &[], group: 0 }).collect();
-    let chains = join(Dimension::Xy, &lines, settings, Capacity::default())?;
-    let explained = explain(&lines, &chains, settings, Capacity::default())?;
-    Ok((chains, explained))
+    let told = join(Dimension::Xy, &lines, (settings, None), Way::default())?;
+    let chains: Vec<Chain> = told.chains().collect();
+    let explained = explain(&lines, &chains, settings, Way::default())?;
+    Ok((told, explained))
 }
 
 #[test]
@@ -192,7 +199,7 @@ fn a_false_explanation_is_found() {
         for ((name, damage), found) in DAMAGES.iter().zip(&mut found) {
             let mut parts = Parts::of(&case);
             if damage(&mut parts).is_some() {
-                let judged = book.judge(&parts.nodes, &parts.whys, &case.chains, &parts.joints);
+                let judged = book.judge(&parts.nodes, &parts.whys, &case.chains(), &parts.joints);
                 assert!(judged.is_err(), "{name}: {call}");
                 *found += 1;
             }

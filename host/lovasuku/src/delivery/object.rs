@@ -26,9 +26,10 @@ impl<'a> Object<'a> {
         self.0.iter().map(|(name, value)| (&*name.0, *value))
     }
 
-    /// Takes out each name for which the question is answered with no.
+    /// Takes out each name for which the question is answered with no, and the room that it had.
     pub fn retain(&mut self, mut question: impl FnMut(&str, &str) -> bool) {
         self.0.retain(|(name, value)| question(&name.0, value));
+        self.0.shrink_to_fit();
     }
 
     fn put(&mut self, name: Name<'a>, value: &'a str) {

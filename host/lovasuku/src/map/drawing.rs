@@ -165,7 +165,7 @@ pub fn dots<'p>(
 pub const DIAMOND: &str = "M0-6.5L6.5 0L0 6.5L-6.5 0z";
 
 /// The junctions, each with its pairs, in order of the chains.
-fn paired(chains: &[Chain]) -> Vec<(Point, Vec<&Joint>)> {
+fn paired<'a>(chains: &[Chain<'a>]) -> Vec<(Point, Vec<&'a Joint>)> {
     let mut places: HashMap<[u64; 2], usize> = HashMap::new();
     let mut junctions: Vec<(Point, Vec<&Joint>)> = Vec::new();
     let at_one_point = |joint: &&Joint| match joint.kind {
@@ -173,7 +173,7 @@ fn paired(chains: &[Chain]) -> Vec<(Point, Vec<&Joint>)> {
         JointKind::Junction => true,
         JointKind::Tolerance => !joint.is_bridge(),
     };
-    for joint in chains.iter().flat_map(|chain| &chain.joints).filter(at_one_point) {
+    for joint in chains.iter().flat_map(|chain| chain.joints).filter(at_one_point) {
         let at = joint.ends[0];
         let place = *places.entry(at.map(f64::to_bits)).or_insert(junctions.len());
         if place == junctions.len() {

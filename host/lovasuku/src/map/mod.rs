@@ -37,7 +37,7 @@ pub struct Sheet<'a> {
     pub window: Option<Window>,
     pub delivery: &'a Delivery<'a>,
     pub measure: &'a Measure,
-    pub chains: &'a [Chain],
+    pub chains: &'a [Chain<'a>],
     /// The length of each chain.
     pub lengths: &'a [f64],
     pub tally: &'a Tally,

@@ -13,7 +13,7 @@ pub fn chains(chains: &[Chain], explained: &Explained) -> Value {
     let (mut last_line, mut last_loop, mut last_ring) = (0, 0, 0);
     for (position, chain) in chains.iter().enumerate() {
         paths.number(chain.path.len() as u64);
-        for step in &chain.path {
+        for step in chain.path {
             let line = i64::from(step.line);
             paths.number(zigzag(line - last_line) << 1 | u64::from(step.turned));
             last_line = line;

@@ -43,7 +43,7 @@ pub struct Page<'a> {
     pub delivery: &'a Delivery<'a>,
     pub classes: &'a Classes<'a>,
     pub measure: &'a Measure,
-    pub chains: &'a [Chain],
+    pub chains: &'a [Chain<'a>],
     pub tally: &'a Tally,
     pub explained: &'a Explained,
 }

@@ -6,7 +6,7 @@ use crate::arguments::Question;
 use crate::classes::Classes;
 use crate::command::{explained, lines};
 use crate::delivery::{Delivery, Geometry, Point};
-use crate::joining::{distance, join, Capacity, Chain, Line};
+use crate::joining::{distance, join, Chain, Line};
 use crate::measure::{bounds, Measure};
 use crate::numbers::count;
 use crate::progress::Progress;
@@ -37,9 +37,8 @@ pub fn run(question: &Question) -> Result<String> {
     ];
     let lines = lines(delivery, classes);
     let settings = question.settings;
-    let capacity = Capacity::default();
-    let chains =
-        join(Dimension::Xy, &lines, (settings, None), capacity, &progress).with_context(input)?;
+    let told = join(Dimension::Xy, &lines, (settings, None), &progress).with_context(input)?;
+    let chains: Vec<Chain> = told.chains().collect();
     let explained = &explained(&lines, &chains, settings, &progress)?;
     let words = Words::of(delivery, measure, explained, settings, parts);
     let answer = Answer {
@@ -90,7 +89,7 @@ struct Answer<'a> {
     classes: &'a Classes<'a>,
     measure: &'a Measure,
     lines: &'a [Line<'a>],
-    chains: &'a [Chain],
+    chains: &'a [Chain<'a>],
     explained: &'a Explained,
     settings: Settings,
     words: Words<'a>,

@@ -1,12 +1,13 @@
 //! The chains as features.
 
-use super::{entry, list, number, position, value, Keep};
+use super::{entry, list, number, position, value, FeatureText, Keep};
 use crate::delivery::{Delivery, Geometry, Point};
 use crate::joining::Chain;
 use crate::measure::Measure;
 use crate::progress::Progress;
 use lovasuku_chains::PathLine;
 use rayon::prelude::*;
+use std::io;
 
 /// How the features of chains are written.
 #[derive(Debug)]
@@ -20,16 +21,9 @@ pub struct Chains<'a> {
     pub parts: bool,
 }
 
-/// The features of chains, and how many of them have a member with a property of a chain's own name,
-/// which is left out.
-#[derive(Debug, Default)]
-pub struct Written {
-    pub features: Vec<Vec<u8>>,
-    pub clashes: usize,
-}
-
-/// How many chains one core writes at a time.
+/// How many chains one core writes at a time, and how many are written before they go to their place.
 const PART: usize = 256;
+const BLOCK: usize = 64 * PART;
 
 /// The names of the properties that every chain has, each behind the prefix. That of the parts is
 /// for lines that are parts of features.
@@ -40,18 +34,30 @@ pub fn own_names(prefix: &str, parts: bool) -> Vec<String> {
 }
 
 impl Chains<'_> {
-    /// One feature a chain that meets the window, in their order, by its position among all.
-    pub fn write(&self, chains: &[Chain], progress: &Progress) -> Written {
-        let chains: Vec<(usize, &Chain)> =
-            chains.iter().enumerate().filter(|(_, chain)| chain.in_window).collect();
+    /// Writes one feature a chain that meets the window, in their order, by its position among all. Gives
+    /// how many of them have a member with a property of a chain's own name, which is left out.
+    pub fn write(
+        &self,
+        chains: &[Chain],
+        text: &mut FeatureText,
+        progress: &Progress,
+    ) -> io::Result<usize> {
         progress.begin("writing", chains.len());
-        let part = |chains: &[(usize, &Chain)]| -> Vec<(Vec<u8>, bool)> {
-            progress.add(chains.len());
-            chains.iter().map(|&(position, chain)| self.feature(position, chain)).collect()
-        };
-        let all: Vec<(Vec<u8>, bool)> = chains.par_chunks(PART).flat_map_iter(part).collect();
-        let clashes = all.iter().filter(|(_, clash)| *clash).count();
-        Written { features: all.into_iter().map(|(feature, _)| feature).collect(), clashes }
+        let mut clashes = 0;
+        for (k, block) in chains.chunks(BLOCK).enumerate() {
+            let part = |(part, chains): (usize, &[Chain])| -> Vec<(Vec<u8>, bool)> {
+                let first = k * BLOCK + part * PART;
+                let inside = (first..).zip(chains).filter(|(_, chain)| chain.in_window);
+                inside.map(|(position, chain)| self.feature(position, chain)).collect()
+            };
+            let features: Vec<_> = block.par_chunks(PART).enumerate().flat_map_iter(part).collect();
+            for (feature, clash) in features {
+                text.put(&feature)?;
+                clashes += usize::from(clash);
+            }
+            progress.add(block.len());
+        }
+        Ok(clashes)
     }
 
     /// A line of a path: its name, which part of its feature it is where lines are parts, and whether it
@@ -98,13 +104,13 @@ impl Chains<'_> {
             out.push(b':');
             let part = |&line: &u32| delivery.features[line as usize].part;
             match k {
-                0 => list(&mut out, &chain.members, |out, &line| {
+                0 => list(&mut out, chain.members, |out, &line| {
                     out.extend(delivery.name(line).bytes())
                 }),
-                1 => list(&mut out, &chain.path, |out, step| self.step(out, *step)),
+                1 => list(&mut out, chain.path, |out, step| self.step(out, *step)),
                 2 => value(&mut out, &chain.members.len()),
                 3 => value(&mut out, &chain.is_loop),
-                _ => list(&mut out, &chain.members, |out, line| value(out, &part(line))),
+                _ => list(&mut out, chain.members, |out, line| value(out, &part(line))),
             }
         }
         let (properties, clash) = keep.properties(delivery, measure, chain, own);

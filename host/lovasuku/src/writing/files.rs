@@ -5,7 +5,7 @@ use super::places::Place;
 use crate::store::shown;
 use anyhow::{anyhow, bail, Context, Result};
 use std::fs::OpenOptions;
-use std::io::{self, Write};
+use std::io::{self, BufWriter, Write};
 use std::path::{Path, PathBuf};
 
 /// What is written, and where it goes.
@@ -16,7 +16,7 @@ pub struct Output<'a> {
 
 /// What is written to a place.
 pub enum Content<'a> {
-    Text(Vec<u8>),
+    Text(Text<'a>),
     /// A store, written by GDAL under the name that it is told, with what there is to warn of.
     Store {
         write: Box<dyn Fn(&str) -> Result<Vec<String>> + 'a>,
@@ -24,6 +24,12 @@ pub enum Content<'a> {
         beside: &'static [&'static str],
     },
 }
+
+/// A text, made while it is written.
+pub type Text<'a> = Box<dyn Fn(&mut dyn Write) -> io::Result<()> + 'a>;
+
+/// So many bytes are written at a time.
+const BUFFER: usize = 1 << 16;
 
 /// The path of an output as it was asked for, and the place that it leads to.
 #[derive(Clone, Debug)]
@@ -54,7 +60,7 @@ pub fn put(outputs: &[Output]) -> Result<Vec<Vec<String>>> {
     for (Output { target, content }, warnings) in outputs.iter().zip(&mut warnings) {
         if let Place::File(place) = &target.place {
             let written = match content {
-                Content::Text(text) => parts.write(place, text).map_err(Into::into),
+                Content::Text(text) => beside_its_place(&parts, place, text).map_err(Into::into),
                 Content::Store { write, beside } => {
                     stored(&parts, place, write, beside).map(|told| warnings.extend(told))
                 }
@@ -68,6 +74,13 @@ pub fn put(outputs: &[Output]) -> Result<Vec<Vec<String>>> {
     }
     parts.put().map_err(|(place, error)| anyhow!(error).context(fault(&place)))?;
     Ok(warnings)
+}
+
+/// Writes a text beside its place.
+fn beside_its_place(parts: &Parts, place: &Path, text: &Text) -> io::Result<()> {
+    let mut buffer = BufWriter::with_capacity(BUFFER, parts.open(place)?);
+    text(&mut buffer)?;
+    buffer.into_inner()?.sync_all()
 }
 
 /// Writes a store, of one file or more, in a folder of its own.
@@ -95,17 +108,19 @@ fn write_through(Output { target, content }: &Output) -> Result<Vec<String>> {
     match (&target.place, content) {
         (Place::File(_), _) => (),
         (Place::Database(name), Content::Store { write, .. }) => return write(name),
-        (Place::Out, Content::Text(text)) => {
-            let mut out = io::stdout().lock();
-            out.write_all(text)?;
-            out.flush()?;
-        }
-        (Place::Err, Content::Text(text)) => io::stderr().write_all(text)?,
+        (Place::Out, Content::Text(text)) => through(text, io::stdout().lock())?,
+        (Place::Err, Content::Text(text)) => through(text, io::stderr())?,
         (Place::Through(path), Content::Text(text)) => {
-            OpenOptions::new().append(true).open(path)?.write_all(text)?;
+            through(text, OpenOptions::new().append(true).open(path)?)?;
         }
         (_, Content::Store { .. }) => bail!("a store is written to a file or into a database"),
         (Place::Database(_), Content::Text(_)) => bail!("a database takes layers alone"),
     }
     Ok(Vec::new())
+}
+
+fn through(text: &Text, into: impl Write) -> io::Result<()> {
+    let mut buffer = BufWriter::with_capacity(BUFFER, into);
+    text(&mut buffer)?;
+    buffer.flush()
 }

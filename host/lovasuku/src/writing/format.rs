@@ -2,6 +2,7 @@
 
 use super::value;
 use crate::delivery::object::Object;
+use std::io::{self, Write};
 use std::path::Path;
 
 /// A format of features.
@@ -39,33 +40,59 @@ impl Format {
         })
     }
 
-    /// The features, which are written already, in this format. A FeatureCollection has the members.
-    pub fn put(self, members: &Object, features: &[Vec<u8>]) -> Vec<u8> {
-        let [mut out, between, end] = match self {
-            Format::Collection => [head(members), b",\n".to_vec(), b"\n]}\n".to_vec()],
-            Format::Lines | Format::Sequence => [vec![], b"\n".to_vec(), b"\n".to_vec()],
-        };
-        for (k, feature) in features.iter().enumerate() {
-            if k > 0 {
-                out.extend(&between);
-            }
-            match self {
-                Format::Collection => out.extend(feature),
-                Format::Lines => out.extend(in_one_line(feature)),
-                Format::Sequence => out.extend([0x1e].into_iter().chain(in_one_line(feature))),
+    /// Begins a text of features in this format. A FeatureCollection has the members.
+    pub fn begin<'w>(
+        self,
+        into: &'w mut dyn Write,
+        members: &Object,
+    ) -> io::Result<FeatureText<'w>> {
+        if self == Format::Collection {
+            into.write_all(&head(members))?;
+        }
+        Ok(FeatureText { format: self, into, is_empty: true })
+    }
+}
+
+/// A text of features, which goes to its place while it is written.
+pub struct FeatureText<'w> {
+    format: Format,
+    into: &'w mut dyn Write,
+    is_empty: bool,
+}
+
+impl FeatureText<'_> {
+    /// Writes a feature behind the others.
+    pub fn put(&mut self, feature: &[u8]) -> io::Result<()> {
+        if !self.is_empty {
+            let between = if self.format == Format::Collection { ",\n" } else { "\n" };
+            self.into.write_all(between.as_bytes())?;
+        }
+        self.is_empty = false;
+        match self.format {
+            Format::Collection => self.into.write_all(feature),
+            Format::Lines => self.into.write_all(&in_one_line(feature)),
+            Format::Sequence => {
+                self.into.write_all(&[0x1e])?;
+                self.into.write_all(&in_one_line(feature))
             }
         }
-        if self == Format::Collection || !features.is_empty() {
-            out.extend(&end);
+    }
+
+    /// Ends the text.
+    pub fn end(self) -> io::Result<()> {
+        match self.format {
+            Format::Collection => self.into.write_all(b"\n]}\n"),
+            _ if self.is_empty => Ok(()),
+            _ => self.into.write_all(b"\n"),
         }
-        out
     }
 }
 
 /// The feature with a blank for each line break. What stays as it is written may have some, but never
 /// within a text of JSON.
-fn in_one_line(feature: &[u8]) -> impl Iterator<Item = u8> + '_ {
-    feature.iter().map(|&byte| if byte == b'\n' || byte == b'\r' { b' ' } else { byte })
+fn in_one_line(feature: &[u8]) -> Vec<u8> {
+    let blank = |&byte: &u8| if byte == b'\n' || byte == b'\r' { b' ' } else { byte };
+    feature.iter().map(blank).collect()
 }
 
 /// What stands before the features of a collection.

@@ -11,8 +11,8 @@ mod places;
 use crate::delivery::Point;
 pub use bridges::Bridges;
 pub use chains::{own_names, Chains};
-pub use files::{put, Content, Output, Target};
-pub use format::Format;
+pub use files::{put, Content, Output, Target, Text};
+pub use format::{FeatureText, Format};
 pub use keep::Keep;
 pub use places::apart;
 

@@ -5,7 +5,7 @@ use signal_hook::consts::{SIGHUP, SIGINT, SIGTERM};
 use signal_hook::iterator::Signals;
 use signal_hook::low_level::emulate_default_handler;
 use std::fs::{self, File, OpenOptions};
-use std::io::{self, Write};
+use std::io;
 use std::path::{Path, PathBuf};
 use std::sync::{Mutex, MutexGuard, PoisonError};
 use std::thread;
@@ -50,17 +50,16 @@ impl Parts {
     }
 
     /// A part for a place, of the mode that the place has.
-    pub fn write(&self, place: &Path, text: &[u8]) -> io::Result<()> {
+    pub fn open(&self, place: &Path) -> io::Result<File> {
         let path = beside(place)?;
         let mut parts = waiting();
-        let mut file = OpenOptions::new().write(true).create_new(true).open(&path)?;
+        let file = OpenOptions::new().write(true).create_new(true).open(&path)?;
         parts.push(Part::File { file: TempPath::from_path(path), place: place.to_owned() });
         drop(parts);
         if let Ok(about) = fs::metadata(place) {
             file.set_permissions(about.permissions())?;
         }
-        file.write_all(text)?;
-        file.sync_all()
+        Ok(file)
     }
 
     /// A folder beside a place, and the path in it under the name of the place.

@@ -1,0 +1,219 @@
+//! The nodes of a round: which ends meet, and which of them are joined.
+
+use super::arranging::{Arranger, Bounds, Code, Seen, FIRST};
+use super::calling::Callers;
+use super::cores::Cores;
+use super::fitting::{fit, resize};
+use super::junctions::Junctions;
+use super::pieces::{end_of, Pieces};
+use super::sorting::sort;
+use super::spots::Grid;
+use super::{Fault, NONE};
+use crate::rooms::grow;
+use std::sync::atomic::{AtomicU32, Ordering::Relaxed};
+
+/// A core looks at about so many ends at a time.
+const PART: usize = 16_384;
+
+/// What ends and outlines are sorted in. Nothing in it is kept beyond a round.
+#[derive(Debug, Default)]
+pub struct Sorting {
+    pieces: Vec<Seen>,
+    code: Code,
+    entries: Vec<u64>,
+    spare: Vec<u64>,
+}
+
+/// The nodes of a round.
+#[derive(Debug, Default)]
+pub struct Nodes {
+    /// All ends, node by node, those of a node ascending and the first of it marked; near nodes are near
+    /// each other.
+    ends: Vec<u32>,
+    /// Per end the one that it is joined with, if there is one.
+    joins: Vec<AtomicU32>,
+    /// Per end where the ends of its node begin, if there are three or more.
+    crossings: Vec<AtomicU32>,
+}
+
+impl Nodes {
+    /// Groups the ends of pieces by their spots, and joins them: two ends of two pieces, and of three
+    /// or more, where there is a limit, those that pairing selects.
+    pub fn meet(
+        &mut self,
+        pieces: &impl Pieces,
+        (grid, limit): (Grid, Option<f64>),
+        sorting: &mut Sorting,
+        (cores, callers): (Cores, &Callers),
+    ) -> Result<(), Fault> {
+        let count = 2 * pieces.count();
+        sorting.look(pieces, grid, cores);
+        let Sorting { pieces: seen, code, entries, spare } = sorting;
+        fit(spare, entries.len());
+        grow(spare, entries.len());
+        self.ends.clear();
+        resize(&mut self.ends, entries.len(), 0);
+        let arranger = Arranger { pieces: seen, cores };
+        arranger.arrange(*code, entries, spare, &mut self.ends);
+        forget(&mut self.joins, count, cores);
+        forget(&mut self.crossings, count, cores);
+        let joining = Joining { pieces, limit, nodes: self, cores, callers };
+        joining.join(&self.ends, 0)
+    }
+
+    /// The end that an end is joined with.
+    pub fn joined(&self, end: u32) -> Option<u32> {
+        some(&self.joins, end)
+    }
+
+    /// Joins two ends, whatever they are joined with.
+    #[cfg(test)]
+    pub fn join_anyhow(&self, one: u32, other: u32) {
+        self.joins[one as usize].store(other, Relaxed);
+        self.joins[other as usize].store(one, Relaxed);
+    }
+
+    /// Where the ends of an end's node begin, if there are three or more.
+    pub fn crossing(&self, end: u32) -> Option<u32> {
+        some(&self.crossings, end)
+    }
+
+    /// The ends of a node that begin at a place, ascending.
+    pub fn at(&self, crossing: u32) -> impl Iterator<Item = u32> + '_ {
+        let ends = &self.ends[crossing as usize..];
+        let more = ends[1..].iter().take_while(|&&end| end & FIRST == 0);
+        ends[..1].iter().chain(more).map(|&end| end & !FIRST)
+    }
+}
+
+/// What stands for an end in a table, unless it is nothing.
+fn some(table: &[AtomicU32], end: u32) -> Option<u32> {
+    Some(table[end as usize].load(Relaxed)).filter(|&number| number != NONE)
+}
+
+/// Makes a table of so many that are nothing.
+fn forget(table: &mut Vec<AtomicU32>, count: usize, cores: Cores) {
+    table.truncate(count);
+    let clear = |_, part: &mut [AtomicU32]| part.iter_mut().for_each(|each| *each.get_mut() = NONE);
+    cores.parts((0, &mut table[..]), PART, &clear, &|(), ()| ());
+    fit(table, count);
+    table.resize_with(count, || AtomicU32::new(NONE));
+}
+
+impl Sorting {
+    /// Looks at the ends of all pieces.
+    fn look(&mut self, pieces: &impl Pieces, grid: Grid, cores: Cores) {
+        let (count, stride) = (pieces.count(), pieces.stride());
+        // Of pieces that pass through whatever was seen before is not looked at.
+        resize(&mut self.pieces, count, Seen::default());
+        let look = |first: usize, part: &mut [Seen]| {
+            let mut bounds = Bounds::NONE;
+            for (piece, seen) in (first as u32..).zip(part) {
+                if let Some(run) = pieces.run(piece) {
+                    let spot = |side| grid.spot(end_of(run, stride, side).unwrap_or_default());
+                    *seen = Seen { spots: [spot(0), spot(1)], group: pieces.group(piece) };
+                    bounds = bounds.with(seen.spots[0]).with(seen.spots[1]);
+                }
+            }
+            bounds
+        };
+        let bounds = cores.parts((0, &mut self.pieces[..]), PART, &look, &|a, b| a.and(b));
+        self.code = Code::of_grid(grid, bounds);
+        self.entries.clear();
+        fit(&mut self.entries, 2 * count);
+        for piece in 0..count as u32 {
+            if pieces.run(piece).is_some() {
+                self.entries.extend([2 * piece, 2 * piece + 1].map(u64::from));
+            }
+        }
+    }
+
+    /// Sorts numbers by where the ends that they are given with lie, so that near ones are near each
+    /// other.
+    pub fn by_place(
+        &mut self,
+        all: impl Iterator<Item = (u32, u32)>,
+        cores: Cores,
+    ) -> impl ExactSizeIterator<Item = u32> + '_ {
+        let Sorting { pieces, code, entries, spare } = self;
+        let entry = |(end, number): (u32, u32)| {
+            let Seen { spots, .. } = pieces[(end >> 1) as usize];
+            code.of(spots[(end & 1) as usize]) << u32::BITS | u64::from(number)
+        };
+        entries.clear();
+        entries.extend(all.map(entry));
+        grow(spare, entries.len());
+        sort(entries, spare, cores);
+        entries.iter().map(|&entry| entry as u32)
+    }
+}
+
+/// The joining of a round's ends.
+struct Joining<'a, P> {
+    pieces: &'a P,
+    limit: Option<f64>,
+    nodes: &'a Nodes,
+    cores: Cores,
+    callers: &'a Callers,
+}
+
+impl<P: Pieces> Joining<'_, P> {
+    /// Joins the ends of whole nodes, which begin at a place among all.
+    fn join(&self, ends: &[u32], place: usize) -> Result<(), Fault> {
+        if ends.len() > PART && self.cores != Cores::One {
+            let middle = ends.len() / 2;
+            let more = ends[middle..].iter().take_while(|&&end| end & FIRST == 0).count();
+            let (before, after) = ends.split_at(middle + more);
+            if !after.is_empty() {
+                let after_place = place + before.len();
+                return self
+                    .cores
+                    .both_or(|| self.join(before, place), || self.join(after, after_place));
+            }
+        }
+        self.join_in_turn(ends, place)
+    }
+
+    fn join_in_turn(&self, ends: &[u32], place: usize) -> Result<(), Fault> {
+        let mut caller = self.callers.this(self.cores);
+        // A fault may have left some behind.
+        caller.junctions.clear();
+        let mut from = 0;
+        while from < ends.len() {
+            let more = ends[from + 1..].iter().take_while(|&&end| end & FIRST == 0).count();
+            let node = &ends[from..=from + more];
+            match *node {
+                [_] => (),
+                [one, other] => self.join_two(one & !FIRST, other),
+                _ => self.join_many(&mut caller.junctions, node, place + from)?,
+            }
+            from += node.len();
+        }
+        match self.limit {
+            None => Ok(()),
+            Some(limit) => caller.junctions.pair(self.pieces, limit, |a, b| self.join_two(a, b)),
+        }
+    }
+
+    fn join_two(&self, one: u32, other: u32) {
+        if one >> 1 != other >> 1 {
+            self.nodes.joins[one as usize].store(other, Relaxed);
+            self.nodes.joins[other as usize].store(one, Relaxed);
+        }
+    }
+
+    fn join_many(
+        &self,
+        junctions: &mut Junctions,
+        node: &[u32],
+        place: usize,
+    ) -> Result<(), Fault> {
+        for end in node.iter().map(|&end| end & !FIRST) {
+            self.nodes.crossings[end as usize].store(place as u32, Relaxed);
+        }
+        match self.limit {
+            None => Ok(()),
+            Some(limit) => junctions.take(self.pieces, node, limit, |a, b| self.join_two(a, b)),
+        }
+    }
+}
