@@ -125,8 +125,7 @@ impl Summary {
     }
 
     /// The ratios that the gate looks at one by one, with the most that each may be.
-    fn gated(&self) -> [(&Ratios, f64); 10] {
-    fn gated(&self) -> [(&Ratios, f64); 9] {
+    fn gated(&self) -> [(&Ratios, f64); 12] {
         [
             (&self.building, MOST_RATIO),
             (&self.pairing, MOST_RATIO),
