@@ -5,6 +5,7 @@
 //! - [`wkb`]: WKB records read and written, and the same in plain Rust, [`plain_wkb`].
 //! - [`checking`]: chains made elsewhere, checked.
 //! - [`zooms`]: five tolerances with one round one.
+//! - [`large`]: deliveries of many lines, on one core and on two.
 //! - [`windows`]: what lies in a window, and the same by a look at all boxes in plain Rust.
 //! - [`geos`]: GEOS's LineMerger, WKBReader and WKBWriter as a third side, where it is installed, and
 //!   [`geos_tree`], its tree of boxes.
@@ -20,11 +21,13 @@ pub mod ends;
 pub mod geos;
 pub mod geos_tree;
 pub mod heap;
+pub mod large;
 pub mod options;
 pub mod pairing;
 pub mod plain_wkb;
 pub mod report;
 mod report_checking;
+mod report_large;
 mod report_windows;
 mod report_zooms;
 pub mod summary;

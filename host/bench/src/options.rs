@@ -12,7 +12,8 @@ pub const USAGE: &str = "bench [--quick] [--only NAME] [--markdown] [--gate]
   --markdown   tables in the form of docs/SPEED.md
   --gate       status 1 where a ratio is above 1, one to GEOS's WKB above 0.2, one of windows to a
                look at all boxes above 0.25, one of checking networks to building above 1, one of five
-               zooms of borders to five whole calls above 0.75, one of 19 to finishing above 0.1, or
+               zooms of borders to five whole calls above 0.75, one of 19 to finishing above 0.1,
+               one of deliveries on two cores above 0.6, or
                the geometric mean of building above 0.5
 
 Exit status: 0, or 1 where the sides answer differently or the gate is shut; 2 for bad usage.";

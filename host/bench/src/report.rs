@@ -79,6 +79,7 @@ impl Report<'_> {
         self.windows()?;
         self.checking()?;
         self.zooms()?;
+        self.deliveries()?;
         self.wkb()?;
         self.extras()
     }

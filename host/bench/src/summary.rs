@@ -24,6 +24,9 @@ pub const MOST_OF_BUILDING: f64 = 1.0;
 /// borders; and 19's look at the pieces not more than this part of a call that finishes them.
 pub const MOST_OF_FIVE_CALLS: f64 = 0.75;
 pub const MOST_OF_FINISHING: f64 = 0.1;
+/// No delivery may take more than these parts of one call of the Rust, on one core and on two.
+pub const MOST_ON_ONE: f64 = 1.0;
+pub const MOST_ON_TWO: f64 = 0.6;
 
 /// The geometric mean of building may not be above this.
 pub const MOST_MEAN: f64 = 0.5;
@@ -86,6 +89,9 @@ pub struct Summary {
     pub zooms_beside: Ratios,
     /// 19's look at the pieces of borders, as parts of a call that finishes them.
     pub judging: Ratios,
+    /// Deliveries of many lines, on one core and on two.
+    pub one_core: Ratios,
+    pub two_cores: Ratios,
 }
 
 impl Summary {
@@ -105,6 +111,8 @@ impl Summary {
             ("zooms of borders, of five whole calls", &self.zooms),
             ("zooms of others, of five whole calls", &self.zooms_beside),
             ("19 of borders, of finishing", &self.judging),
+            ("deliveries on one core", &self.one_core),
+            ("deliveries on two", &self.two_cores),
         ];
         let mut lines: Vec<_> =
             titles.iter().filter_map(|(title, ratios)| ratios.line(title)).collect();
@@ -117,7 +125,7 @@ impl Summary {
     }
 
     /// The ratios that the gate looks at one by one, with the most that each may be.
-    fn gated(&self) -> [(&Ratios, f64); 10] {
+    fn gated(&self) -> [(&Ratios, f64); 12] {
         [
             (&self.building, MOST_RATIO),
             (&self.pairing, MOST_RATIO),
@@ -129,6 +137,8 @@ impl Summary {
             (&self.checking, MOST_OF_BUILDING),
             (&self.zooms, MOST_OF_FIVE_CALLS),
             (&self.judging, MOST_OF_FINISHING),
+            (&self.one_core, MOST_ON_ONE),
+            (&self.two_cores, MOST_ON_TWO),
         ]
     }
 

@@ -3,7 +3,7 @@
 use super::boxing;
 use super::cores::Cores;
 use super::fitting::{fit, resize};
-use super::pieces::LinePieces;
+use super::pieces::{LinePieces, Pieces};
 use super::rounds::Round;
 use crate::size::{BOX, BOXES, BOXES_BESIDE, RECORD};
 use std::ops::Range;

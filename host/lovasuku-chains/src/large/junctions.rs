@@ -84,8 +84,7 @@ impl Junctions {
         self.pieces.clear();
         let stride = pieces.stride();
         for &end in &self.ends {
-            let run = pieces.run(end >> 1).unwrap_or_default();
-            let toward = direction(run, stride, end & 1);
+            let toward = direction(pieces.numbers(end >> 1), stride, end & 1);
             self.present.push(u8::from(toward.is_some()));
             self.directions.extend(toward.unwrap_or_default());
             self.pieces.push(end >> 1);

@@ -17,7 +17,7 @@ pub fn lay(pieces: &impl Pieces, steps: &[u32], room: &mut [f64]) -> usize {
 fn lay_by<const STRIDE: usize>(pieces: &impl Pieces, steps: &[u32], room: &mut [f64]) -> usize {
     let mut laid = Laid::<STRIDE> { room, written: 0 };
     for &step in steps {
-        let run = pieces.run(step >> 1).unwrap_or_default();
+        let run = pieces.numbers(step >> 1);
         match step & 1 {
             0 => run.chunks_exact(STRIDE).for_each(|numbers| laid.put(numbers)),
             _ => run.rchunks_exact(STRIDE).for_each(|numbers| laid.put(numbers)),

@@ -122,7 +122,7 @@ impl Sorting {
         self.entries.clear();
         fit(&mut self.entries, 2 * count);
         for piece in 0..count as u32 {
-            if pieces.run(piece).is_some() {
+            if !pieces.passes(piece) {
                 self.entries.extend([2 * piece, 2 * piece + 1].map(u64::from));
             }
         }

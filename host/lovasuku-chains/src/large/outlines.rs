@@ -27,7 +27,7 @@ impl Outlines {
         fit(&mut self.steps, pieces.count());
         fit(&mut self.firsts, pieces.count() + 1);
         for start in 0..pieces.count() as u32 {
-            if self.of[start as usize] == NONE && pieces.run(start).is_some() {
+            if self.of[start as usize] == NONE && !pieces.passes(start) {
                 let outline = self.firsts.len() as u32;
                 self.firsts.push(self.steps.len() as u32);
                 self.forward(nodes, head(nodes, start), outline);

@@ -15,9 +15,16 @@ pub trait Pieces: Sync {
     /// The group of a piece.
     fn group(&self, piece: u32) -> u32;
 
-    /// The numbers of a piece, or nothing where it passes through. There are two coordinates or more,
-    /// or it is a piece of several lines.
-    fn run(&self, piece: u32) -> Option<&[f64]>;
+    /// The numbers of a piece.
+    fn numbers(&self, piece: u32) -> &[f64];
+
+    /// True where a piece passes through.
+    fn passes(&self, piece: u32) -> bool;
+
+    /// The numbers of a piece, or nothing where it passes through.
+    fn run(&self, piece: u32) -> Option<&[f64]> {
+        (!self.passes(piece)).then(|| self.numbers(piece))
+    }
 
     /// How many lines it has.
     fn lines(&self, piece: u32) -> usize;
@@ -30,7 +37,7 @@ pub trait Pieces: Sync {
 
     /// The point of an end.
     fn end(&self, end: u32) -> Option<Point> {
-        self.run(end >> 1).and_then(|run| end_of(run, self.stride(), end & 1))
+        end_of(self.numbers(end >> 1), self.stride(), end & 1)
     }
 }
 
@@ -90,17 +97,11 @@ pub struct LinePieces<'a> {
 impl<'a> LinePieces<'a> {
     /// All numbers of a line.
     #[inline]
-    pub fn numbers(&self, line: u32) -> &'a [f64] {
+    pub fn of_line(&self, line: u32) -> &'a [f64] {
         let stride = self.lines.dimension.stride();
         let line = line as usize;
         let [from, to] = [self.firsts[line], self.firsts[line + 1]].map(|at| stride * at as usize);
         &self.lines.coordinates[from..to]
-    }
-
-    /// True where a line passes through: by its kind, or for want of two coordinates.
-    #[inline]
-    pub fn passes(&self, line: u32) -> bool {
-        self.lines.kinds[line as usize] != 0 || self.lines.counts[line as usize] < 2
     }
 }
 
@@ -118,8 +119,14 @@ impl Pieces for LinePieces<'_> {
     }
 
     #[inline]
-    fn run(&self, piece: u32) -> Option<&[f64]> {
-        (!self.passes(piece)).then(|| self.numbers(piece))
+    fn numbers(&self, piece: u32) -> &[f64] {
+        self.of_line(piece)
+    }
+
+    /// By its kind, or for want of two coordinates.
+    #[inline]
+    fn passes(&self, piece: u32) -> bool {
+        self.lines.kinds[piece as usize] != 0 || self.lines.counts[piece as usize] < 2
     }
 
     fn lines(&self, _: u32) -> usize {

@@ -52,6 +52,9 @@ pub struct Ways<'a> {
     pub tell: &'a (dyn Fn(usize) + Sync),
 }
 
+/// A core looks at about so many outlines at a time.
+const PART: usize = 16_384;
+
 /// A round.
 #[derive(Debug, Default)]
 pub struct Round {
@@ -62,6 +65,8 @@ pub struct Round {
     sizes: Vec<u32>,
     /// The coordinates of chains of several pieces, each in the room of its slot.
     laid: Vec<f64>,
+    /// Per outline of several pieces where its chain was laid: the first coordinate, and how many.
+    places: Vec<[u32; 2]>,
 }
 
 impl Round {
@@ -94,7 +99,7 @@ impl Round {
         let room = self.batches.room(0..self.batches.slots() as u32);
         // Whatever was laid there before is written over or not looked at.
         resize(&mut self.laid, pieces.stride() * room.len(), 0.0);
-        let Round { nodes, outlines, batches, sizes, laid } = self;
+        let Round { nodes, outlines, batches, sizes, laid, .. } = self;
         let told = AtomicUsize::new(0);
         let tell = |lines: usize| {
             told.fetch_add(lines, Relaxed);
@@ -104,7 +109,26 @@ impl Round {
         Making { pieces, cut, ways }.batches(batches.all(), sizes, laid)?;
         // The lines for which no call was needed.
         tell(pieces.all_lines().saturating_sub(told.load(Relaxed)));
+        self.find_places(cores);
         Ok(())
+    }
+
+    /// Finds where the chain of each outline of several pieces was laid.
+    fn find_places(&mut self, cores: Cores) {
+        let Round { outlines, batches, sizes, places, .. } = self;
+        resize(places, outlines.len(), [0; 2]);
+        let find = |first: usize, part: &mut [[u32; 2]]| {
+            for (outline, place) in (first as u32..).zip(part) {
+                let slot = match *outlines.steps(outline) {
+                    [_] => None,
+                    ref steps => batches.slot(steps[0] >> 1),
+                };
+                *place = slot.map_or([0; 2], |slot| {
+                    [batches.room(slot..slot + 1).start as u32, sizes[slot as usize]]
+                });
+            }
+        };
+        cores.parts((0, &mut places[..]), PART, &find, &|(), ()| ());
     }
 
     /// Lets go of batches and of what was laid.
@@ -112,19 +136,13 @@ impl Round {
         self.batches = Batches::default();
         self.sizes = Vec::new();
         self.laid = Vec::new();
+        self.places = Vec::new();
     }
 
     /// The numbers of the chain of an outline of several pieces.
     pub fn chain(&self, outline: u32, stride: usize) -> &[f64] {
-        let piece = self.outlines.steps(outline)[0] >> 1;
-        match self.batches.slot(piece) {
-            None => &[],
-            Some(slot) => {
-                let first = self.batches.room(slot..slot + 1).start;
-                let count = self.sizes[slot as usize] as usize;
-                &self.laid[stride * first..stride * (first + count)]
-            }
-        }
+        let [first, count] = self.places[outline as usize].map(|number| number as usize);
+        &self.laid[stride * first..stride * (first + count)]
     }
 }
 

@@ -21,9 +21,9 @@ impl<'a> ChainPieces<'a> {
 
     /// The numbers of a piece.
     #[inline]
-    fn numbers(&self, piece: u32) -> &'a [f64] {
+    fn of_piece(&self, piece: u32) -> &'a [f64] {
         match *self.steps(piece) {
-            [step] => self.lines.numbers(step >> 1),
+            [step] => self.lines.of_line(step >> 1),
             _ => self.first.chain(piece, self.stride()),
         }
     }
@@ -66,8 +66,12 @@ impl Pieces for ChainPieces<'_> {
     }
 
     #[inline]
-    fn run(&self, piece: u32) -> Option<&[f64]> {
-        Some(self.numbers(piece))
+    fn numbers(&self, piece: u32) -> &[f64] {
+        self.of_piece(piece)
+    }
+
+    fn passes(&self, _: u32) -> bool {
+        false
     }
 
     fn lines(&self, piece: u32) -> usize {
