@@ -60,22 +60,20 @@ fn any_wild(numbers: &[u64]) -> bool
     SIGN <= any
 }
 
-// Whether the x or the y of a point is a NaN or infinite, with extras between the points.
+// Whether the x or the y of a point is a NaN or infinite, with extras between the points. All are looked at, x and y at once.
 fn any_nowhere_wide(numbers: &[u64], width: usize) -> bool
     requires { ⌜ (2 ≤ width) × Whole width (now numbers) ⌝ }
     ensures { λ r. ⌜ r ≡ anyNowhere (points width (now (numbers .entry))) ⌝ }
 {
+    let mut any_x: u64 = 0;
+    let mut any_y: u64 = 0;
     let mut i = 0;
     while i < numbers.len() {
-        if !float_bits::is_finite(numbers[i]) {
-            return true;
-        }
-        if !float_bits::is_finite(numbers[i + 1]) {
-            return true;
-        }
+        any_x = any_x | float_bits::raised(numbers[i]);
+        any_y = any_y | float_bits::raised(numbers[i + 1]);
         i += width;
     }
-    false
+    SIGN <= any_x | any_y
 }
 
 // Whether a coordinate is no place. Without extras every number is an x or a y.
