@@ -38,7 +38,8 @@ fn push_two(rest: &mut [u64], have: usize, x: u64, y: u64) -> usize
 // As `push_two`, where the last point's x is `last` but for its sign: a point whose x has other bits is not equal to it, and no number is read.
 fn next_two(rest: &mut [u64], have: usize, last: u64, x: u64, y: u64) -> usize
     requires { ⌜ (have + 2 ≤ length (now rest)) × Near 2 (now rest) have last ⌝ }
-    ensures { λ r. ⌜ Holds (now (rest .exit)) (now (rest .entry)) r (laid 2 (take have (now (rest .entry))) (point x y ∷ [])) × Near 2 (now (rest .exit)) r x ⌝ }
+    ensures { λ r. ⌜ Holds (now (rest .exit)) (now (rest .entry)) r (laid 2 (take have (now (rest .entry))) (point x y ∷ []))
+        × Near 2 (now (rest .exit)) r x ⌝ }
 {
     if x % SIGN == last % SIGN {
         return push_two(rest, have, x, y);
