@@ -62,7 +62,7 @@ wild-step : (l : List ℕ) (i s : ℕ) → i < length l → s + wildOf (drop i l
 unfolding wildOf
 wild-step l i s h = rw (drop-cons l i 0 h, add-one, add-assoc)
 
-wild-none : (l : List ℕ) (i s : ℕ) → length l ≤ i → s + wildOf (drop i l) ≡ s
+pub wild-none : (l : List ℕ) (i s : ℕ) → length l ≤ i → s + wildOf (drop i l) ≡ s
 unfolding wildOf
 wild-none l i s h = rw (drop-of-length-le l {i = i} h) (omega arith)
 
@@ -71,7 +71,7 @@ one-most true = omega arith
 one-most false = omega arith
 
 -- what two numbers, each 0 or 1, make together, beside others
-or-some : (a b r : ℕ) → a ≤ 1 → b ≤ 1 → ltb 0 (bitOr a b + r) ≡ ltb 0 (a + (b + r))
+pub or-some : (a b r : ℕ) → a ≤ 1 → b ≤ 1 → ltb 0 (bitOr a b + r) ≡ ltb 0 (a + (b + r))
 or-some zero b r h k = let e : b + r ≡ 0 + (b + r) = omega arith in ap (λ (n : ℕ). ltb 0 (n + r)) (or-zero-l b) ∙ ap (ltb 0) e
 or-some (suc a) b r h k =
     let more : 0 < bitOr (suc a) b + r = omega (arith, or-add-and (suc a) b, and-le-l (suc a) b, and-le-r (suc a) b) in

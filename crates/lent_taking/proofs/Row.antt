@@ -8,14 +8,14 @@ use native.Mathlib.Omega.{arith}
 use native.Mathlib.Numerals.{add-one}
 use lib.Dec.{eqb}
 use lib.ListN.{length, getD, take, drop, length-drop}
-use lib.Seq.{slice, take-add, getD-drop, length-take-le}
+use lib.Seq.{take-add, getD-drop, length-take-le}
 use borrow.Author.Tests.{eqb-true, eq-eqb, ne-eqb}
 use Rattle.rules.specs.Lists.{upto}
-use Rattle.rules.specs.Refusals.{mostLines, pieceSize}
+use Rattle.rules.specs.Refusals.{pieceSize}
 use Rattle.chain_pieces.specs.Map.{nodeBlock, takenBlock, takenListing, takenMarks, takenMembers}
 use Rattle.point_slices.specs.Holds.{HoldsFrom}
 use Rattle.point_slices.proofs.Laws.{from-length, from-part, slice-below, drop-past}
-use Rattle.lent_taking.specs.Taking.{partAt, partsTo, takenRow, Inside, PiecesTakable, Took}
+use Rattle.lent_taking.specs.Taking.{partAt, partsTo, takenRow, PiecesTakable, Took}
 use Rattle.lent_taking.specs.Row.{rowEnd, inRow}
 use Rattle.lent_taking.proofs.Parts.{flat-next, flat-start}
 
