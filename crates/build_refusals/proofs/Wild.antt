@@ -14,7 +14,7 @@ use lib.Ieee.Scale.{finite}
 use Rattle.rules.specs.Lists.{one}
 use Rattle.rules.specs.Plane.{float}
 use Rattle.build_refusals.specs.Tests.{wildOf}
-use Rattle.build_refusals.proofs.Laws.{or-some, wild-none}
+use Rattle.build_refusals.proofs.Places.{or-some, wild-none}
 
 wild-append : (a b : List ℕ) → wildOf (a ++ b) ≡ wildOf a + wildOf b
 unfolding wildOf

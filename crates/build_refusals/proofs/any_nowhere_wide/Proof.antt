@@ -10,7 +10,7 @@ use Rattle.rules.specs.Plane.{points}
 use Rattle.rules.specs.Refusals.{anyNowhere}
 use Rattle.point_numbers.specs.Width.{Multiple}
 use Rattle.point_numbers.proofs.Points.{multiple-next}
-use Rattle.build_refusals.proofs.Laws.{told, told-none, told-more, told-all}
+use Rattle.build_refusals.proofs.Places.{told, told-none, told-more, told-all}
 use Rattle.build_refusals.proofs.any_nowhere_wide.Statement.{statement}
 use Rattle.build_refusals.proofs.any_nowhere_wide.Tie as tie
 

@@ -11,7 +11,7 @@ use lib.Bits.{bitOr, or-lt}
 use lib.Dec.{ltb}
 use lib.ListN.{length, drop}
 use Rattle.build_refusals.specs.Tests.{wildOf}
-use Rattle.build_refusals.proofs.Laws.{wild-told}
+use Rattle.build_refusals.proofs.Places.{wild-told}
 use Rattle.build_refusals.proofs.Wild.{part-more}
 
 abbrev Inv-loop : tie.InvT-loop

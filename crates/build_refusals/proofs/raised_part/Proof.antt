@@ -17,7 +17,7 @@ use lib.Seq.{length-take-le}
 use Rattle.rules.specs.Lists.{one}
 use Rattle.rules.specs.Plane.{float}
 use Rattle.build_refusals.specs.Tests.{wildOf}
-use Rattle.build_refusals.proofs.Laws.{wild-more}
+use Rattle.build_refusals.proofs.Places.{wild-more}
 use Rattle.build_refusals.proofs.Wild.{part-told, part-number}
 
 abbrev Inv-loop : tie.InvT-loop
