@@ -148,12 +148,11 @@ impl<'a> Given<'a> {
         progress: &Progress,
     ) -> Result<Vec<Vec<String>>> {
         let outcomes: Vec<Outcome> = zooms.iter().map(|zoom| self.outcome(zoom)).collect();
-        let (mut outputs, mut of, mut warnings) = (Vec::new(), Vec::new(), Vec::new());
+        let (mut outputs, mut of) = (Vec::new(), Vec::new());
+        let mut warnings = vec![Vec::new(); zooms.len()];
         for (zoom, (outcome, targets)) in outcomes.iter().zip(targets).enumerate() {
-            let (more, told) = outcome.outputs(targets, progress);
-            outputs.extend(more);
+            outputs.extend(outcome.outputs(targets, progress));
             of.resize(outputs.len(), zoom);
-            warnings.push(told);
         }
         for (zoom, told) in of.into_iter().zip(writing::put(&outputs)?) {
             warnings[zoom].extend(told);

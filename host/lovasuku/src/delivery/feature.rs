@@ -83,12 +83,14 @@ impl<'a> Feature<'a> {
         let (properties, geometry) = (properties(&object)?, geometry(&object, heights)?);
         let mut foreign = object;
         foreign.retain(|name, _| !ASKED_FOR.contains(&name));
+        foreign.fit();
         Ok(Feature { position: 0, part: 0, id, properties, foreign, geometry })
     }
 
     /// Takes away the box, which is that of the geometry as it was written.
     pub fn drop_box(&mut self) {
         self.foreign.retain(|name, _| name != "bbox");
+        self.foreign.fit();
     }
 
     /// The value of a property as it is written; a null is no value.

@@ -1,7 +1,7 @@
 //! A layer of a store as a delivery: its rows in batches, each with its id, its properties as JSON and
 //! its geometry.
 
-use super::batches::{by_features, by_stream, parts, Cut, Texts};
+use super::batches::{by_features, by_stream, parts, Cut, Texts, PART};
 use super::gdal::{failures, listed, settle, warnings, Dataset, Field, Layer, Reference};
 use super::geometry::{shapes, Shape, Wkb};
 use crate::delivery::object::Object;
@@ -167,7 +167,7 @@ impl Rows {
             self.cuts.extend(cuts);
         }
         let shapes = |rooms: &mut WkbRooms, rows| shapes(wkb, rows, heights, rooms);
-        let parts: Vec<Vec<Shape>> = parts(self.cuts.len() - before)
+        let parts: Vec<Vec<Shape>> = parts(0..self.cuts.len() - before, PART)
             .into_par_iter()
             .map_init(WkbRooms::new, shapes)
             .collect();
