@@ -39,12 +39,12 @@ pub struct Way<'a> {
 
 impl<'a> Way<'a> {
     /// How the calls of a round are made.
-    fn ways<'w>(self, settings: Settings, callers: &'w Callers) -> Ways<'w>
+    fn ways<'w>(self, settings: Settings, callers: &'w Callers, lean: bool) -> Ways<'w>
     where
         'a: 'w,
     {
         let Way { capacity, batch, neighbours, cores, tell, .. } = self;
-        Ways { settings, capacity, batch, neighbours, cores, callers, tell }
+        Ways { settings, capacity, batch, neighbours, cores, callers, lean, tell }
     }
 }
 
@@ -107,6 +107,8 @@ pub struct Rooms {
     first: Round,
     second: Round,
     whole: Whole,
+    /// True where the coordinates of chains stay where round one laid them.
+    in_place: bool,
     /// The pieces of round one that were laid without a call, and its calls.
     first_laid: Vec<u32>,
     first_calls: usize,
@@ -145,15 +147,22 @@ impl Rooms {
         settings: Settings,
         way: Way,
     ) -> Result<Joined<'a>, Fault> {
-        self.run(lines, settings, way)?;
+        self.run(lines, settings, way, false)?;
         Ok(self.joined(lines))
     }
 
-    /// Joins lines into chains, which stay in the rooms.
-    pub(super) fn run(&mut self, lines: Lines, settings: Settings, way: Way) -> Result<(), Fault> {
+    /// Joins lines into chains, which stay in the rooms. Lean rooms let go of what is not needed any more, so
+    /// that nothing can be run again in them.
+    pub(super) fn run(
+        &mut self,
+        lines: Lines,
+        settings: Settings,
+        way: Way,
+        lean: bool,
+    ) -> Result<(), Fault> {
         way.cores.within(|| {
-            self.first(lines, settings, way)?;
-            self.finish(lines, settings, way)
+            self.first(lines, settings, way, lean)?;
+            self.finish(lines, settings, way, lean)
         })
     }
 
@@ -163,22 +172,24 @@ impl Rooms {
         lines: Lines,
         settings: Settings,
         way: Way,
+        lean: bool,
     ) -> Result<(), Fault> {
         judging::judge(lines, settings, way.cores)?;
-        way.cores.within(|| self.finish(lines, settings, way))
+        way.cores.within(|| self.finish(lines, settings, way, lean))
     }
 
-    /// Lets go of all that chains were made by and that is not told of them.
-    pub(super) fn let_go(&mut self) {
-        self.sorting = Sorting::default();
-        self.callers = Callers::default();
-        self.first.let_go();
-        self.second = Round::default();
+    /// Takes the coordinates of chains of several lines.
+    pub(super) fn take_merged(&mut self) -> Vec<f64> {
+        match self.in_place {
+            true => self.first.let_go(),
+            false => std::mem::take(&mut self.whole.merged),
+        }
     }
 
     /// The chains of the lines that were joined last.
     pub(super) fn joined<'a>(&'a self, lines: Lines<'a>) -> Joined<'a> {
         let Whole { table, members, marks, listing, way, merged, boxes, .. } = &self.whole;
+        let merged = if self.in_place { self.first.laid() } else { merged };
         let boxed = table.len() / RECORD;
         let chains = Chains { lines, table, members, marks, listing, way, merged, boxes, boxed };
         let Round { nodes, outlines, .. } = &self.first;
@@ -188,7 +199,13 @@ impl Rooms {
     }
 
     /// Round one.
-    fn first(&mut self, lines: Lines, settings: Settings, way: Way) -> Result<(), Fault> {
+    fn first(
+        &mut self,
+        lines: Lines,
+        settings: Settings,
+        way: Way,
+        lean: bool,
+    ) -> Result<(), Fault> {
         judging::judge(lines, settings, way.cores)?;
         judging::count(lines.counts, &mut self.firsts);
         self.callers.grow(way.cores);
@@ -197,18 +214,25 @@ impl Rooms {
         callers.take(first_laid);
         first_laid.clear();
         let lines = LinePieces { lines, firsts };
-        first.run(&lines, Grid::Exact, sorting, way.ways(settings, callers))?;
+        let last = lean && Grid::of_round_two(settings).is_none();
+        first.run(&lines, Grid::Exact, sorting, way.ways(settings, callers, last))?;
         *first_calls = callers.take(first_laid);
         Ok(())
     }
 
     /// Round two, where there is a tolerance, over what round one left, and the chains put together.
-    fn finish(&mut self, lines: Lines, settings: Settings, way: Way) -> Result<(), Fault> {
+    fn finish(
+        &mut self,
+        lines: Lines,
+        settings: Settings,
+        way: Way,
+        lean: bool,
+    ) -> Result<(), Fault> {
         let Rooms { firsts, sorting, callers, first, second, whole, laid, calls, .. } = self;
         laid.clone_from(&self.first_laid);
         *calls = self.first_calls;
         let lines = LinePieces { lines, firsts };
-        let ways = way.ways(settings, callers);
+        let ways = way.ways(settings, callers, lean);
         let mut rounds = Rounds { lines, first, second: None };
         if let Some(grid) = Grid::of_round_two(settings) {
             second.run(&ChainPieces { lines, first }, grid, sorting, ways)?;
@@ -218,7 +242,16 @@ impl Rooms {
         }
         laid.sort_unstable();
         laid.dedup();
-        whole.put_together(rounds, way.boxes, way.cores);
+        self.in_place = lean && rounds.second.is_none();
+        whole.put_together(rounds, way.boxes, self.in_place, way.cores);
+        if lean {
+            self.sorting = Sorting::default();
+            self.callers = Callers::default();
+        }
+        if lean && !self.in_place {
+            first.let_go();
+            *second = Round::default();
+        }
         Ok(())
     }
 }
