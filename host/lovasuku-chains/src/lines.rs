@@ -46,6 +46,14 @@ pub struct Lines<'a> {
 
 impl<'a> Lines<'a> {
     /// Lines of x and y by their points, one line behind another, which are not copied.
+    ///
+    /// ```
+    /// use lovasuku_chains::{Lines, PLAIN};
+    ///
+    /// let points = [[0.0, 0.0], [1.0, 0.0], [1.0, 0.0], [2.0, 0.0], [2.0, 5.0]];
+    /// let lines = Lines::of_points(&points, &[2, 3], &[0, 0], &[PLAIN, PLAIN]);
+    /// assert_eq!(lines.coordinates[6..], [2.0, 0.0, 2.0, 5.0]);
+    /// ```
     pub fn of_points(
         points: &'a [[f64; POINT]],
         counts: &'a [u32],

@@ -2,15 +2,15 @@
 
 use crate::arguments::Request;
 use crate::delivery::object::{Entry, Object};
-use crate::delivery::{Delivery, Feature, Geometry, Heights, Run};
+use crate::delivery::{Delivery, Feature, Geometry, Heights, Point};
 use crate::joining::Chain;
 use crate::measure::Measure;
 use crate::outcome::{told_of_clashes, Outcome};
 use crate::progress::Progress;
 use crate::store::{
-    driver_name, is_database, shown, About, Drawn, Features, Kinds, Reference, Sheet, Store,
+    driver_name, is_database, shown, About, Drawn, Features, Field, Kinds, Reference, Sheet, Store,
 };
-use crate::writing::{Chains, Content, Target};
+use crate::writing::{Chains, Content, Keep, Target};
 use anyhow::{ensure, Context, Result};
 use lovasuku_chains::Dimension;
 use std::borrow::Cow;
@@ -28,6 +28,9 @@ const OWN: [Kinds; 6] = [
     Kinds::TRUTHS,
     Kinds::LISTS_OF_WHOLE_NUMBERS,
 ];
+
+/// The place of its members among these.
+const MEMBERS: usize = 1;
 
 /// The fields of bridges and gaps, and what their values are.
 const OF_BRIDGES: [(&str, Kinds); 8] = [
@@ -101,10 +104,8 @@ const DEGREES: &str = "EPSG:4326";
 fn drawn<'a>(delivery: &'a Delivery, chain: &'a Chain) -> Drawn<'a> {
     let alone = chain.members.first().map(|&line| &delivery.features[line as usize].geometry);
     match (chain.points, alone) {
-        (Some(points), _) => Drawn::Line(points.into(), chain.extras.into()),
-        (None, Some(Geometry::Line(run))) => {
-            Drawn::Line((&run.points).into(), (&run.heights).into())
-        }
+        (Some(points), _) => Drawn::Line(points, chain.extras),
+        (None, Some(Geometry::Line(run))) => Drawn::Line(&run.points, &run.heights),
         (None, Some(Geometry::Lines(parts))) => Drawn::Lines(parts),
         (None, None | Some(Geometry::Other(_))) => Drawn::Lines(&[]),
     }
@@ -151,7 +152,7 @@ impl Features for StoredChains<'_> {
 
 /// The bridges and the gaps that go into a store: the properties of each as an object of JSON, and its
 /// points.
-struct StoredBridges(Vec<(String, Run)>);
+struct StoredBridges(Vec<(String, Vec<Point>)>);
 
 impl Features for StoredBridges {
     fn len(&self) -> usize {
@@ -168,8 +169,7 @@ impl Features for StoredBridges {
     }
 
     fn drawn(&self, place: usize) -> Drawn<'_> {
-        let (_, run) = &self.0[place];
-        Drawn::Line((&run.points).into(), (&run.heights).into())
+        Drawn::Line(&self.0[place].1, &[])
     }
 
     fn told_of(&self, _: usize) -> Option<String> {
@@ -186,10 +186,26 @@ impl Outcome<'_> {
         let fields = self.layer.map_or(&[][..], |layer| &layer.fields);
         let others = fields.iter().map(|field| &field.name).filter(|name| !own.contains(name));
         let others = others.cloned().map(|name| (name, Kinds::default()));
-        let first = own.iter().cloned().zip(OWN).chain(others).collect();
+        let mut first: Vec<(String, Kinds)> = own.iter().cloned().zip(OWN).chain(others).collect();
+        let known = self.are_known(fields, &own);
+        if known {
+            let lines = 0..self.delivery.features.len() as u32;
+            let kinds = lines.map(|line| Kinds::of_item(&self.delivery.name(line)));
+            first[MEMBERS].1 = kinds.fold(first[MEMBERS].1, Kinds::with);
+        }
         let inside = (0..chains.len()).filter(|&chain| chains[chain].in_window).collect();
         let features = Box::new(StoredChains { chains, inside, writer, own });
-        self.content(store, "chain", features, first, self.delivery.dimension, progress)
+        let content = (features as Box<dyn Features>, first, known);
+        self.content(store, "chain", content, self.delivery.dimension, progress)
+    }
+
+    /// True where the fields of chains are known without a look at each: the chain's own, and of the input
+    /// fields of single values, of which a chain has one or none.
+    fn are_known(&self, fields: &[Field], own: &[String]) -> bool {
+        let is_plain = |field: &Field| field.kind.is_single() && !own.contains(&field.name);
+        let few = i32::try_from(self.delivery.features.len()).is_ok();
+        let whole = self.request.window.is_none() && self.request.keep != Keep::List;
+        self.layer.is_some() && few && whole && fields.iter().all(is_plain)
     }
 
     /// The bridges and the gaps as a layer.
@@ -199,22 +215,21 @@ impl Outcome<'_> {
             let read = Feature::of(&text, Heights::Dropped).ok()?;
             let properties = read.properties.unwrap_or("{}").to_owned();
             match read.geometry {
-                Geometry::Line(run) => Some((properties, run)),
+                Geometry::Line(run) => Some((properties, run.points.into_owned())),
                 Geometry::Lines(_) | Geometry::Other(_) => None,
             }
         };
         let all = self.bridge_features().into_iter();
         let features = Box::new(StoredBridges(all.filter_map(feature).collect()));
         let first = OF_BRIDGES.map(|(name, kinds)| (name.to_owned(), kinds)).into();
-        self.content(store, "bridge", features, first, Dimension::Xy, progress)
+        self.content(store, "bridge", (features, first, false), Dimension::Xy, progress)
     }
 
     fn content<'o>(
         &'o self,
         store: &'o Store,
         each: &'static str,
-        features: Box<dyn Features + 'o>,
-        first: Vec<(String, Kinds)>,
+        (features, first, known): (Box<dyn Features + 'o>, Vec<(String, Kinds)>, bool),
         dimension: Dimension,
         progress: &'o Progress,
     ) -> Content<'o> {
@@ -227,6 +242,7 @@ impl Outcome<'_> {
             reference: self.reference,
             geometry: self.layer.map(|layer| &layer.geometry[..]).filter(|name| !name.is_empty()),
             first,
+            known,
             input: self.layer.map_or(&[], |layer| &layer.fields),
             ids: store.ids,
             indexed: store.indexed,

@@ -27,7 +27,7 @@ pub fn accepted([chains, lines]: [String; 2], settings: Settings, beyond: usize)
 pub struct Words<'a> {
     pub delivery: &'a Delivery<'a>,
     pub classes: &'a Classes<'a>,
-    pub read: &'a [Read],
+    pub read: &'a [Read<'a>],
     pub lines: Lines<'a>,
     pub chains: Delivered<'a>,
 }

@@ -38,6 +38,8 @@ pub struct Delivery<'a> {
     pub warnings: Vec<String>,
     /// What each position has. Those that a position lacks are NaN.
     pub dimension: Dimension,
+    /// The points of all lines, one line behind another, where they lie so and there is nothing else.
+    pub points: Option<&'a [Point]>,
 }
 
 /// How a delivery is read.

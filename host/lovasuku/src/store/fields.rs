@@ -39,6 +39,11 @@ impl Kinds {
         Kinds { single: 0, items: LIST | SHORT, others: false };
     pub const OTHERS: Kinds = Kinds { single: 0, items: 0, others: true };
 
+    /// The kinds of lists that have a single value among their items.
+    pub fn of_item(value: &str) -> Self {
+        Kinds { items: LIST | single(value).unwrap_or(TEXT), ..Kinds::default() }
+    }
+
     /// The kinds of a value as it is written.
     fn of(value: &str) -> Self {
         match value.as_bytes().first() {
@@ -52,7 +57,8 @@ impl Kinds {
         }
     }
 
-    fn with(self, other: Kinds) -> Self {
+    /// The kinds of both.
+    pub fn with(self, other: Kinds) -> Self {
         Kinds {
             single: self.single | other.single,
             items: self.items | other.items,

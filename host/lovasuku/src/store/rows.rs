@@ -48,7 +48,7 @@ pub fn encoded(
     let mut lines = LinesBuf::of(dimension);
     for place in places.clone() {
         match features.drawn(place) {
-            Drawn::Line(points, extras) => lines.push_apart(&points, &extras, 0),
+            Drawn::Line(points, extras) => lines.push_apart(points, extras, 0),
             Drawn::Lines(parts) => {
                 parts.iter().for_each(|part| lines.push_apart(&part.points, &part.heights, 0));
             }

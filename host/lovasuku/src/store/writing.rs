@@ -16,7 +16,6 @@ use crate::progress::Progress;
 use anyhow::{Context, Result};
 use lovasuku_chains::Dimension;
 use rayon::prelude::*;
-use std::borrow::Cow;
 use std::ops::Range;
 use std::sync::mpsc::sync_channel;
 use std::thread;
@@ -42,9 +41,9 @@ pub trait Features: Sync {
 /// The geometry of a feature.
 pub enum Drawn<'a> {
     /// A line: its points and their extras.
-    Line(Cow<'a, [Point]>, Cow<'a, [f64]>),
+    Line(&'a [Point], &'a [f64]),
     /// A MultiLineString, by its parts.
-    Lines(&'a [Run]),
+    Lines(&'a [Run<'a>]),
 }
 
 /// A layer to be written.
@@ -61,6 +60,8 @@ pub struct Sheet<'a> {
     pub geometry: Option<&'a str>,
     /// The names of the first fields, in their order, and what is known of their values.
     pub first: Vec<(String, Kinds)>,
+    /// Whether there are no others, no more is to be known of their values, and none is left out.
+    pub known: bool,
     /// The fields of the input, which keep their types.
     pub input: &'a [Field],
     /// Whether features have ids from 0 on.
@@ -133,6 +134,9 @@ impl Sheet<'_> {
     /// one.
     fn names(&self) -> (Names, usize) {
         let (features, first) = (&*self.features, Names::of(&self.first));
+        if self.known {
+            return (first, 0);
+        }
         let part = |places: Range<usize>| {
             let (mut names, mut left_out) = (first.clone(), 0);
             for place in places {
@@ -234,7 +238,7 @@ impl Sheet<'_> {
     fn put_box(&self, index: &mut Index, place: usize) {
         let extent = match self.features.drawn(place) {
             Drawn::Line(points, _) => extent(points.iter().copied()),
-            Drawn::Lines(parts) => extent(parts.iter().flat_map(|part| &part.points).copied()),
+            Drawn::Lines(parts) => extent(parts.iter().flat_map(|part| &*part.points).copied()),
         };
         index.put(self.features.id(place) as i64, extent);
     }
