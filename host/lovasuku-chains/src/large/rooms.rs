@@ -107,6 +107,8 @@ pub struct Rooms {
     first: Round,
     second: Round,
     whole: Whole,
+    /// Whether the rooms let go of what is not needed any more, so that nothing can be run again in them.
+    pub(super) lean: bool,
     /// True where the coordinates of chains stay where round one laid them.
     in_place: bool,
     /// The pieces of round one that were laid without a call, and its calls.
@@ -147,22 +149,15 @@ impl Rooms {
         settings: Settings,
         way: Way,
     ) -> Result<Joined<'a>, Fault> {
-        self.run(lines, settings, way, false)?;
+        self.run(lines, settings, way)?;
         Ok(self.joined(lines))
     }
 
-    /// Joins lines into chains, which stay in the rooms. Lean rooms let go of what is not needed any more, so
-    /// that nothing can be run again in them.
-    pub(super) fn run(
-        &mut self,
-        lines: Lines,
-        settings: Settings,
-        way: Way,
-        lean: bool,
-    ) -> Result<(), Fault> {
+    /// Joins lines into chains, which stay in the rooms.
+    pub(super) fn run(&mut self, lines: Lines, settings: Settings, way: Way) -> Result<(), Fault> {
         way.cores.within(|| {
-            self.first(lines, settings, way, lean)?;
-            self.finish(lines, settings, way, lean)
+            self.first(lines, settings, way)?;
+            self.finish(lines, settings, way)
         })
     }
 
@@ -172,10 +167,9 @@ impl Rooms {
         lines: Lines,
         settings: Settings,
         way: Way,
-        lean: bool,
     ) -> Result<(), Fault> {
         judging::judge(lines, settings, way.cores)?;
-        way.cores.within(|| self.finish(lines, settings, way, lean))
+        way.cores.within(|| self.finish(lines, settings, way))
     }
 
     /// Takes the coordinates of chains of several lines.
@@ -199,13 +193,7 @@ impl Rooms {
     }
 
     /// Round one.
-    fn first(
-        &mut self,
-        lines: Lines,
-        settings: Settings,
-        way: Way,
-        lean: bool,
-    ) -> Result<(), Fault> {
+    fn first(&mut self, lines: Lines, settings: Settings, way: Way) -> Result<(), Fault> {
         judging::judge(lines, settings, way.cores)?;
         judging::count(lines.counts, &mut self.firsts);
         self.callers.grow(way.cores);
@@ -214,20 +202,15 @@ impl Rooms {
         callers.take(first_laid);
         first_laid.clear();
         let lines = LinePieces { lines, firsts };
-        let last = lean && Grid::of_round_two(settings).is_none();
+        let last = self.lean && Grid::of_round_two(settings).is_none();
         first.run(&lines, Grid::Exact, sorting, way.ways(settings, callers, last))?;
         *first_calls = callers.take(first_laid);
         Ok(())
     }
 
     /// Round two, where there is a tolerance, over what round one left, and the chains put together.
-    fn finish(
-        &mut self,
-        lines: Lines,
-        settings: Settings,
-        way: Way,
-        lean: bool,
-    ) -> Result<(), Fault> {
+    fn finish(&mut self, lines: Lines, settings: Settings, way: Way) -> Result<(), Fault> {
+        let lean = self.lean;
         let Rooms { firsts, sorting, callers, first, second, whole, laid, calls, .. } = self;
         laid.clone_from(&self.first_laid);
         *calls = self.first_calls;

@@ -127,10 +127,11 @@ pub fn join_lines(
     let way = Way { boxes: window.is_some(), ..way };
     let mut zooms = Vec::with_capacity(tolerances.len());
     for (k, &tolerance) in tolerances.iter().enumerate() {
-        let (settings, last) = (settings.with_tolerance(tolerance), k + 1 == tolerances.len());
+        let settings = settings.with_tolerance(tolerance);
+        rooms.lean = k + 1 == tolerances.len();
         match k {
-            0 => rooms.run(lines, settings, way, last)?,
-            _ => rooms.run_again(lines, settings, way, last)?,
+            0 => rooms.run(lines, settings, way)?,
+            _ => rooms.run_again(lines, settings, way)?,
         }
         let mut told = Told::but_coordinates(&rooms.joined(lines), window)?;
         told.put_coordinates(rooms.take_merged(), lines.dimension);
