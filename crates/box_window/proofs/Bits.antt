@@ -16,7 +16,7 @@ use Rattle.float_order.proofs.Ranks.{rank-low, rank-le-is, rank-at-most}
 use Rattle.float_order.proofs.Keys.{nan-or-num, key-num, low-key-num, key-le-is}
 use Rattle.rules.specs.Windows.{overlap}
 use Rattle.box_window.proofs.Tests.{overlap-last, overlap-behind, overlap-ahead}
-use Rattle.box_window.specs.Bounds.{infinite, From, Upto}
+use Rattle.box_window.specs.Bounds.{infinite, AtLeast, AtMost}
 
 -- ---- numbers from zero on
 module _ (n : ℕ) (h : n ≤ infinite) where
@@ -54,10 +54,10 @@ module _ (x : Float) (p : T (fits binary64 x)) where
   key-decides : (n : ℕ) → n ≤ infinite → le x (float n) ≡ leb (key x) (n + 2 ^ 63)
   key-decides n h = key-le-is x (float n) p (ofBits-fits binary64 n) (number n h) ∙ ap (leb (key x)) (key-num (float n) (number n h) ∙ rank-bits n h)
 
-  pub from-all : (k : ℕ) → k ≡ key x → k < 2 ^ 63 → From x 0
+  pub from-all : (k : ℕ) → k ≡ key x → k < 2 ^ 63 → AtLeast x 0
   from-all k e l = record { decides = λ n h. key-decides n h ∙ le-leb (key x) (n + 2 ^ 63) (omega arith) ∙ sym (le-leb 0 n (omega arith)) }
 
-  pub from-some : (k : ℕ) → k ≡ key x → 2 ^ 63 ≤ k → From x (k - 2 ^ 63)
+  pub from-some : (k : ℕ) → k ≡ key x → 2 ^ 63 ≤ k → AtLeast x (k - 2 ^ 63)
   from-some k e l = record {
     decides = λ n h. key-decides n h ∙ bool-ext (leb (key x) (n + 2 ^ 63)) (leb (k - 2 ^ 63) n)
         (λ t. le→leb (k - 2 ^ 63) n (omega (arith, leb→le (key x) (n + 2 ^ 63) t)))
@@ -71,10 +71,10 @@ module _ (x : Float) (p : T (fits binary64 x)) where
       go (inl e) = le-nan (float n) x e ∙ sym (lt-leb (n + 2 ^ 63) (low-key x) (omega (arith, low-key-nan x e)))
       go (inr i) = rank-le-is binary64 (float n) x (ofBits-fits binary64 n) p (number n h) i ∙ ap₂ leb (rank-bits n h) (sym (low-key-num x i))
 
-  pub upto-none : (k : ℕ) → k ≡ low-key x → k < 2 ^ 63 → Upto x 0
+  pub upto-none : (k : ℕ) → k ≡ low-key x → k < 2 ^ 63 → AtMost x 0
   upto-none k e l = record { decides = λ n h. low-key-decides n h ∙ lt-leb (n + 2 ^ 63) (low-key x) (omega arith) ∙ sym (le-ltb n 0 (omega arith)); most = omega arith }
 
-  pub upto-some : (k : ℕ) → k ≡ low-key x → 2 ^ 63 ≤ k → Upto x (k - 2 ^ 63 + 1)
+  pub upto-some : (k : ℕ) → k ≡ low-key x → 2 ^ 63 ≤ k → AtMost x (k - 2 ^ 63 + 1)
   upto-some k e l = record {
     decides = λ n h. low-key-decides n h ∙ bool-ext (leb (n + 2 ^ 63) (low-key x)) (ltb n (k - 2 ^ 63 + 1))
         (λ t. lt→ltb n (k - 2 ^ 63 + 1) (omega (arith, leb→le (n + 2 ^ 63) (low-key x) t)))
@@ -87,7 +87,7 @@ module _ (x : Float) (p : T (fits binary64 x)) where
       highest (inr i) = omega (arith, low-key-num x i, rank-at-most binary64 x p)
 
 -- ---- along x or along y
-module _ (low high : ℕ) (from to : Float) (first past : ℕ) (f : From from first) (u : Upto to past) where
+module _ (low high : ℕ) (from to : Float) (first past : ℕ) (f : AtLeast from first) (u : AtMost to past) where
   pub touch-last : high ≤ infinite → low < past → first ≤ high → leb low high ≡ overlap (float low) (float high) from to
   touch-last h l k =
       let i : low ≤ infinite = omega (arith, u .most) in

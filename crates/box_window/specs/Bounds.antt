@@ -12,16 +12,16 @@ abbrev pub infinite : ℕ
 infinite = 0x7ff0_0000_0000_0000
 
 -- the bits from r on are those of numbers that are at least x
-pub record From (x : Float) (r : ℕ) : Type 0 where
+pub record AtLeast (x : Float) (r : ℕ) : Type 0 where
   pub decides : (n : ℕ) → n ≤ infinite → le x (float n) ≡ leb r n
 
 -- the bits before r are those of numbers that are at most x
-pub record Upto (x : Float) (r : ℕ) : Type 0 where
+pub record AtMost (x : Float) (r : ℕ) : Type 0 where
   pub decides : (n : ℕ) → n ≤ infinite → le (float n) x ≡ ltb n r
   pub most : r ≤ infinite + 1
 
 pub record Sided (w : Window) (s : Sides) : Type 0 where
-  pub least-x : From (w .«least_x») (s .«first_x»)
-  pub least-y : From (w .«least_y») (s .«first_y»)
-  pub greatest-x : Upto (w .«greatest_x») (s .«past_x»)
-  pub greatest-y : Upto (w .«greatest_y») (s .«past_y»)
+  pub least-x : AtLeast (w .«least_x») (s .«first_x»)
+  pub least-y : AtLeast (w .«least_y») (s .«first_y»)
+  pub greatest-x : AtMost (w .«greatest_x») (s .«past_x»)
+  pub greatest-y : AtMost (w .«greatest_y») (s .«past_y»)

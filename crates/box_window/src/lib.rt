@@ -10,7 +10,7 @@ ghost use lib.ListN.{length};
 ghost use Rattle.rules.specs.Plane.{float};
 ghost use Rattle.rules.specs.Windows.{overlap as overlap-of, shown as shown-of, windowBad, inWindow, boxesAs, Windowed};
 ghost use Rattle.point_slices.specs.Holds.{Holds};
-ghost use Rattle.box_window.specs.Bounds.{From, Upto, Sided};
+ghost use Rattle.box_window.specs.Bounds.{AtLeast, AtMost, Sided};
 ghost use Rattle.box_window.specs.Levels.{Leveled, highest as highest-of};
 
 // The bits of zero below zero, and of the infinity above it. Bits up to the infinity's are those of numbers from zero on, and in order as the numbers are.
@@ -37,7 +37,7 @@ fn overlap(low: u64, high: u64, from: f64, to: f64) -> bool
 
 // The first bits, of numbers from zero on, that stand for at least x.
 fn first(x: f64) -> u64
-    ensures { λ r. ⌜ From x r ⌝ }
+    ensures { λ r. ⌜ AtLeast x r ⌝ }
 {
     let k = float_order::key(x);
     if k < SIGN {
@@ -48,7 +48,7 @@ fn first(x: f64) -> u64
 
 // The bits behind the last ones, of numbers from zero on, that stand for at most x.
 fn past(x: f64) -> u64
-    ensures { λ r. ⌜ Upto x r ⌝ }
+    ensures { λ r. ⌜ AtMost x r ⌝ }
 {
     let k = float_order::low_key(x);
     if k < SIGN {
@@ -78,7 +78,7 @@ fn sides_of(w: Window) -> Sides
 
 // Whether low to high and from to to overlap or touch, by comparisons of bits where both are those of numbers from zero on.
 fn touch(low: u64, high: u64, from: f64, to: f64, first: u64, past: u64) -> bool
-    requires { ⌜ From from first × Upto to past ⌝ }
+    requires { ⌜ AtLeast from first × AtMost to past ⌝ }
     ensures { λ r. ⌜ r ≡ overlap-of (float low) (float high) from to ⌝ }
 {
     if high <= INFINITE {

@@ -72,7 +72,8 @@ pub fn round_two<'a>(
     workspace: &mut [u64],
 ) -> usize
     requires { ⌜ Second width n m settings (now coordinates) (now groups) (now copies) (now merged) (now workspace) ⌝ }
-    ensures { λ r. ⌜ ((y : Second width n m settings (now (coordinates .entry)) (now (groups .entry)) (now (copies .entry)) (now (merged .entry)) (now (workspace .entry)))
+    ensures { λ r. ⌜ ((y : Second width n m settings (now (coordinates .entry)) (now (groups .entry)) (now (copies .entry)) (now (merged .entry))
+        (now (workspace .entry)))
         → Left width n (now (coordinates .entry)) (y .counts) (join (ruleOf (cellsOf settings) settings) (y .ps))
         0 r (now (merged .exit)) (now (merged .entry)) (now (workspace .exit)) (now (workspace .entry))) ⌝ }
 {

@@ -1,29 +1,25 @@
 -- Laws of the refusals of building: one more number summed or passed, and what a call has that no refusal meets.
 use mathlib.Core.Path.{_≡_, refl, sym, ap, subst, _∙_}
-use mathlib.Core.Bool.{Bool, true, false, not, _&&_, _||_, true≢false}
+use mathlib.Core.Bool.{Bool, true, false, not, _||_, true≢false}
 use mathlib.Core.List.{List, [], _∷_, _++_}
-use Prim.Native.Nat.{ℕ, zero, suc, _+_, _*_, _/_, _^_, _≤_, _<_}
+use Prim.Native.Nat.{ℕ, suc, _+_, _*_, _^_, _≤_, _<_}
 use native.Mathlib.Nat.{add-assoc, mul-le-mul-right}
 use native.Mathlib.Numerals.{add-one}
 use native.Mathlib.Omega.{arith}
 use lib.ListN.{length, drop, getD, drop-of-length-le}
 use lib.Seq.{drop-cons}
-use lib.Bits.{bitOr, or-zero-l, or-add-and, and-le-l, and-le-r, or-shr}
-use lib.Dec.{leb, ltb, eqb}
-use borrow.Author.Tests.{lt-ltb, le-ltb, ltb-false, leb-true, leb-false, eqb-true, eqb-false, not-false}
+use lib.Dec.{ltb, eqb}
+use borrow.Author.Tests.{lt-ltb, le-ltb, ltb-false, eqb-true, eqb-false, not-false}
 use Rattle.rules.specs.declared.Settings.{Settings}
-use lib.Ieee.Scale.{finite}
-use Rattle.rules.specs.Lists.{one, total}
-use Rattle.rules.specs.Plane.{Point, point, float, reads, points}
-use Rattle.point_numbers.specs.Width.{pointAt, Whole}
-use Rattle.point_numbers.proofs.Points.{at-x, at-y, points-exact, points-from, points-past}
+use Rattle.rules.specs.Lists.{total}
+use Rattle.rules.specs.Plane.{points}
 use Rattle.point_numbers.proofs.Widths.{width-two}
 use Rattle.rules.specs.Boxes.{boxRoom}
 use Rattle.rules.specs.Layout.{Lines}
 use Rattle.rules.specs.Types.{widthOf, noType}
 use Rattle.build_refusals.specs.Admitted.{LinesAdmitted, Admitted}
-use Rattle.rules.specs.Refusals.{Rooms, anyAbove, nowhere, anyNowhere, originBad, firstOf, lineTests, refusalOf, mostLines, mostPoints, lineRoom, recordSize}
-use Rattle.build_refusals.specs.Tests.{wildOf, switchBad, roomShort}
+use Rattle.rules.specs.Refusals.{Rooms, anyAbove, anyNowhere, originBad, firstOf, lineTests, refusalOf, lineRoom, recordSize}
+use Rattle.build_refusals.specs.Tests.{switchBad, roomShort}
 
 -- ---- sums and kinds
 
@@ -54,98 +50,6 @@ above-here m l i h k = rw (drop-cons l i 0 h, above-yes m (getD l i 0) (drop (su
 pub above-none : (m : ℕ) (l : List ℕ) (i : ℕ) → length l ≤ i → anyAbove m (drop i l) ≡ false
 unfolding anyAbove
 above-none m l i h = rw (drop-of-length-le l {i = i} h)
-
--- ---- places
-
--- one number more is looked at
-wild-step : (l : List ℕ) (i s : ℕ) → i < length l → s + wildOf (drop i l) ≡ s + one (not (finite (float (getD l i 0)))) + wildOf (drop (i + 1) l)
-unfolding wildOf
-wild-step l i s h = rw (drop-cons l i 0 h, add-one, add-assoc)
-
-wild-none : (l : List ℕ) (i s : ℕ) → length l ≤ i → s + wildOf (drop i l) ≡ s
-unfolding wildOf
-wild-none l i s h = rw (drop-of-length-le l {i = i} h) (omega arith)
-
--- what two numbers, each 0 or 1, make together, beside others
-or-some : (a b r : ℕ) → a ≤ 1 → b ≤ 1 → ltb 0 (bitOr a b + r) ≡ ltb 0 (a + (b + r))
-or-some zero b r h k = let e : b + r ≡ 0 + (b + r) = omega arith in ap (λ (n : ℕ). ltb 0 (n + r)) (or-zero-l b) ∙ ap (ltb 0) e
-or-some (suc a) b r h k =
-    let more : 0 < bitOr (suc a) b + r = omega (arith, or-add-and (suc a) b, and-le-l (suc a) b, and-le-r (suc a) b) in
-    lt-ltb 0 (bitOr (suc a) b + r) more ∙ sym (lt-ltb 0 (suc a + (b + r)) (omega arith))
-
--- one number more is looked at: m is what was made so far, n the number raised
-pub wild-more : (l : List ℕ) (i m n : ℕ) → i < length l → m < 2 ^ 64 → n / 2 ^ 63 ≡ one (not (finite (float (getD l i 0))))
-    → ltb 0 (bitOr m n / 2 ^ 63 + wildOf (drop (i + 1) l)) ≡ ltb 0 (m / 2 ^ 63 + wildOf (drop i l))
-wild-more l i m n h k e =
-    ap (λ (q : ℕ). ltb 0 (q + wildOf (drop (i + 1) l))) (or-shr m n 63 ∙ ap (bitOr (m / 2 ^ 63)) e)
-    ∙ or-some (m / 2 ^ 63) (one (not (finite (float (getD l i 0))))) (wildOf (drop (i + 1) l)) (omega arith) (one-most (not (finite (float (getD l i 0)))))
-    ∙ ap (ltb 0) (sym (add-assoc (m / 2 ^ 63) _ _) ∙ sym (wild-step l i (m / 2 ^ 63) h))
-  where
-    one-most : (b : Bool) → one b ≤ 1
-    one-most true = omega arith
-    one-most false = omega arith
-
--- all are looked at
-pub wild-told : (l : List ℕ) (i m : ℕ) → length l ≤ i → m < 2 ^ 64 → ltb 0 (m / 2 ^ 63 + wildOf (drop i l)) ≡ ltb 0 (wildOf l) → leb (2 ^ 63) m ≡ ltb 0 (wildOf l)
-wild-told l i m h k e = go (leb (2 ^ 63) m) refl ∙ ap (ltb 0) (sym (wild-none l i (m / 2 ^ 63) h)) ∙ e
-  where
-    go : (b : Bool) → leb (2 ^ 63) m ≡ b → leb (2 ^ 63) m ≡ ltb 0 (m / 2 ^ 63)
-    go true q = q ∙ sym (lt-ltb 0 (m / 2 ^ 63) (omega (arith, leb-true (2 ^ 63) m q)))
-    go false q = q ∙ sym (le-ltb 0 (m / 2 ^ 63) (omega (arith, leb-false (2 ^ 63) m q)))
-
-here-nowhere : (p : Point) (l : List Point) → nowhere p ≡ true → anyNowhere (p ∷ l) ≡ true
-unfolding anyNowhere
-here-nowhere p l e = rw (e, anyNowhere)
-
-here-somewhere : (p : Point) (l : List Point) → nowhere p ≡ false → anyNowhere (p ∷ l) ≡ anyNowhere l
-unfolding anyNowhere
-here-somewhere p l e = rw (e, anyNowhere)
-
--- a point is no place where one of its two numbers is none
-reads-wild : (n : ℕ) (l : List ℕ) → length l ≡ n * 2 → anyNowhere (reads 2 n l) ≡ ltb 0 (wildOf l)
-unfolding reads anyNowhere wildOf
-reads-wild zero [] h = refl
-reads-wild zero (a ∷ l) h = absurd (omega arith)
-reads-wild (suc n) [] h = absurd (omega arith)
-reads-wild (suc n) (a ∷ []) h = absurd (omega arith)
-reads-wild (suc n) (a ∷ b ∷ l) h = go (finite (float a)) (finite (float b)) refl refl (reads-wild n l (omega arith))
-  where
-    two : nowhere (point a b) ≡ not (finite (float a) && finite (float b))
-    two = unfold nowhere in refl
-
-    go : (p q : Bool) → finite (float a) ≡ p → finite (float b) ≡ q → anyNowhere (reads 2 n l) ≡ ltb 0 (wildOf l)
-        → anyNowhere (point a b ∷ reads 2 n l) ≡ ltb 0 (one (not (finite (float a))) + (one (not (finite (float b))) + wildOf l))
-    go true true e f ih = rw (e, f) (here-somewhere (point a b) (reads 2 n l) (two ∙ rw (e, f)) ∙ ih ∙ (let z : wildOf l ≡ 0 + (0 + wildOf l) = omega arith in ap (ltb 0) z))
-    go true false e f ih = rw (e, f) (here-nowhere (point a b) (reads 2 n l) (two ∙ rw (e, f)) ∙ sym (lt-ltb 0 (0 + (1 + wildOf l)) (omega arith)))
-    go false q e f ih = rw e (here-nowhere (point a b) (reads 2 n l) (two ∙ rw e) ∙ sym (lt-ltb 0 (1 + (one (not (finite (float b))) + wildOf l)) (omega arith)))
-
-pub nowhere-wild : (w : ℕ) (l : List ℕ) → Whole w l → w ≡ 2 → anyNowhere (points w l) ≡ ltb 0 (wildOf l)
-nowhere-wild w l h e =
-    let long : length l ≡ h .number * 2 = h .long ∙ ap (λ (v : ℕ). h .number * v) e in
-    ap (λ (v : ℕ). anyNowhere (points v l)) e ∙ ap anyNowhere (points-exact 2 (h .number) l (omega arith) long) ∙ reads-wild (h .number) l long
-
--- with extras, point by point: the one from the i-th number on is no place, or is passed
-module _ (w : ℕ) (l : List ℕ) (i : ℕ) (two : 2 ≤ w) (h : i + w ≤ length l) where
-  opened-from : anyNowhere (points w (drop i l)) ≡ anyNowhere (pointAt w l i ∷ points w (drop (i + w) l))
-  opened-from = ap anyNowhere (points-from w l i (omega arith) h)
-
-  by-parts : nowhere (pointAt w l i) ≡ not (finite (float (getD l i 0)) && finite (float (getD l (i + 1) 0)))
-  unfolding nowhere
-  by-parts = rw (at-x w two l i, at-y w two l i)
-
-  pub x-nowhere : finite (float (getD l i 0)) ≡ false → anyNowhere (points w (drop i l)) ≡ true
-  x-nowhere e = opened-from ∙ here-nowhere (pointAt w l i) (points w (drop (i + w) l)) (by-parts ∙ rw e)
-
-  pub y-nowhere : finite (float (getD l i 0)) ≡ true → finite (float (getD l (i + 1) 0)) ≡ false → anyNowhere (points w (drop i l)) ≡ true
-  y-nowhere e f = opened-from ∙ here-nowhere (pointAt w l i) (points w (drop (i + w) l)) (by-parts ∙ rw (e, f))
-
-  pub place-passed : finite (float (getD l i 0)) ≡ true → finite (float (getD l (i + 1) 0)) ≡ true
-      → anyNowhere (points w (drop i l)) ≡ anyNowhere (points w (drop (i + w) l))
-  place-passed e f = opened-from ∙ here-somewhere (pointAt w l i) (points w (drop (i + w) l)) (by-parts ∙ rw (e, f))
-
-pub places-end : (w : ℕ) (l : List ℕ) (i : ℕ) → 2 ≤ w → length l ≤ i → anyNowhere (points w (drop i l)) ≡ false
-unfolding anyNowhere
-places-end w l i two h = ap anyNowhere (points-past w l i (omega arith) (omega arith))
 
 -- ---- the ladder
 

@@ -9,9 +9,9 @@ use rules::RECORD;
 use rules::Settings;
 ghost use mathlib.Core.Path.{_≡_};
 ghost use mathlib.Core.Bool.{not, _||_};
-ghost use Prim.Native.Nat.{_≤_, _<_};
+ghost use Prim.Native.Nat.{_+_, _/_, _^_, _≤_, _<_};
 ghost use lib.Dec.{eqb, ltb};
-ghost use lib.ListN.{length};
+ghost use lib.ListN.{length, take, drop};
 ghost use Rattle.rules.specs.Lists.{total as total-of};
 ghost use Rattle.rules.specs.Plane.{points};
 ghost use Rattle.rules.specs.Layout.{lent};
@@ -47,35 +47,49 @@ pub fn any_above_one(kinds: &[u8]) -> bool
     false
 }
 
-// Whether one of the numbers is a NaN or infinite: then the sign's place of what they make together is taken. All are looked at, so that several go at once.
+// What the n numbers from i on make together, each raised: the sign's place is taken where one of them is a NaN or infinite.
+fn raised_part(numbers: &[u64], i: usize, n: usize) -> u64
+    requires { ⌜ i + n ≤ length (now numbers) ⌝ }
+    ensures { λ r. ⌜ (r < 2 ^ 64) × (ltb 0 (r / 2 ^ 63) ≡ ltb 0 (wildOf (take n (drop i (now (numbers .entry)))))) ⌝ }
+{
+    let mut any: u64 = 0;
+    let mut k: usize = 0;
+    while k < n {
+        any = any | float_bits::raised(numbers[i + k]);
+        k += 1;
+    }
+    any
+}
+
+// Whether one of the numbers is a NaN or infinite: then the sign's place of what they make together is taken. All are looked at, 32 by 32, so that several
+// go at once.
 fn any_wild(numbers: &[u64]) -> bool
     ensures { λ r. ⌜ r ≡ ltb 0 (wildOf (now (numbers .entry))) ⌝ }
 {
     let mut any: u64 = 0;
-    let mut i = 0;
-    while i < numbers.len() {
-        any = any | float_bits::raised(numbers[i]);
-        i += 1;
+    let mut i: usize = 0;
+    while i + 32 <= numbers.len() {
+        any = any | raised_part(numbers, i, 32);
+        i += 32;
     }
-    SIGN <= any
+    let rest = raised_part(numbers, i, numbers.len() - i);
+    SIGN <= any | rest
 }
 
-// Whether the x or the y of a point is a NaN or infinite, with extras between the points.
+// Whether the x or the y of a point is a NaN or infinite, with extras between the points. All are looked at, x and y at once.
 fn any_nowhere_wide(numbers: &[u64], width: usize) -> bool
     requires { ⌜ (2 ≤ width) × Whole width (now numbers) ⌝ }
     ensures { λ r. ⌜ r ≡ anyNowhere (points width (now (numbers .entry))) ⌝ }
 {
+    let mut any_x: u64 = 0;
+    let mut any_y: u64 = 0;
     let mut i = 0;
     while i < numbers.len() {
-        if !float_bits::is_finite(numbers[i]) {
-            return true;
-        }
-        if !float_bits::is_finite(numbers[i + 1]) {
-            return true;
-        }
+        any_x = any_x | float_bits::raised(numbers[i]);
+        any_y = any_y | float_bits::raised(numbers[i + 1]);
         i += width;
     }
-    false
+    SIGN <= any_x | any_y
 }
 
 // Whether a coordinate is no place. Without extras every number is an x or a y.

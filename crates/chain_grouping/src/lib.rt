@@ -70,7 +70,8 @@ fn find(w: &[u64], m: usize, e: usize, b: usize) -> usize
 // End e behind the last end of the leader f.
 fn append(w: &mut [u64], m: usize, e: usize, f: usize)
     requires { ⌜ GroupingRoom (now w) m × (e < m) × (f < e) × (getD (now w) (m * lastBlock + f) 0 < e) ⌝ }
-    ensures { λ _. ⌜ now (w .exit) ≡ set (set (set (set (now (w .entry)) (m * nextBlock + getD (now (w .entry)) (m * lastBlock + f) 0) e) (m * nextBlock + e) 0) (m * lastBlock + f) e) (m * lastBlock + e) f ⌝ }
+    ensures { λ _. ⌜ now (w .exit) ≡ set (set (set (set (now (w .entry)) (m * nextBlock + getD (now (w .entry)) (m * lastBlock + f) 0) e)
+        (m * nextBlock + e) 0) (m * lastBlock + f) e) (m * lastBlock + e) f ⌝ }
 {
     let t = w[m * LAST + f] as usize;
     w[m * NEXT + t] = e as u64;
@@ -82,7 +83,8 @@ fn append(w: &mut [u64], m: usize, e: usize, f: usize)
 // End e as a leader, in front of the bucket b.
 fn lead(w: &mut [u64], m: usize, e: usize, b: usize)
     requires { ⌜ GroupingRoom (now w) m × (e < m) × (b < m) ⌝ }
-    ensures { λ _. ⌜ now (w .exit) ≡ set (set (set (set (now (w .entry)) (m + e) (getD (now (w .entry)) b 0)) b (e + 1)) (m * nextBlock + e) 0) (m * lastBlock + e) e ⌝ }
+    ensures { λ _. ⌜ now (w .exit) ≡ set (set (set (set (now (w .entry)) (m + e) (getD (now (w .entry)) b 0)) b (e + 1)) (m * nextBlock + e) 0)
+        (m * lastBlock + e) e ⌝ }
 {
     let h = w[b];
     w[m + e] = h;

@@ -47,7 +47,8 @@ pub fn put_joins(
     r: usize,
 )
     requires { ⌜ Puttable (now w) joins m list d pairs r ⌝ }
-    ensures { λ _. ⌜ HoldsFrom (now (w .exit)) (now (w .entry)) joins m (fill (slice joins (joins + m) (now (w .entry))) (namedPairs (now (w .entry)) list pairs r)) ⌝ }
+    ensures { λ _. ⌜ HoldsFrom (now (w .exit)) (now (w .entry)) joins m
+        (fill (slice joins (joins + m) (now (w .entry))) (namedPairs (now (w .entry)) list pairs r)) ⌝ }
 {
     let mut k: usize = 0;
     while k < r {

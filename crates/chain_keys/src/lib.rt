@@ -65,7 +65,8 @@ fn put_exact<'a>(
     input: &'a [u64],
     spare: &'a [u64],
 )
-    requires { ⌜ PiecePlaced width (now w) (recordOf records q) (now input) (now spare) × Grouping (now w) (recordOf records q) members (now groups) × (keys + q * bothKeys + 6 ≤ length (now w)) ⌝ }
+    requires { ⌜ PiecePlaced width (now w) (recordOf records q) (now input) (now spare) × Grouping (now w) (recordOf records q) members (now groups)
+        × (keys + q * bothKeys + 6 ≤ length (now w)) ⌝ }
     ensures { λ _. ⌜ now (w .exit) ≡ bothKeyed width (now (w .entry)) records members keys q (now (groups .entry)) (now (input .entry)) (now (spare .entry)) ⌝ }
 {
     let p = records + q * PIECE;
@@ -95,8 +96,10 @@ fn put_cells<'a>(
     origin_x: f64,
     origin_y: f64,
 )
-    requires { ⌜ PiecePlaced width (now w) (recordOf records (e / 2)) (now input) (now spare) × Grouping (now w) (recordOf records (e / 2)) members (now groups) × (keys + e * keySize + 3 ≤ length (now w)) ⌝ }
-    ensures { λ _. ⌜ now (w .exit) ≡ keyed width (now (w .entry)) records members keys e (now (groups .entry)) (now (input .entry)) (now (spare .entry)) (Cells tolerance «origin_x» «origin_y») ⌝ }
+    requires { ⌜ PiecePlaced width (now w) (recordOf records (e / 2)) (now input) (now spare)
+        × Grouping (now w) (recordOf records (e / 2)) members (now groups) × (keys + e * keySize + 3 ≤ length (now w)) ⌝ }
+    ensures { λ _. ⌜ now (w .exit) ≡ keyed width (now (w .entry)) records members keys e (now (groups .entry)) (now (input .entry))
+        (now (spare .entry)) (Cells tolerance «origin_x» «origin_y») ⌝ }
 {
     let p = records + e / 2 * PIECE;
     let group = group_of(w, p, members, groups);
@@ -146,7 +149,8 @@ fn collect_cells<'a>(
     origin_y: f64,
 )
     requires { ⌜ Keyable width (now w) records members keys count (now groups) (now input) (now spare) ⌝ }
-    ensures { λ _. ⌜ Keyed width (now (w .exit)) (now (w .entry)) records members keys count (now (groups .entry)) (now (input .entry)) (now (spare .entry)) (Cells tolerance «origin_x» «origin_y») ⌝ }
+    ensures { λ _. ⌜ Keyed width (now (w .exit)) (now (w .entry)) records members keys count (now (groups .entry)) (now (input .entry))
+        (now (spare .entry)) (Cells tolerance «origin_x» «origin_y») ⌝ }
 {
     let mut e = 0;
     while e < count * 2 {
@@ -182,7 +186,8 @@ pub fn collect_keys<'a>(
     grid: Grid,
 )
     requires { ⌜ Keyable width (now w) records members keys count (now groups) (now input) (now spare) ⌝ }
-    ensures { λ _. ⌜ Keyed width (now (w .exit)) (now (w .entry)) records members keys count (now (groups .entry)) (now (input .entry)) (now (spare .entry)) grid ⌝ }
+    ensures { λ _. ⌜ Keyed width (now (w .exit)) (now (w .entry)) records members keys count (now (groups .entry)) (now (input .entry))
+        (now (spare .entry)) grid ⌝ }
 {
     match grid {
         Grid::Exact => collect_exact(

@@ -28,8 +28,11 @@ fn append_piece<'a>(
     have: usize,
     turned: bool,
 ) -> usize
-    requires { ⌜ (2 ≤ width) × Recorded width (now w) p (now input) (now spare) × (have + length (coordinatesAt width (now w) p (now input) (now spare)) ≤ length (now rest)) ⌝ }
-    ensures { λ r. ⌜ Holds (now (rest .exit)) (now (rest .entry)) r (laid width (take have (now (rest .entry))) (walked width turned (coordinatesAt width (now (w .entry)) p (now (input .entry)) (now (spare .entry))))) ⌝ }
+    requires { ⌜ (2 ≤ width) × Recorded width (now w) p (now input) (now spare)
+        × (have + length (coordinatesAt width (now w) p (now input) (now spare)) ≤ length (now rest)) ⌝ }
+    ensures { λ r. ⌜ Holds (now (rest .exit)) (now (rest .entry)) r
+        (laid width (take have (now (rest .entry)))
+        (walked width turned (coordinatesAt width (now (w .entry)) p (now (input .entry)) (now (spare .entry))))) ⌝ }
 {
     let c = chain_pieces::coordinates_of(w, p, width, input, spare);
     point_slices::append_run(rest, have, width, c, turned)
@@ -48,7 +51,9 @@ fn append_walk<'a>(
     at: usize,
 ) -> usize
     requires { ⌜ Mergeable width (now w) old from to (now input) (now spare) (now merged) at ⌝ }
-    ensures { λ r. ⌜ ((y : Mergeable width (now (w .entry)) old from to (now (input .entry)) (now (spare .entry)) (now (merged .entry)) at) → HoldsFrom (now (merged .exit)) (now (merged .entry)) at r (flat width (lay none (flatMap (run (y .entered .rule) (y .entered .ps)) (slice from to (now (w .entry))))))) ⌝ }
+    ensures { λ r. ⌜ ((y : Mergeable width (now (w .entry)) old from to (now (input .entry)) (now (spare .entry)) (now (merged .entry)) at)
+        → HoldsFrom (now (merged .exit)) (now (merged .entry)) at r
+        (flat width (lay none (flatMap (run (y .entered .rule) (y .entered .ps)) (slice from to (now (w .entry))))))) ⌝ }
 {
     let mut have: usize = 0;
     let mut k = from;
@@ -83,7 +88,8 @@ fn lay_walk<'a>(
     at: usize,
 ) -> usize
     requires { ⌜ Mergeable width (now w) old from to (now input) (now spare) (now merged) at ⌝ }
-    ensures { λ r. ⌜ ((y : Mergeable width (now (w .entry)) old from to (now (input .entry)) (now (spare .entry)) (now (merged .entry)) at) → HoldsFrom (now (merged .exit)) (now (merged .entry)) at r (flat width (joinedOf (y .entered) .points))) ⌝ }
+    ensures { λ r. ⌜ ((y : Mergeable width (now (w .entry)) old from to (now (input .entry)) (now (spare .entry)) (now (merged .entry)) at)
+        → HoldsFrom (now (merged .exit)) (now (merged .entry)) at r (flat width (joinedOf (y .entered) .points))) ⌝ }
 {
     if to - from == 1 {
         let p = old + w[from] as usize / 2 * PIECE;
@@ -126,7 +132,9 @@ fn emit_walk<'a>(
     c: usize,
 ) -> usize
     requires { ⌜ Emittable width (now w) old from to (now input) (now spare) (now merged) at b c ⌝ }
-    ensures { λ r. ⌜ ((y : Emittable width (now (w .entry)) old from to (now (input .entry)) (now (spare .entry)) (now (merged .entry)) at b c) → Emitted width (now (w .exit)) (now (w .entry)) (now (merged .exit)) (now (merged .entry)) (y .laying .entered .counts) (joinedOf (y .laying .entered)) at m c r) ⌝ }
+    ensures { λ r. ⌜ ((y : Emittable width (now (w .entry)) old from to (now (input .entry)) (now (spare .entry)) (now (merged .entry)) at b c)
+        → Emitted width (now (w .exit)) (now (w .entry)) (now (merged .exit)) (now (merged .entry)) (y .laying .entered .counts)
+        (joinedOf (y .laying .entered)) at m c r) ⌝ }
 {
     if b == 1 {
         let p = old + w[from] as usize / 2 * PIECE;
@@ -156,7 +164,9 @@ fn emit_walks<'a>(
     merged: &mut [u64],
 )
     requires { ⌜ Walks width (now w) n old m entries lengths r (now input) (now spare) (now merged) ⌝ }
-    ensures { λ _. ⌜ ((y : Walks width (now (w .entry)) n old m entries lengths r (now (input .entry)) (now (spare .entry)) (now (merged .entry))) → Tabled width (now (w .exit)) (now (w .entry)) n (now (merged .exit)) (now (merged .entry)) (y .counts) (map (merge (y .rule) (y .ps)) (y .ws))) ⌝ }
+    ensures { λ _. ⌜ ((y : Walks width (now (w .entry)) n old m entries lengths r (now (input .entry)) (now (spare .entry)) (now (merged .entry)))
+        → Tabled width (now (w .exit)) (now (w .entry)) n (now (merged .exit)) (now (merged .entry)) (y .counts)
+        (map (merge (y .rule) (y .ps)) (y .ws))) ⌝ }
 {
     let mut from = entries;
     let mut members: usize = 0;
@@ -294,7 +304,9 @@ pub fn emit_all<'a>(
     merged: &mut [u64],
 )
     requires { ⌜ Walks width (now w) n old m entries lengths r (now input) (now spare) (now merged) ⌝ }
-    ensures { λ _. ⌜ ((y : Walks width (now (w .entry)) n old m entries lengths r (now (input .entry)) (now (spare .entry)) (now (merged .entry))) → Done width (now (w .exit)) (now (w .entry)) n (now (input .entry)) (now (merged .exit)) (now (merged .entry)) (y .counts) (map (merge (y .rule) (y .ps)) (y .ws))) ⌝ }
+    ensures { λ _. ⌜ ((y : Walks width (now (w .entry)) n old m entries lengths r (now (input .entry)) (now (spare .entry)) (now (merged .entry)))
+        → Done width (now (w .exit)) (now (w .entry)) n (now (input .entry)) (now (merged .exit)) (now (merged .entry)) (y .counts)
+        (map (merge (y .rule) (y .ps)) (y .ws))) ⌝ }
 {
     emit_walks(
         w,

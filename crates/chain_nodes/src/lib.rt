@@ -31,7 +31,10 @@ fn join_junction<'a>(
     spare: &'a [u64],
 )
     requires { ⌜ Junction width (now w) n m e limit (now input) (now spare) ⌝ }
-    ensures { λ _. ⌜ ((y : Junction width (now (w .entry)) n m e limit (now (input .entry)) (now (spare .entry))) → Joined (now (w .exit)) (now (w .entry)) n m (fill (slice (n * joinBlock) (n * joinBlock + m) (now (w .entry))) (joined (y .noded .rule) (y .noded .ps) (nodeOf (drop (n * groupBlock) (now (w .entry))) m e)))) ⌝ }
+    ensures { λ _. ⌜ ((y : Junction width (now (w .entry)) n m e limit (now (input .entry)) (now (spare .entry)))
+        → Joined (now (w .exit)) (now (w .entry)) n m
+        (fill (slice (n * joinBlock) (n * joinBlock + m) (now (w .entry)))
+        (joined (y .noded .rule) (y .noded .ps) (nodeOf (drop (n * groupBlock) (now (w .entry))) m e)))) ⌝ }
 {
     let d = chain_joins::list_node(w, n * NODE, n * GROUPS, m, e);
     chain_junctions::put_ends(w, n * TAKEN, n * NODE, n * PAIRING, d, width, input, spare);
@@ -52,7 +55,10 @@ fn join_node<'a>(
     spare: &'a [u64],
 )
     requires { ⌜ Noded width (now w) n m on limit (now input) (now spare) × (e < m) ⌝ }
-    ensures { λ _. ⌜ ((y : Noded width (now (w .entry)) n m on limit (now (input .entry)) (now (spare .entry))) → Joined (now (w .exit)) (now (w .entry)) n m (fill (slice (n * joinBlock) (n * joinBlock + m) (now (w .entry))) (joinsAt (y .rule) (y .ps) (drop (n * groupBlock) (now (w .entry))) m e))) ⌝ }
+    ensures { λ _. ⌜ ((y : Noded width (now (w .entry)) n m on limit (now (input .entry)) (now (spare .entry)))
+        → Joined (now (w .exit)) (now (w .entry)) n m
+        (fill (slice (n * joinBlock) (n * joinBlock + m) (now (w .entry)))
+        (joinsAt (y .rule) (y .ps) (drop (n * groupBlock) (now (w .entry))) m e))) ⌝ }
 {
     let groups = n * GROUPS;
     if (w[groups + m * LAST + e] as usize) < e {
@@ -86,7 +92,10 @@ pub fn join_nodes<'a>(
     spare: &'a [u64],
 )
     requires { ⌜ Noded width (now w) n m on limit (now input) (now spare) ⌝ }
-    ensures { λ _. ⌜ ((y : Noded width (now (w .entry)) n m on limit (now (input .entry)) (now (spare .entry))) → Joined (now (w .exit)) (now (w .entry)) n m (fill (slice (n * joinBlock) (n * joinBlock + m) (now (w .entry))) (flatMap (joined (y .rule) (y .ps)) (runsTo (drop (n * groupBlock) (now (w .entry))) m m)))) ⌝ }
+    ensures { λ _. ⌜ ((y : Noded width (now (w .entry)) n m on limit (now (input .entry)) (now (spare .entry)))
+        → Joined (now (w .exit)) (now (w .entry)) n m
+        (fill (slice (n * joinBlock) (n * joinBlock + m) (now (w .entry)))
+        (flatMap (joined (y .rule) (y .ps)) (runsTo (drop (n * groupBlock) (now (w .entry))) m m)))) ⌝ }
 {
     let mut e = 0;
     while e < m {

@@ -61,7 +61,8 @@ fn walk_pieces<'a>(
     spare: &'a [u64],
 ) -> usize
     requires { ⌜ Noded width (now w) n (m * 2) on limit (now input) (now spare) ⌝ }
-    ensures { λ r. ⌜ ((y : Noded width (now (w .entry)) n (m * 2) on limit (now (input .entry)) (now (spare .entry))) → RoundWalked width (now (w .exit)) n m r (y .rule) (y .counts) (y .ps) (now (input .entry)) (now (spare .entry))) ⌝ }
+    ensures { λ r. ⌜ ((y : Noded width (now (w .entry)) n (m * 2) on limit (now (input .entry)) (now (spare .entry)))
+        → RoundWalked width (now (w .exit)) n m r (y .rule) (y .counts) (y .ps) (now (input .entry)) (now (spare .entry))) ⌝ }
 {
     let joins = n * JOINS;
     point_slices::clear(&mut w[joins..], m * ENTRIES);

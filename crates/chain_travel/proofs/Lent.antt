@@ -32,7 +32,7 @@ places-drop zero l h = h
 places-drop (suc c) [] h = h
 places-drop (suc c) (p ∷ l) h = places-drop c l (places-split p l h .1)
 
-lines-places : (ps : List Point) (counts groups kinds : List ℕ) → anyNowhere ps ≡ false → Each (λ l. anyNowhere (l .points) ≡ false) (lines ps counts groups kinds)
+pub lines-places : (ps : List Point) (counts groups kinds : List ℕ) → anyNowhere ps ≡ false → Each (λ l. anyNowhere (l .points) ≡ false) (lines ps counts groups kinds)
 unfolding lines
 lines-places ps [] groups kinds h = nil
 lines-places ps (c ∷ counts) groups kinds h =

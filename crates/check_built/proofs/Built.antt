@@ -12,18 +12,18 @@ use Rattle.rules.specs.declared.Answer.{Answer}
 use Rattle.rules.specs.declared.Answer.the-variants.{Accepted}
 use Rattle.rules.specs.declared.Settings.{Settings}
 use Rattle.rules.specs.Lists.{count, total, upto, anyOf}
-use Rattle.rules.specs.Plane.{Point, points, flat}
+use Rattle.rules.specs.Plane.{points, flat}
 use Rattle.rules.specs.Chaining.{Piece, nothing, Line, chains}
 use Rattle.rules.specs.Types.{widthOf}
-use Rattle.rules.specs.Layout.{Lines, lines, linesIn, copy, table as table-of, build, laidOut}
+use Rattle.rules.specs.Layout.{Lines, linesIn, copy, table as table-of, build, laidOut}
 use Rattle.rules.specs.Refusals.{Rooms, firstOf, lineTests, originBad, short, entry, noChain, anyNowhere, lineRoom}
 use Rattle.rules.specs.Calls.{unless, answerOf, written, filled, Built}
 use Rattle.rules.specs.Check.{Delivery, listedAt, deliveredAt, badRecord, acceptable, accepted, checkRefusalOf, Checked}
-use Rattle.chain_laws.proofs.Counts.{Each, nil, cons, each-getD, count-at, count-append, upto-out}
+use Rattle.chain_laws.proofs.Counts.{Each, each-getD, count-at, count-append, upto-out}
 use Rattle.chain_laws.proofs.Lines.{linesOf, no-other-line}
 use Rattle.chain_laws.proofs.Room.{lines-length}
 use Rattle.chain_laws.proofs.Sound.{noLine, Sound, chains-sound}
-use Rattle.chain_travel.proofs.Values.{places-split}
+use Rattle.chain_travel.proofs.Lent.{lines-places}
 use Rattle.build_lines.specs.Taken.{Adds}
 use Rattle.build_refusals.proofs.Laws.{Left, lines-numbered, opened, restTests, parted, climbed, rung, top}
 use Rattle.build_reading.proofs.Reading.{by-index, Stands, line-stands, chain-there}
@@ -33,25 +33,6 @@ use Rattle.check_laws.proofs.Rows.{each-none}
 use Rattle.check_built.specs.Built.{meetingOf, builtDelivery}
 use Rattle.check_built.proofs.Records.{listing-read, listing-inside}
 use Rattle.check_built.proofs.Accepted.{deliveredOf, chains-acceptable}
-
--- ---- the lines' points are places
-
-places-take : (c : ℕ) (l : List Point) → anyNowhere l ≡ false → anyNowhere (take c l) ≡ false
-unfolding anyNowhere
-places-take zero l h = refl
-places-take (suc c) [] h = refl
-places-take (suc c) (p ∷ l) h = rw (places-split p l h .0, anyNowhere) (places-take c l (places-split p l h .1))
-
-places-drop : (c : ℕ) (l : List Point) → anyNowhere l ≡ false → anyNowhere (drop c l) ≡ false
-places-drop zero l h = h
-places-drop (suc c) [] h = h
-places-drop (suc c) (p ∷ l) h = places-drop c l (places-split p l h .1)
-
-lines-places : (ps : List Point) (counts groups kinds : List ℕ) → anyNowhere ps ≡ false → Each (λ l. anyNowhere (l .points) ≡ false) (lines ps counts groups kinds)
-unfolding lines
-lines-places ps [] groups kinds h = nil
-lines-places ps (c ∷ counts) groups kinds h =
-    cons (places-take c ps h) (lines-places (drop c ps) counts (drop 1 groups) (drop 1 kinds) (places-drop c ps h))
 
 -- a line of a chain is among all
 in-all : (y : ℕ) (qs : List Piece) (i : ℕ) → 0 < count y (getD qs i nothing .lines) → 0 < count y (linesOf qs)

@@ -4,7 +4,7 @@ use mathlib.Core.Path.{_≡_, refl, sym, ap, _∙_}
 use mathlib.Core.List.{List, [], _∷_, _++_, map, flatMap}
 use native.Mathlib.Omega.{arith}
 use lib.ListN.{length, getD, take, drop, replicate, length-take, length-drop, length-append, length-replicate, List·getD-map}
-use Rattle.rules.specs.Lists.{total, from, upto}
+use Rattle.rules.specs.Lists.{total, upto}
 use Rattle.rules.specs.Plane.{flat}
 use Rattle.rules.specs.Boxes.{boxOf, stacked, boxNumbers}
 use Rattle.rules.specs.Chaining.{Piece, nothing, Line}
@@ -16,15 +16,7 @@ use Rattle.chain_laws.proofs.Drawn.{listing-long}
 use Rattle.chain_laws.proofs.Sound.{noLine, Sound}
 use Rattle.build_reading.specs.Reading.{ChainRead, readAt, readAll, readOf}
 use Rattle.build_reading.proofs.Reading.{Stands, chains-read}
-
-upto-at : (n i : ℕ) → i < n → getD (upto n) i 0 ≡ i
-unfolding upto from
-upto-at n i h = go 0 n i h ∙ omega arith
-  where
-    go : (k n i : ℕ) → i < n → getD (from k n) i 0 ≡ k + i
-    go k zero i h = absurd (omega arith)
-    go k (suc n) zero h = omega arith
-    go k (suc n) (suc i) h = go (suc k) n i (omega arith) ∙ omega arith
+use Rattle.check_laws.proofs.Rows.{upto-at}
 
 map-at : {A B : Type 0} (f : A → B) (l : List A) (i : ℕ) (a : A) (b : B) → i < length l → getD (map f l) i b ≡ f (getD l i a)
 map-at f [] i a b h = absurd (omega arith)

@@ -20,10 +20,10 @@ use Rattle.rules.specs.Check.{Delivered, linesOf, listedAt, fits, acceptable}
 use Rattle.chain_laws.proofs.Counts.{upto-length}
 use Rattle.chain_laws.proofs.Room.{lines-length}
 use Rattle.lent_laws.proofs.Tests.{flat-suc, flat-none, flat-part}
-use Rattle.check_laws.proofs.Rows.{all-next, all-stop, all-end, all-fails, each-all, all-map}
+use Rattle.check_laws.proofs.Rows.{all-next, all-stop, all-end, all-fails, each-all, all-map, upto-at}
 use Rattle.check_lines.specs.Lines.{AllSeen}
 use Rattle.check_calls.specs.Deliveries.{RecordFine, SeenMarked, fitsAt, ChainJudged, deliveredBy}
-use Rattle.check_calls.proofs.Records.{upto-at, flat-below}
+use Rattle.check_calls.proofs.Records.{flat-below}
 
 flat-map : {A : Type 0} (f : A → List ℕ) (g : ℕ → A) (l : List ℕ) → flatMap f (map g l) ≡ flatMap (λ (k : ℕ). f (g k)) l
 unfolding flatMap

@@ -9,7 +9,7 @@ use native.Mathlib.Nat.{add-mul}
 use lib.Dec.{leb, ltb}
 use lib.ListN.{length, getD, take, drop, length-take, length-drop}
 use borrow.Author.Tests.{lt-ltb, le-ltb, ltb-false, leb-false}
-use Rattle.rules.specs.Lists.{count, from, upto, anyOf}
+use Rattle.rules.specs.Lists.{count, upto, anyOf}
 use Rattle.rules.specs.Refusals.{entry, noChain, sourceOf, recordSize, mostLines}
 use Rattle.rules.specs.Check.{listedAt}
 use Rattle.point_numbers.specs.Width.{Whole}
@@ -17,22 +17,10 @@ use Rattle.chain_laws.proofs.Counts.{one-other, pigeon}
 use Rattle.build_question.specs.Parts.{partOf}
 use Rattle.build_question.proofs.Laws.{stands, part-there}
 use Rattle.lent_laws.proofs.Tests.{flat-suc, flat-none}
-use Rattle.check_laws.proofs.Rows.{none-each}
+use Rattle.check_laws.proofs.Rows.{none-each, upto-at}
 use Rattle.check_laws.proofs.Tests.{or-no, or-yes}
 use Rattle.check_lines.specs.Lines.{Below}
 use Rattle.check_calls.specs.Deliveries.{badAt, RecordFine}
-
--- ---- the numbers up to n
-
-from-at : (k n i : ℕ) → i < n → getD (from k n) i 0 ≡ k + i
-unfolding from
-from-at k zero i h = absurd (omega arith)
-from-at k (suc n) zero h = omega arith
-from-at k (suc n) (suc i) h = from-at (suc k) n i (omega arith) ∙ omega arith
-
-pub upto-at : (n i : ℕ) → i < n → getD (upto n) i 0 ≡ i
-unfolding upto
-upto-at n i h = from-at 0 n i h ∙ omega arith
 
 -- ---- a line that is listed is below n
 

@@ -20,7 +20,8 @@ pub struct Held {
 // The first line: at the first place, in both directions.
 fn begin(marks: &mut [u8; MOST_LINES], chain: &[u64], width: usize, line: &[u64]) -> Held
     requires { ⌜ ChainGround width (now chain) (now line) × (length (now marks) ≡ mostLines) ⌝ }
-    ensures { λ r. ⌜ FirstLineLies (points width (now (chain .entry))) (points width (now (line .entry))) (now (marks .exit)) r × (length (now (marks .exit)) ≡ mostLines) ⌝ }
+    ensures { λ r. ⌜ FirstLineLies (points width (now (chain .entry))) (points width (now (line .entry))) (now (marks .exit)) r
+        × (length (now (marks .exit)) ≡ mostLines) ⌝ }
 {
     let drawn = check_places::reach(chain, width, 0, line, false);
     let turned = check_places::reach(chain, width, 0, line, true);
@@ -59,7 +60,8 @@ fn fill_open(
     n: usize,
 ) -> usize
     requires { ⌜ Line width (now chain) (now line) × (from ≤ far) × (0 < n) × (n ≤ mostLines) × Tables (now fits) (now near) ⌝ }
-    ensures { λ r. ⌜ FilledOpen ways width (now (chain .entry)) (now (line .entry)) turned from n (now (fits .exit)) r × Tables (now (fits .exit)) (now (near .exit)) ⌝ }
+    ensures { λ r. ⌜ FilledOpen ways width (now (chain .entry)) (now (line .entry)) turned from n (now (fits .exit)) r
+        × Tables (now (fits .exit)) (now (near .exit)) ⌝ }
 {
     if ways == 0 {
         return 0;
@@ -139,9 +141,11 @@ fn advance_at(
     h: Held,
     m: Meeting,
 ) -> Held
-    requires { ⌜ (pa ≤ pb) × (pb ≤ length (now coordinates)) × (a ≤ b) × (b ≤ length (now coordinates)) × Advancing width (now chain) (part (now coordinates) pa pb) (part (now coordinates) a b) (now marks) h
+    requires { ⌜ (pa ≤ pb) × (pb ≤ length (now coordinates)) × (a ≤ b) × (b ≤ length (now coordinates))
+        × Advancing width (now chain) (part (now coordinates) pa pb) (part (now coordinates) a b) (now marks) h
         × MarkRooms (now marks) (now «drawn_fits») (now «turned_fits») (now near) ⌝ }
-    ensures { λ r. ⌜ ((y : Advancing width (now (chain .entry)) (part (now (coordinates .entry)) pa pb) (part (now (coordinates .entry)) a b) (now (marks .entry)) h)
+    ensures { λ r. ⌜ ((y : Advancing width (now (chain .entry)) (part (now (coordinates .entry)) pa pb) (part (now (coordinates .entry)) a b)
+        (now (marks .entry)) h)
         → Steps m (points width (now (chain .entry))) (points width (part (now (coordinates .entry)) pa pb))
         (points width (part (now (coordinates .entry)) a b)) (y .passed) (now (marks .entry)) h (now (marks .exit)) r)
         × MarkRooms (now (marks .exit)) (now («drawn_fits» .exit)) (now («turned_fits» .exit)) (now (near .exit)) ⌝ }

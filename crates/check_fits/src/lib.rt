@@ -28,7 +28,8 @@ fn joins(
 ) -> bool
     requires { ⌜ LinesTabled width (now coordinates) (now firsts) (now counts) (now groups) (now kinds) × ChainLent width (now counts) (now listed) (now chain)
         × (0 < length (now listed)) × MarkRooms (now marks) (now «drawn_fits») (now «turned_fits») (now near) ⌝ }
-    ensures { λ r. ⌜ (r ≡ joined m (chosen width (now (coordinates .entry)) (now (counts .entry)) (now (groups .entry)) (now (kinds .entry)) (now (listed .entry)))
+    ensures { λ r. ⌜ (r ≡ joined m (chosen width (now (coordinates .entry)) (now (counts .entry)) (now (groups .entry)) (now (kinds .entry))
+        (now (listed .entry)))
         (points width (now (chain .entry))))
         × MarkRooms (now (marks .exit)) (now («drawn_fits» .exit)) (now («turned_fits» .exit)) (now (near .exit)) ⌝ }
 {
@@ -66,7 +67,8 @@ fn lone_fits(
 ) -> bool
     requires { ⌜ LinesTabled width (now coordinates) (now firsts) (now counts) (now groups) (now kinds) × ChainLent width (now counts) (now listed) (now chain)
         × (length (now listed) ≡ 1) ⌝ }
-    ensures { λ r. ⌜ ((m : Meets) → r ≡ fits m (chosen width (now (coordinates .entry)) (now (counts .entry)) (now (groups .entry)) (now (kinds .entry)) (now (listed .entry)))
+    ensures { λ r. ⌜ ((m : Meets) → r ≡ fits m (chosen width (now (coordinates .entry)) (now (counts .entry)) (now (groups .entry))
+        (now (kinds .entry)) (now (listed .entry)))
         (points width (now (chain .entry)))) ⌝ }
 {
     let y = listed[0] as usize;
@@ -93,7 +95,8 @@ pub fn chain_fits(
 ) -> bool
     requires { ⌜ LinesTabled width (now coordinates) (now firsts) (now counts) (now groups) (now kinds) × ChainLent width (now counts) (now listed) (now chain)
         × MarkRooms (now marks) (now «drawn_fits») (now «turned_fits») (now near) ⌝ }
-    ensures { λ r. ⌜ (r ≡ fits m (chosen width (now (coordinates .entry)) (now (counts .entry)) (now (groups .entry)) (now (kinds .entry)) (now (listed .entry)))
+    ensures { λ r. ⌜ (r ≡ fits m (chosen width (now (coordinates .entry)) (now (counts .entry)) (now (groups .entry)) (now (kinds .entry))
+        (now (listed .entry)))
         (points width (now (chain .entry))))
         × MarkRooms (now (marks .exit)) (now («drawn_fits» .exit)) (now («turned_fits» .exit)) (now (near .exit)) ⌝ }
 {

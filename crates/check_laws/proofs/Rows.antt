@@ -7,7 +7,7 @@ use native.Mathlib.Omega.{arith}
 use native.Mathlib.Numerals.{add-one}
 use lib.ListN.{length, drop, getD, drop-of-length-le}
 use lib.Seq.{drop-cons}
-use Rattle.rules.specs.Lists.{anyOf, allOf}
+use Rattle.rules.specs.Lists.{anyOf, allOf, from, upto}
 
 module _ {A : Type 0} (t : A → Bool) where
   all-yes : (a : A) (l : List A) → t a ≡ true → allOf t (a ∷ l) ≡ allOf t l
@@ -108,3 +108,15 @@ all-same t u (a ∷ l) d f = go (t a) refl (all-same t u l d (λ i h. f (suc i) 
     go : (b : Bool) → t a ≡ b → allOf t l ≡ allOf u l → allOf t (a ∷ l) ≡ allOf u (a ∷ l)
     go true q h = all-yes t a l q ∙ h ∙ sym (all-yes u a l (sym (f 0 (omega arith)) ∙ q))
     go false q h = all-no t a l q ∙ sym (all-no u a l (sym (f 0 (omega arith)) ∙ q))
+
+-- ---- the numbers up to n
+
+from-at : (k n i : ℕ) → i < n → getD (from k n) i 0 ≡ k + i
+unfolding from
+from-at k zero i h = absurd (omega arith)
+from-at k (suc n) zero h = omega arith
+from-at k (suc n) (suc i) h = from-at (suc k) n i (omega arith) ∙ omega arith
+
+pub upto-at : (n i : ℕ) → i < n → getD (upto n) i 0 ≡ i
+unfolding upto
+upto-at n i h = from-at 0 n i h ∙ omega arith

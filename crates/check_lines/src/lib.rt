@@ -28,7 +28,8 @@ pub fn all_plain(listed: &[u32], counts: &[u32], kinds: &[u8]) -> bool
 // Whether all lines that are listed have the group of the first.
 pub fn one_group(listed: &[u32], groups: &[u32]) -> bool
     requires { ⌜ (0 < length (now listed)) × Below (length (now groups)) (now listed) ⌝ }
-    ensures { λ r. ⌜ r ≡ allOf (groupIs (now (groups .entry)) (getD (now (groups .entry)) (getD (now (listed .entry)) 0 0) 0)) (drop 1 (now (listed .entry))) ⌝ }
+    ensures { λ r. ⌜ r ≡ allOf (groupIs (now (groups .entry)) (getD (now (groups .entry)) (getD (now (listed .entry)) 0 0) 0))
+        (drop 1 (now (listed .entry))) ⌝ }
 {
     let group = groups[listed[0] as usize];
     let mut i: usize = 1;

@@ -222,7 +222,8 @@ pub fn fill(
     n: usize,
 ) -> usize
     requires { ⌜ PlaceGround width (now chain) (now line) × (from ≤ far) × (0 < n) × (n ≤ mostLines) × Tables (now fits) (now near) ⌝ }
-    ensures { λ r. ⌜ PlacesFilled width (now (chain .entry)) (now (line .entry)) turned from n (now (fits .exit)) r × Tables (now (fits .exit)) (now (near .exit)) ⌝ }
+    ensures { λ r. ⌜ PlacesFilled width (now (chain .entry)) (now (line .entry)) turned from n (now (fits .exit)) r
+        × Tables (now (fits .exit)) (now (near .exit)) ⌝ }
 {
     let mut s = scan_first(chain, width, line, turned, from);
     fits[0] = fit(s);

@@ -244,7 +244,8 @@ pub extern "C" fn lovasuku_read_wkb(
     counts: &mut [u32],
     wkb_type: &mut [u32],
 ) -> u64
-    ensures { λ r. ⌜ Numbered (λ a. Read (runAs (now (run .entry)) (now (lengths .entry)) (now (coordinates .entry)) (now (counts .entry)) (now («wkb_type» .entry)))
+    ensures { λ r. ⌜ Numbered (λ a. Read (runAs (now (run .entry)) (now (lengths .entry)) (now (coordinates .entry)) (now (counts .entry))
+        (now («wkb_type» .entry)))
         a (now (coordinates .exit)) (now (counts .exit)) (now («wkb_type» .exit))) r ⌝ }
 {
     number(wkb_reading::read(run, lengths, coordinates, counts, wkb_type))

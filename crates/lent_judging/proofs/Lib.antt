@@ -3,3 +3,4 @@ pub mod Lines
 pub mod Single
 pub mod Pieces
 pub mod All
+pub mod Front

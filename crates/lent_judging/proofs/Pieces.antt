@@ -74,7 +74,7 @@ unfolding sourceOf
 source-one k a b e = ap (λ (i : ℕ). sourceOf i a b) e
 
 -- a part of places has places
-part-places : (w : ℕ) (l : List ℕ) (f c : ℕ) → 2 ≤ w → anyNowhere (points w l) ≡ false → (f + c) * w ≤ length l → anyNowhere (points w (take (c * w) (drop (f * w) l))) ≡ false
+pub part-places : (w : ℕ) (l : List ℕ) (f c : ℕ) → 2 ≤ w → anyNowhere (points w l) ≡ false → (f + c) * w ≤ length l → anyNowhere (points w (take (c * w) (drop (f * w) l))) ≡ false
 part-places w l f c two e h =
     let o : 0 < w = omega arith in
     ap anyNowhere

@@ -15,6 +15,7 @@ use Rattle.rules.specs.Pieces.{LentPieces, lentPieces, plainLines, membersAt, l
 use Rattle.build_lines.proofs.Passing.{plainAt}
 use Rattle.lent_laws.specs.Passes.{FrameFine, PieceFine, Passes}
 use Rattle.lent_noting.specs.Noting.{Placed, PlacesTabled, Fit}
+use Rattle.lent_judging.specs.Front.{FrontClean}
 
 -- what the refusals of its lines leave of a call
 pub record LinesSized (w : ℕ) (l : Lines) : Type 0 where
@@ -125,10 +126,11 @@ pub record OneAsked (seen places counts kinds pieces members marks listing : Lis
   pub frame : FrameFine width (lent coordinates counts groups kinds) (lentPieces pieces members marks listing merged number) q
   pub one-line : getD pieces (q * pieceSize + 1) 0 ≡ 1
 
-pub record MoreAsked (w : ℕ) (seen counts groups kinds pieces members marks listing merged : List ℕ) (q : ℕ) : Type 0 where
+pub record MoreAsked (w clean : ℕ) (seen counts groups kinds pieces members marks listing merged : List ℕ) (q : ℕ) : Type 0 where
   pub coordinates : List ℕ
   pub places : List ℕ
   pub number : ℕ
   pub judgeable : Judgeable w (lent coordinates counts groups kinds) (lentPieces pieces members marks listing merged number) seen places q
   pub frame : FrameFine w (lent coordinates counts groups kinds) (lentPieces pieces members marks listing merged number) q
+  pub front : FrontClean w merged clean
   pub more-lines : getD pieces (q * pieceSize + 1) 0 ≢ 1

@@ -1,5 +1,6 @@
 // Refusal 19: pieces that a call lends, judged with no workspace and with nothing stored. Lines are noted in a small table; a piece of one line is judged
-// without a loop, and its coordinates are places because the input's are.
+// without a loop, and its coordinates are places because the input's are. The merged coordinates are looked at together, and piece by piece only where one is
+// none.
 use rules::PIECE;
 ghost use mathlib.Core.Path.{_≡_};
 ghost use Prim.Native.Nat.{_+_, _*_, _≤_};
@@ -8,6 +9,7 @@ ghost use Rattle.rules.specs.Layout.{lent};
 ghost use Rattle.rules.specs.Refusals.{mostLines, pieceSize};
 ghost use Rattle.rules.specs.Pieces.{lentPieces, lentBad};
 ghost use Rattle.lent_judging.specs.Judging.{LinesSized, FrameJudged, OneLent, OneJudged, LinesLent, LinesJudged, pointsBad, Judgeable, PieceJudged, OneAsked, MoreAsked};
+ghost use Rattle.lent_judging.specs.Front.{FrontClean, lastEnd, cleanTo};
 
 // Whether a record names no line or no coordinate, or leaves its slices, of which the lengths are given.
 fn frame_bad(
@@ -111,13 +113,23 @@ fn lines_bad(
     !lent_noting::note_listing(seen, listing)
 }
 
-// Whether a piece of more lines is refused by its coordinates: they aren't merged ones, or one is no place.
-fn points_bad(width: usize, merged: &[u64], source: u32, point: u32, points: u32) -> bool
-    requires { ⌜ (2 ≤ width) × (width ≤ 4) × (source ≡ 1 → (point + points) * width ≤ length (now merged)) ⌝ }
+// Whether a piece of more lines is refused by its coordinates: they aren't merged ones, or one is no place. The first `clean` merged ones are places.
+fn points_bad(
+    width: usize,
+    merged: &[u64],
+    clean: usize,
+    source: u32,
+    point: u32,
+    points: u32,
+) -> bool
+    requires { ⌜ (2 ≤ width) × (width ≤ 4) × (source ≡ 1 → (point + points) * width ≤ length (now merged)) × FrontClean width (now merged) clean ⌝ }
     ensures { λ r. ⌜ r ≡ pointsBad width source point points (now (merged .entry)) ⌝ }
 {
     if source != 1 {
         return true;
+    }
+    if point as usize + points as usize <= clean {
+        return false;
     }
     let from = point as usize * width;
     let end = from + points as usize * width;
@@ -203,10 +215,11 @@ fn more_at(
     marks: &[u8],
     listing: &[u32],
     merged: &[u64],
+    clean: usize,
     q: usize,
 ) -> bool
-    requires { ⌜ MoreAsked width (now seen) (now counts) (now groups) (now kinds) (now pieces) (now members) (now marks) (now listing) (now merged) q ⌝ }
-    ensures { λ r. ⌜ ((y : MoreAsked width (now (seen .entry)) (now (counts .entry)) (now (groups .entry)) (now (kinds .entry))
+    requires { ⌜ MoreAsked width clean (now seen) (now counts) (now groups) (now kinds) (now pieces) (now members) (now marks) (now listing) (now merged) q ⌝ }
+    ensures { λ r. ⌜ ((y : MoreAsked width clean (now (seen .entry)) (now (counts .entry)) (now (groups .entry)) (now (kinds .entry))
         (now (pieces .entry)) (now (members .entry)) (now (marks .entry)) (now (listing .entry)) (now (merged .entry)) q)
         → PieceJudged width (lent (y .coordinates) (now (counts .entry)) (now (groups .entry)) (now (kinds .entry)))
         (lentPieces (now (pieces .entry)) (now (members .entry)) (now (marks .entry)) (now (listing .entry)) (now (merged .entry)) (y .number))
@@ -229,6 +242,7 @@ fn more_at(
     points_bad(
         width,
         merged,
+        clean,
         pieces[at + 2],
         pieces[at + 3],
         pieces[at + 4],
@@ -249,11 +263,13 @@ fn judge(
     marks: &[u8],
     listing: &[u32],
     merged: &[u64],
+    clean: usize,
     k: u64,
     q: usize,
 ) -> bool
     requires { ⌜ Judgeable width (lent (now coordinates) (now counts) (now groups) (now kinds))
-        (lentPieces (now pieces) (now members) (now marks) (now listing) (now merged) k) (now seen) (now places) q ⌝ }
+        (lentPieces (now pieces) (now members) (now marks) (now listing) (now merged) k) (now seen) (now places) q
+        × FrontClean width (now merged) clean ⌝ }
     ensures { λ r. ⌜ PieceJudged width (lent (now (coordinates .entry)) (now (counts .entry)) (now (groups .entry)) (now (kinds .entry)))
         (lentPieces (now (pieces .entry)) (now (members .entry)) (now (marks .entry)) (now (listing .entry)) (now (merged .entry)) k)
         (now (seen .exit)) q r ⌝ }
@@ -294,8 +310,41 @@ fn judge(
         marks,
         listing,
         merged,
+        clean,
         q,
     )
+}
+
+// Where the coordinates of the last of k pieces end that has merged ones, or 0.
+fn last_end(pieces: &[u32], k: usize) -> usize
+    requires { ⌜ k * pieceSize ≤ length (now pieces) ⌝ }
+    ensures { λ r. ⌜ (r ≡ lastEnd (now (pieces .entry)) k) × (r ≤ 8589934590) ⌝ }
+{
+    let mut q = k;
+    while 0 < q {
+        let at = (q - 1) * PIECE;
+        if pieces[at + 2] != 0 {
+            return pieces[at + 3] as usize + pieces[at + 4] as usize;
+        }
+        q -= 1;
+    }
+    0
+}
+
+// How many of the first merged coordinates are places: all up to the end of the last piece that has some, or none.
+fn clean_front(width: usize, pieces: &[u32], k: usize, merged: &[u64]) -> usize
+    requires { ⌜ (2 ≤ width) × (width ≤ 4) × (k * pieceSize ≤ length (now pieces)) ⌝ }
+    ensures { λ r. ⌜ r ≡ cleanTo width (now (merged .entry)) (lastEnd (now (pieces .entry)) k) ⌝ }
+{
+    let end = last_end(pieces, k);
+    let numbers = end * width;
+    if merged.len() < numbers {
+        return 0;
+    }
+    if build_refusals::any_nowhere(&merged[0..numbers], width) {
+        return 0;
+    }
+    end
 }
 
 // Refusal 19: whether the k pieces that a call lends are refused. The lines are such as their own refusals leave.
@@ -323,6 +372,7 @@ pub fn lent_bad(
     let mut places = [0u32; 4096];
     let c = lent_noting::place_lines(&mut places, counts) as usize;
     let number = k as usize;
+    let clean = clean_front(width, pieces, number, merged);
     let mut sum: usize = 0;
     let mut q: usize = 0;
     while q < number {
@@ -339,6 +389,7 @@ pub fn lent_bad(
             marks,
             listing,
             merged,
+            clean,
             k,
             q,
         ) {

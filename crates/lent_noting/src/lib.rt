@@ -6,7 +6,7 @@ ghost use mathlib.Core.Bool.{_&&_};
 ghost use Prim.Native.Nat.{_≤_};
 ghost use lib.Dec.{eqb, leb};
 ghost use lib.ListN.{length};
-ghost use Rattle.rules.specs.Lists.{total};
+ghost use Rattle.rules.specs.Lists.{one, total};
 ghost use Rattle.rules.specs.Refusals.{mostLines, mostPoints};
 ghost use Rattle.lent_noting.specs.Noting.{Placed, fresh, PlacesTabled, MembersNoted, ListingNoted, AllNoted};
 
@@ -92,27 +92,29 @@ pub fn note_listing(seen: &mut [u8; 4096], listing: &[u32]) -> bool
     true
 }
 
-// Whether a line is plain and has no mark.
-fn unnoted(count: u32, kind: u8, mark: u8) -> bool
-    ensures { λ r. ⌜ r ≡ ((eqb kind 0 && leb 2 count) && eqb mark 0) ⌝ }
+// 1 for a line that is plain and has no mark, and 0 for another.
+fn unnoted(count: u32, kind: u8, mark: u8) -> u32
+    ensures { λ r. ⌜ r ≡ one ((eqb kind 0 && leb 2 count) && eqb mark 0) ⌝ }
 {
-    if build_lines::is_plain(count, kind) {
-        return mark == 0;
+    if !build_lines::is_plain(count, kind) {
+        return 0;
     }
-    false
+    if mark == 0 {
+        return 1;
+    }
+    0
 }
 
-// Whether each plain line has a mark.
+// Whether each plain line has a mark. All are looked at, so that several go at once.
 pub fn all_noted(seen: &[u8; 4096], counts: &[u32], kinds: &[u8]) -> bool
     requires { ⌜ (length (now seen) ≡ mostLines) × (length (now counts) ≤ mostLines) × (length (now kinds) ≡ length (now counts)) ⌝ }
     ensures { λ r. ⌜ AllNoted (now (seen .entry)) (now (counts .entry)) (now (kinds .entry)) r ⌝ }
 {
+    let mut left: u32 = 0;
     let mut y: usize = 0;
     while y < counts.len() {
-        if unnoted(counts[y], kinds[y], seen[y]) {
-            return false;
-        }
+        left = left | unnoted(counts[y], kinds[y], seen[y]);
         y += 1;
     }
-    true
+    left == 0
 }

@@ -2,3 +2,4 @@ pub mod Parts
 pub mod Steps
 pub mod Standing
 pub mod Leaving
+pub mod Row

@@ -7,10 +7,14 @@ use chain_pieces::TAKEN_LISTING;
 use chain_pieces::TAKEN_MARKS;
 use chain_pieces::TAKEN_MEMBERS;
 use rules::PIECE;
-ghost use Prim.Native.Nat.{_+_, _≤_};
+ghost use mathlib.Core.Path.{_≡_};
+ghost use mathlib.Core.Bool.{true};
+ghost use Prim.Native.Nat.{_+_, _*_, _≤_};
 ghost use lib.ListN.{length};
+ghost use Rattle.rules.specs.Refusals.{pieceSize};
 ghost use Rattle.point_slices.specs.Holds.{HoldsFrom};
 ghost use Rattle.lent_taking.specs.Taking.{PiecesTakable, Took, PieceTakable, PieceTook};
+ghost use Rattle.lent_taking.specs.Row.{rowEnd, inRow};
 ghost use Rattle.lent_taking.specs.Leaving.{Leavable, PiecesLeft};
 
 // Numbers as words, from `at` on.
@@ -72,8 +76,8 @@ fn take_piece(
     count
 }
 
-// The k pieces that a call lends, into the block of those that go into a round. Returns how many members they have in all.
-pub fn take_pieces(
+// The k pieces that a call lends, one by one, into the block of those that go into a round. Returns how many members they have in all.
+fn take_each(
     w: &mut [u64],
     n: usize,
     k: usize,
@@ -92,6 +96,75 @@ pub fn take_pieces(
         q += 1;
     }
     m
+}
+
+// Whether the members of each of k pieces begin where those of the piece before it end, and those of the first at 0.
+fn in_a_row(pieces: &[u32], k: usize) -> bool
+    requires { ⌜ k * pieceSize ≤ length (now pieces) ⌝ }
+    ensures { λ r. ⌜ r ≡ inRow (now (pieces .entry)) k ⌝ }
+{
+    let mut end: usize = 0;
+    let mut q: usize = 0;
+    while q < k {
+        if pieces[q * PIECE] as usize != end {
+            return false;
+        }
+        end += pieces[q * PIECE + 1] as usize;
+        q += 1;
+    }
+    true
+}
+
+// How many members k pieces have whose members are in a row.
+fn row_end(pieces: &[u32], k: usize) -> usize
+    requires { ⌜ k * pieceSize ≤ length (now pieces) ⌝ }
+    ensures { λ r. ⌜ r ≡ rowEnd (now (pieces .entry)) k ⌝ }
+{
+    if k == 0 {
+        return 0;
+    }
+    let at = (k - 1) * PIECE;
+    pieces[at] as usize + pieces[at + 1] as usize
+}
+
+// The k pieces that a call lends, whose members are in a row: their records, members, marks and listing as they are. Returns how many members they have.
+fn take_row(
+    w: &mut [u64],
+    n: usize,
+    k: usize,
+    pieces: &[u32],
+    members: &[u32],
+    marks: &[u8],
+    listing: &[u32],
+) -> usize
+    requires { ⌜ PiecesTakable (now w) n k (now pieces) (now members) (now marks) (now listing) × (inRow (now pieces) k ≡ true) ⌝ }
+    ensures { λ r. ⌜ Took (now (w .exit)) (now (w .entry)) n k (now (pieces .entry)) (now (members .entry)) (now (marks .entry)) (now (listing .entry)) r ⌝ }
+{
+    let m = row_end(pieces, k);
+    take_numbers(w, n * TAKEN, &pieces[0..k * PIECE]);
+    take_numbers(w, n * TAKEN_MEMBERS, &members[0..m]);
+    take_marks(w, n * TAKEN_MARKS, &marks[0..m]);
+    take_numbers(w, n * TAKEN_LISTING, &listing[0..m]);
+    m
+}
+
+// The k pieces that a call lends, into the block of those that go into a round. Returns how many members they have in all.
+pub fn take_pieces(
+    w: &mut [u64],
+    n: usize,
+    k: usize,
+    pieces: &[u32],
+    members: &[u32],
+    marks: &[u8],
+    listing: &[u32],
+) -> usize
+    requires { ⌜ PiecesTakable (now w) n k (now pieces) (now members) (now marks) (now listing) ⌝ }
+    ensures { λ r. ⌜ Took (now (w .exit)) (now (w .entry)) n k (now (pieces .entry)) (now (members .entry)) (now (marks .entry)) (now (listing .entry)) r ⌝ }
+{
+    if in_a_row(pieces, k) {
+        return take_row(w, n, k, pieces, members, marks, listing);
+    }
+    take_each(w, n, k, pieces, members, marks, listing)
 }
 
 // The p pieces at the front of w, with m members in all, as a call leaves them.

@@ -46,7 +46,8 @@ pub fn build_offset(
     spare: &mut [u64],
     workspace: &mut [u64],
 ) -> Answer
-    ensures { λ r. ⌜ BuiltOffset «wkb_type» (lent (now (coordinates .entry)) (now (counts .entry)) (now (groups .entry)) (now (kinds .entry))) tolerance «origin_x» «origin_y» switch offset
+    ensures { λ r. ⌜ BuiltOffset «wkb_type» (lent (now (coordinates .entry)) (now (counts .entry)) (now (groups .entry)) (now (kinds .entry)))
+        tolerance «origin_x» «origin_y» switch offset
         (rooms (now (table .entry)) (now (members .entry)) (now (marks .entry)) (now (listing .entry))
         (now (merged .entry)) (now (boxes .entry)) (now (spare .entry)) (now (workspace .entry)))
         r (rooms (now (table .exit)) (now (members .exit)) (now (marks .exit)) (now (listing .exit))

@@ -270,3 +270,24 @@ part-stored {l′} {l} {h} src j n b s =
     let e : j + n - j ≡ n = omega arith in
     let s′ : HoldsFrom l′ l h (length (take n (drop j src))) (take n (drop j src)) = subst (λ (i : ℕ). HoldsFrom l′ l h (length (midOf j i src)) (midOf j i src)) e s in
     subst (λ (i : ℕ). HoldsFrom l′ l h i (take n (drop j src))) (length-take-le n (drop j src) (omega (arith, length-drop j src))) s′
+
+-- one number more of a part of another slice, stored by itself, and a part of three and of four so
+pub part-more : {d l : List ℕ} {at i : ℕ} (src : List ℕ) (j : ℕ) → HoldsFrom d l at i (take i (drop j src)) → at + i < length l → j + i < length src
+    → HoldsFrom (set d (at + i) (getD src (j + i) 0)) l at (i + 1) (take (i + 1) (drop j src))
+part-more {d} {l} {at} {i} src j h r b =
+    let one : HoldsFrom (set d (at + i) (getD (drop j src) i 0)) l at (i + 1) (take (i + 1) (drop j src)) =
+    subst (HoldsFrom (set d (at + i) (getD (drop j src) i 0)) l at (i + 1)) (sym (rw add-one (take-suc (drop j src) i 0 (omega (arith, length-drop j src)))))
+    (from-set h r (getD (drop j src) i 0)) in
+    subst (λ (v : ℕ). HoldsFrom (set d (at + i) v) l at (i + 1) (take (i + 1) (drop j src))) (getD-drop j src i 0) one
+
+module _ (l src : List ℕ) (at j : ℕ) where
+  pub three-put : at + 3 ≤ length l → j + 3 ≤ length src
+      → HoldsFrom (set (set (set l at (getD src j 0)) (at + 1) (getD src (j + 1) 0)) (at + 2) (getD src (j + 2) 0)) l at 3 (take 3 (drop j src))
+  three-put h k =
+      let one : HoldsFrom (set l at (getD src j 0)) l at 1 (take 1 (drop j src)) =
+      rw (add-zero at, add-zero j) at (part-more src j (from-start l at) (omega arith) (omega arith)) in
+      part-more src j (part-more src j one (omega arith) (omega arith)) (omega arith) (omega arith)
+
+  pub four-put : at + 4 ≤ length l → j + 4 ≤ length src
+      → HoldsFrom (set (set (set (set l at (getD src j 0)) (at + 1) (getD src (j + 1) 0)) (at + 2) (getD src (j + 2) 0)) (at + 3) (getD src (j + 3) 0)) l at 4 (take 4 (drop j src))
+  four-put h k = part-more src j (three-put (omega arith) (omega arith)) (omega arith) (omega arith)

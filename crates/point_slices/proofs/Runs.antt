@@ -16,9 +16,9 @@ use Rattle.float_bits.proofs.Equal.{apart}
 use Rattle.rules.specs.Plane.{Point, point, points, numbersOf, flat, equal}
 use Rattle.rules.specs.Chaining.{lay}
 use Rattle.point_numbers.specs.Width.{pointAt}
-use Rattle.point_numbers.proofs.Points.{numbers-length, numbers-x, numbers-y, part-back, equal-at, at-two, points-length, points-from, points-at}
+use Rattle.point_numbers.proofs.Points.{numbers-length, numbers-x, numbers-y, part-back, at-x, equal-at, at-two, points-length, points-from, points-at}
 use Rattle.point_slices.specs.Holds.{Holds, HoldsFrom}
-use Rattle.point_slices.specs.Run.{lastOf, laid, walked, Near}
+use Rattle.point_slices.specs.Run.{lastOf, laid, walked, Near, Pushed}
 use Rattle.point_slices.proofs.Laws.{holds-start, holds-then, holds-take, two-put}
 
 -- ---- one point
@@ -219,6 +219,37 @@ module _ (w : ℕ) (two : 2 ≤ w) (l : List ℕ) (h : ℕ) (p : Point) (room : 
         go : (t : Bool) → meets (lastOf w (take h l)) p ≡ t → Near w l′ r (p .x)
         go true e = near-met b e
         go false e = near-new e
+
+-- three numbers are two and more
+pub high-two : {w : ℕ} → 3 ≤ w → 2 ≤ w
+high-two h = omega arith
+
+pub high-one : {w : ℕ} → 3 ≤ w → 0 < w
+high-one h = omega arith
+
+-- the point at j of a source: kept out, or written behind the first h numbers
+module _ (w : ℕ) (two : 2 ≤ w) (l : List ℕ) (h : ℕ) (src : List ℕ) (j : ℕ) (room : h ≤ length l) (fits : getD src j 0 < 2 ^ 64) where
+  fits-at : pointAt w src j .x < 2 ^ 64
+  fits-at = subst (λ (v : ℕ). v < 2 ^ 64) (sym (at-x w two src j)) fits
+
+  pub apart-at : (last : ℕ) → Near w l h last → (getD src j 0 % 2 ^ 63 ≡ last % 2 ^ 63 → ⊥) → meets (lastOf w (take h l)) (pointAt w src j) ≡ false
+  apart-at last n o =
+      meets-apart w two l h (pointAt w src j) room fits-at last n (λ z. o (ap (λ (t : ℕ). t % 2 ^ 63) (sym (at-x w two src j)) ∙ z))
+
+  pub pushed-met : w ≤ h → getD l (h - w) 0 < 2 ^ 64
+      → equal (point (getD l (h - w) 0) (getD l (h - w + 1) 0)) (point (getD src j 0) (getD src (j + 1) 0)) ≡ true → Pushed w l l h h (pointAt w src j)
+  pushed-met o b e =
+      let push = kept w two l h (pointAt w src j) room (last-at w two l h src j room o ∙ e) in
+      record { holds = push; there = o; near = near-one w two l h (pointAt w src j) room fits-at l h push (λ _. b) }
+
+  pub pushed-new : {l′ : List ℕ} → j + w ≤ length src → HoldsFrom l′ l h w (take w (drop j src)) → meets (lastOf w (take h l)) (pointAt w src j) ≡ false
+      → Pushed w l′ l h (h + w) (pointAt w src j)
+  pushed-new {l′} k s e =
+      let push = more-at w two l h src j room k s e in
+      record { holds = push; there = omega arith; near = near-new w two l h (pointAt w src j) room fits-at l′ (h + w) push e }
+
+pub near-at : {w : ℕ} (two : 2 ≤ w) {l′ l : List ℕ} {h r : ℕ} (src : List ℕ) (j : ℕ) → Pushed w l′ l h r (pointAt w src j) → Near w l′ r (getD src j 0)
+near-at {w} two {l′} {l} {h} {r} src j push = subst (Near w l′ r) (at-x w two src j) (push .near)
 
 -- ---- on the way: h numbers of a slice, which held l₀ and holds l, are written, and the points that are left take them to the goal
 

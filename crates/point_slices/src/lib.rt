@@ -4,13 +4,13 @@ ghost use mathlib.Core.Path.{_≡_};
 ghost use mathlib.Core.Bool.{true, false};
 ghost use mathlib.Core.List.{[], _∷_, reverse};
 ghost use Prim.Native.Nat.{_+_, _≤_, _<_};
-ghost use lib.ListN.{length, take, replicate};
+ghost use lib.ListN.{length, take, drop, replicate};
 ghost use lib.Seq.{slice};
 ghost use Rattle.rules.specs.Calls.{cleared};
 ghost use Rattle.rules.specs.Plane.{point};
 ghost use Rattle.point_numbers.specs.Width.{pointAt, Whole};
 ghost use Rattle.point_slices.specs.Holds.{Holds, HoldsFrom, Blanks};
-ghost use Rattle.point_slices.specs.Run.{laid, walked, Near};
+ghost use Rattle.point_slices.specs.Run.{laid, walked, Near, Pushed};
 
 // The weight of a number's sign.
 const SIGN: u64 = 0x8000_0000_0000_0000;
@@ -38,7 +38,8 @@ fn push_two(rest: &mut [u64], have: usize, x: u64, y: u64) -> usize
 // As `push_two`, where the last point's x is `last` but for its sign: a point whose x has other bits is not equal to it, and no number is read.
 fn next_two(rest: &mut [u64], have: usize, last: u64, x: u64, y: u64) -> usize
     requires { ⌜ (have + 2 ≤ length (now rest)) × Near 2 (now rest) have last ⌝ }
-    ensures { λ r. ⌜ Holds (now (rest .exit)) (now (rest .entry)) r (laid 2 (take have (now (rest .entry))) (point x y ∷ [])) × Near 2 (now (rest .exit)) r x ⌝ }
+    ensures { λ r. ⌜ Holds (now (rest .exit)) (now (rest .entry)) r (laid 2 (take have (now (rest .entry))) (point x y ∷ []))
+        × Near 2 (now (rest .exit)) r x ⌝ }
 {
     if x % SIGN == last % SIGN {
         return push_two(rest, have, x, y);
@@ -132,8 +133,92 @@ fn backward_wide(rest: &mut [u64], have: usize, width: usize, src: &[u64]) -> us
     h
 }
 
+// The point at j of `src`, of three numbers or four, from `at` on.
+fn put_high(rest: &mut [u64], at: usize, width: usize, src: &[u64], j: usize)
+    requires { ⌜ (3 ≤ width) × (width ≤ 4) × (at + width ≤ length (now rest)) × (j + width ≤ length (now src)) ⌝ }
+    ensures { λ _. ⌜ HoldsFrom (now (rest .exit)) (now (rest .entry)) at width (take width (drop j (now (src .entry)))) ⌝ }
+{
+    rest[at] = src[j];
+    rest[at + 1] = src[j + 1];
+    rest[at + 2] = src[j + 2];
+    if width == 3 {
+        return;
+    }
+    rest[at + 3] = src[j + 3];
+}
+
+// The point at j of `src`, of three numbers or four, behind the first `have` numbers, unless it is equal to the last one there, whose x is `last` but for its
+// sign: a point whose x has other bits is not equal to it. Returns how many numbers there are.
+fn next_high(rest: &mut [u64], have: usize, width: usize, last: u64, src: &[u64], j: usize) -> usize
+    requires { ⌜ (3 ≤ width) × (width ≤ 4) × (width ≤ have) × (have + width ≤ length (now rest)) × (j + width ≤ length (now src))
+        × Near width (now rest) have last ⌝ }
+    ensures { λ r. ⌜ Pushed width (now (rest .exit)) (now (rest .entry)) have r (pointAt width (now (src .entry)) j) ⌝ }
+{
+    if src[j] % SIGN == last % SIGN {
+        let at = have - width;
+        if point_numbers::equal(rest[at], rest[at + 1], src[j], src[j + 1]) {
+            return have;
+        }
+    }
+    put_high(rest, have, width, src, j);
+    have + width
+}
+
+// As `next_high`, where there may be no last point.
+fn push_high(rest: &mut [u64], have: usize, width: usize, src: &[u64], j: usize) -> usize
+    requires { ⌜ (3 ≤ width) × (width ≤ 4) × (have + width ≤ length (now rest)) × (j + width ≤ length (now src)) ⌝ }
+    ensures { λ r. ⌜ Pushed width (now (rest .exit)) (now (rest .entry)) have r (pointAt width (now (src .entry)) j) ⌝ }
+{
+    if width <= have {
+        let last = rest[have - width];
+        return next_high(rest, have, width, last, src, j);
+    }
+    put_high(rest, have, width, src, j);
+    have + width
+}
+
+// Each point of `src`, of three numbers or four, behind the first `have` numbers, in turn.
+fn forward_high(rest: &mut [u64], have: usize, width: usize, src: &[u64]) -> usize
+    requires { ⌜ (3 ≤ width) × (width ≤ 4) × Whole width (now src) × (have + length (now src) ≤ length (now rest)) ⌝ }
+    ensures { λ r. ⌜ Holds (now (rest .exit)) (now (rest .entry)) r (laid width (take have (now (rest .entry))) (walked width false (now (src .entry)))) ⌝ }
+{
+    if src.len() < width {
+        return have;
+    }
+    let mut last = src[0];
+    let mut h = push_high(rest, have, width, src, 0);
+    let mut i = width;
+    while i < src.len() {
+        let x = src[i];
+        h = next_high(rest, h, width, last, src, i);
+        last = x;
+        i += width;
+    }
+    h
+}
+
+// Each point of `src`, of three numbers or four, behind the first `have` numbers, the last point first.
+fn backward_high(rest: &mut [u64], have: usize, width: usize, src: &[u64]) -> usize
+    requires { ⌜ (3 ≤ width) × (width ≤ 4) × Whole width (now src) × (have + length (now src) ≤ length (now rest)) ⌝ }
+    ensures { λ r. ⌜ Holds (now (rest .exit)) (now (rest .entry)) r (laid width (take have (now (rest .entry))) (walked width true (now (src .entry)))) ⌝ }
+{
+    if src.len() < width {
+        return have;
+    }
+    let mut i = src.len() - width;
+    let mut last = src[i];
+    let mut h = push_high(rest, have, width, src, i);
+    while 0 < i {
+        i -= width;
+        let x = src[i];
+        h = next_high(rest, h, width, last, src, i);
+        last = x;
+    }
+    h
+}
+
 // A run of points behind the first `have` numbers of the rest of a merged slice, in its own direction or turned. A point equal to the
-// last written is dropped, with its extras. Returns how many numbers there are. Points of no extras have loops of their own.
+// last written is dropped, with its extras. Returns how many numbers there are. Points of two numbers, and of three or four, have loops of their own.
 pub fn append_run(rest: &mut [u64], have: usize, width: usize, src: &[u64], turned: bool) -> usize
     requires { ⌜ (2 ≤ width) × Whole width (now src) × (have + length (now src) ≤ length (now rest)) ⌝ }
     ensures { λ r. ⌜ Holds (now (rest .exit)) (now (rest .entry)) r (laid width (take have (now (rest .entry))) (walked width turned (now (src .entry)))) ⌝ }
@@ -143,6 +228,12 @@ pub fn append_run(rest: &mut [u64], have: usize, width: usize, src: &[u64], turn
             return backward_two(rest, have, src);
         }
         return forward_two(rest, have, src);
+    }
+    if width < 5 {
+        if turned {
+            return backward_high(rest, have, width, src);
+        }
+        return forward_high(rest, have, width, src);
     }
     if turned {
         return backward_wide(rest, have, width, src);

@@ -4,12 +4,12 @@ use mathlib.Core.Path.{_≡_, refl, sym, ap, _∙_, subst}
 use mathlib.Core.List.{List, [], _∷_, _++_, reverse, flatMap, append-assoc, append-nil, reverse-append}
 use native.Mathlib.Omega.{arith}
 use native.Mathlib.Numerals.{add-one}
-use lib.ListN.{length, take, getD, set, length-append, length-set}
+use lib.ListN.{length, take, drop, getD, set, length-append, length-drop, length-set, take-append-drop}
 use lib.Seq.{take-suc, take-all}
 use Rattle.point_slices.specs.Holds.{HoldsFrom}
 use Rattle.point_slices.proofs.Laws.{from-start, from-set, from-then, from-length}
 use Rattle.rules.specs.Wkb.{littleBytes, bytesBy, recordBy}
-use Rattle.wkb_writing.specs.Writing.{RecordPut}
+use Rattle.wkb_writing.specs.Writing.{EightsPut, RecordPut}
 
 -- ---- stores
 
@@ -66,22 +66,83 @@ pub none-put : (o at : ℕ) (l numbers : List ℕ) → HoldsFrom l l at 0 (flatM
 unfolding flatMap
 none-put o at l numbers = from-start l at
 
-pub number-put : {l″ l′ l : List ℕ} (numbers : List ℕ) (o at i : ℕ) → HoldsFrom l′ l at (i * 8) (flatMap (bytesBy o 8) (take i numbers))
-    → at + length numbers * 8 ≤ length l → i < length numbers → HoldsFrom l″ l′ (at + i * 8) 8 (bytesBy o 8 (getD numbers i 0))
-    → HoldsFrom l″ l at ((i + 1) * 8) (flatMap (bytesBy o 8) (take (i + 1) numbers))
-number-put {l″} {l′} {l} numbers o at i h k b s =
-    let e : i * 8 + 8 ≡ (i + 1) * 8 = omega arith in
-    let more : flatMap (bytesBy o 8) (take i numbers) ++ bytesBy o 8 (getD numbers i 0) ≡ flatMap (bytesBy o 8) (take (i + 1) numbers) =
+-- the bytes of the first i numbers, and those of the next
+flat-next : (numbers : List ℕ) (o i : ℕ) → i < length numbers
+    → flatMap (bytesBy o 8) (take i numbers) ++ bytesBy o 8 (getD numbers i 0) ≡ flatMap (bytesBy o 8) (take (i + 1) numbers)
+flat-next numbers o i b =
     sym (rw (add-one, take-suc numbers i 0 b) (flat-append (bytesBy o 8) (take i numbers) (getD numbers i 0 ∷ [])
-    ∙ ap (λ (t : List ℕ). flatMap (bytesBy o 8) (take i numbers) ++ t) (flat-one (bytesBy o 8) (getD numbers i 0)))) in
-    subst (λ (n : ℕ). HoldsFrom l″ l at n (flatMap (bytesBy o 8) (take (i + 1) numbers))) e
-    (subst (HoldsFrom l″ l at (i * 8 + 8)) more (from-then h (omega arith) s))
+    ∙ ap (λ (t : List ℕ). flatMap (bytesBy o 8) (take i numbers) ++ t) (flat-one (bytesBy o 8) (getD numbers i 0))))
 
-pub all-put : {l′ l : List ℕ} (numbers : List ℕ) (o at i : ℕ) → HoldsFrom l′ l at (i * 8) (flatMap (bytesBy o 8) (take i numbers)) → i ≡ length numbers
-    → HoldsFrom l′ l at (length numbers * 8) (flatMap (bytesBy o 8) numbers)
-all-put {l′} {l} numbers o at i h e =
-    subst (λ (n : ℕ). HoldsFrom l′ l at (n * 8) (flatMap (bytesBy o 8) numbers)) e
-    (subst (λ (t : List ℕ). HoldsFrom l′ l at (i * 8) (flatMap (bytesBy o 8) t)) (take-all i numbers (omega arith)) h)
+-- the bytes of the first i numbers stand from `at` on
+abbrev pub Begun : (l′ l numbers : List ℕ) (o at i : ℕ) → Type 0
+Begun l′ l numbers o at i = HoldsFrom l′ l at (i * 8) (flatMap (bytesBy o 8) (take i numbers))
+
+module _ (numbers : List ℕ) (o at : ℕ) where
+  number-put : {l″ l′ l : List ℕ} (i k : ℕ) → k ≡ i + 1 → Begun l′ l numbers o at i → at + length numbers * 8 ≤ length l → i < length numbers
+      → HoldsFrom l″ l′ (at + i * 8) 8 (bytesBy o 8 (getD numbers i 0)) → Begun l″ l numbers o at k
+  number-put {l″} {l′} {l} i k q h room b s =
+      let e : i * 8 + 8 ≡ k * 8 = omega arith in
+      subst (λ (n : ℕ). HoldsFrom l″ l at n (flatMap (bytesBy o 8) (take k numbers))) e
+      (subst (HoldsFrom l″ l at (i * 8 + 8)) (flat-next numbers o i b ∙ ap (λ (n : ℕ). flatMap (bytesBy o 8) (take n numbers)) (sym q)) (from-then h (omega arith) s))
+
+  -- two numbers, one by one and at once
+  pub pair-put : {l″ l′ l₀ l : List ℕ} (j : ℕ) → Begun l₀ l numbers o at (j * 2) → at + length numbers * 8 ≤ length l → j < length numbers / 2
+      → HoldsFrom l′ l₀ (at + j * 2 * 8) 8 (bytesBy o 8 (getD numbers (j * 2) 0)) → HoldsFrom l″ l′ (at + (j * 2 + 1) * 8) 8 (bytesBy o 8 (getD numbers (j * 2 + 1) 0))
+      → Begun l″ l numbers o at ((j + 1) * 2)
+  pair-put j h room b s t = number-put (j * 2 + 1) ((j + 1) * 2) (omega arith) (number-put (j * 2) (j * 2 + 1) refl h room (omega arith) s) room (omega arith) t
+
+  two-put : {l″ l′ l : List ℕ} (i i′ k : ℕ) → i′ ≡ i + 1 → k ≡ i + 2 → Begun l′ l numbers o at i → at + length numbers * 8 ≤ length l → i′ < length numbers
+      → HoldsFrom l″ l′ (at + i * 8) 16 (bytesBy o 8 (getD numbers i 0) ++ bytesBy o 8 (getD numbers i′ 0)) → Begun l″ l numbers o at k
+  two-put {l″} {l′} {l} i i′ k q r h room b s =
+      let e : i * 8 + 16 ≡ k * 8 = omega arith in
+      let next : i′ + 1 ≡ k = omega arith in
+      let both : flatMap (bytesBy o 8) (take i numbers) ++ (bytesBy o 8 (getD numbers i 0) ++ bytesBy o 8 (getD numbers i′ 0)) ≡ flatMap (bytesBy o 8) (take k numbers) =
+      sym (append-assoc (flatMap (bytesBy o 8) (take i numbers)) (bytesBy o 8 (getD numbers i 0)) (bytesBy o 8 (getD numbers i′ 0)))
+      ∙ ap (λ (t : List ℕ). t ++ bytesBy o 8 (getD numbers i′ 0)) (flat-next numbers o i (omega arith) ∙ ap (λ (n : ℕ). flatMap (bytesBy o 8) (take n numbers)) (sym q))
+      ∙ flat-next numbers o i′ b
+      ∙ ap (λ (n : ℕ). flatMap (bytesBy o 8) (take n numbers)) next in
+      subst (λ (n : ℕ). HoldsFrom l″ l at n (flatMap (bytesBy o 8) (take k numbers))) e
+      (subst (HoldsFrom l″ l at (i * 8 + 16)) both (from-then h (omega arith) s))
+
+  pub eight-put : {l₄ l₃ l₂ l₁ l₀ l : List ℕ} (j : ℕ) → Begun l₀ l numbers o at (j * 8) → at + length numbers * 8 ≤ length l → j < length numbers / 8
+      → HoldsFrom l₁ l₀ (at + j * 8 * 8) 16 (bytesBy o 8 (getD numbers (j * 8) 0) ++ bytesBy o 8 (getD numbers (j * 8 + 1) 0))
+      → HoldsFrom l₂ l₁ (at + (j * 8 + 2) * 8) 16 (bytesBy o 8 (getD numbers (j * 8 + 2) 0) ++ bytesBy o 8 (getD numbers (j * 8 + 3) 0))
+      → HoldsFrom l₃ l₂ (at + (j * 8 + 4) * 8) 16 (bytesBy o 8 (getD numbers (j * 8 + 4) 0) ++ bytesBy o 8 (getD numbers (j * 8 + 5) 0))
+      → HoldsFrom l₄ l₃ (at + (j * 8 + 6) * 8) 16 (bytesBy o 8 (getD numbers (j * 8 + 6) 0) ++ bytesBy o 8 (getD numbers (j * 8 + 7) 0))
+      → Begun l₄ l numbers o at ((j + 1) * 8)
+  eight-put j h room b s t u v =
+      two-put (j * 8 + 6) (j * 8 + 7) ((j + 1) * 8) (omega arith) (omega arith)
+      (two-put (j * 8 + 4) (j * 8 + 5) (j * 8 + 6) (omega arith) (omega arith)
+      (two-put (j * 8 + 2) (j * 8 + 3) (j * 8 + 4) (omega arith) (omega arith)
+      (two-put (j * 8) (j * 8 + 1) (j * 8 + 2) refl refl h room (omega arith) s) room (omega arith) t) room (omega arith) u) room (omega arith) v
+
+  pub all-put : {l′ l : List ℕ} (i : ℕ) → Begun l′ l numbers o at i → i ≡ length numbers → HoldsFrom l′ l at (length numbers * 8) (flatMap (bytesBy o 8) numbers)
+  all-put {l′} {l} i h e =
+      subst (λ (n : ℕ). HoldsFrom l′ l at (n * 8) (flatMap (bytesBy o 8) numbers)) e
+      (subst (λ (t : List ℕ). HoldsFrom l′ l at (i * 8) (flatMap (bytesBy o 8) t)) (take-all i numbers (omega arith)) h)
+
+  -- the last of an odd number of them
+  pub last-put : {l″ l′ l : List ℕ} (j : ℕ) → Begun l′ l numbers o at (j * 2) → at + length numbers * 8 ≤ length l → j ≡ length numbers / 2 → length numbers / 2 * 2 < length numbers
+      → HoldsFrom l″ l′ (at + length numbers / 2 * 2 * 8) 8 (bytesBy o 8 (getD numbers (length numbers / 2 * 2) 0)) → HoldsFrom l″ l at (length numbers * 8) (flatMap (bytesBy o 8) numbers)
+  last-put {l″} {l′} {l} j h room e b s =
+      let begun : Begun l′ l numbers o at (length numbers / 2 * 2) = subst (λ (k : ℕ). Begun l′ l numbers o at (k * 2)) e h in
+      all-put (length numbers) (number-put (length numbers / 2 * 2) (length numbers) (omega arith) begun room b s) refl
+
+  pub eights-put : {l′ l : List ℕ} (j : ℕ) → Begun l′ l numbers o at (j * 8) → j ≡ length numbers / 8 → EightsPut l′ l at (length numbers / 8 * 8) o numbers
+  eights-put {l′} {l} j h e = record { many = refl; holds = subst (λ (k : ℕ). Begun l′ l numbers o at (k * 8)) e h }
+
+-- the eights, and what is left behind them
+pub numbers-put : {l″ l′ l : List ℕ} (numbers rest : List ℕ) (o at r : ℕ) → EightsPut l′ l at r o numbers → at + length numbers * 8 ≤ length l → rest ≡ drop r numbers
+    → HoldsFrom l″ l′ (at + r * 8) (length rest * 8) (flatMap (bytesBy o 8) rest) → HoldsFrom l″ l at (length numbers * 8) (flatMap (bytesBy o 8) numbers)
+numbers-put {l″} {l′} {l} numbers rest o at r p room q s =
+    let many : r ≤ length numbers = omega (arith, p .many) in
+    let e : r * 8 + length rest * 8 ≡ length numbers * 8 = omega (arith, ap length q, length-drop r numbers) in
+    let all : flatMap (bytesBy o 8) (take r numbers) ++ flatMap (bytesBy o 8) rest ≡ flatMap (bytesBy o 8) numbers =
+    ap (λ (t : List ℕ). flatMap (bytesBy o 8) (take r numbers) ++ flatMap (bytesBy o 8) t) q
+    ∙ sym (flat-append (bytesBy o 8) (take r numbers) (drop r numbers))
+    ∙ ap (flatMap (bytesBy o 8)) (take-append-drop r numbers) in
+    subst (λ (n : ℕ). HoldsFrom l″ l at n (flatMap (bytesBy o 8) numbers)) e
+    (subst (HoldsFrom l″ l at (r * 8 + length rest * 8)) all (from-then (p .holds) (omega arith) s))
 
 -- ---- a record as its parts
 

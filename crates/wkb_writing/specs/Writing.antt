@@ -1,14 +1,19 @@
 -- What writing chains asks for, and what it leaves.
-use Prim.Native.Nat.{ℕ, zero, suc, _+_, _≤_}
+use Prim.Native.Nat.{ℕ, zero, suc, _+_, _*_, _/_, _≤_}
 use mathlib.Core.Path.{_≡_}
 use mathlib.Core.Bool.{true, false}
-use mathlib.Core.List.{List}
-use lib.ListN.{length}
+use mathlib.Core.List.{List, flatMap}
+use lib.ListN.{length, take}
 use Rattle.rules.specs.Refusals.{entry, noChain}
 use Rattle.rules.specs.Calls.{written, viewed}
 use Rattle.rules.specs.Types.{widthOf}
-use Rattle.rules.specs.Wkb.{sizeOf, anyMissing, recordBy, LentChains, runOf, lengthsOf}
+use Rattle.rules.specs.Wkb.{bytesBy, sizeOf, anyMissing, recordBy, LentChains, runOf, lengthsOf}
 use Rattle.point_slices.specs.Holds.{HoldsFrom}
+
+-- the bytes of r numbers stand from `at` on, as many as eights of them go
+pub record EightsPut (run′ run : List ℕ) (at r order : ℕ) (numbers : List ℕ) : Type 0 where
+  pub many : r ≡ length numbers / 8 * 8
+  pub holds : HoldsFrom run′ run at (r * 8) (flatMap (bytesBy order 8) (take r numbers))
 
 -- the bytes stand from `at` up to r
 pub record RecordPut (run′ run : List ℕ) (at r : ℕ) (bytes : List ℕ) : Type 0 where

@@ -4,12 +4,12 @@ use rules::Answer;
 use rules::RECORD;
 ghost use Prim.Native.Nat.{_+_, _-_, _*_, _≤_, _<_};
 ghost use mathlib.Core.Path.{_≡_};
-ghost use mathlib.Core.List.{reverse, flatMap};
+ghost use mathlib.Core.List.{_++_, reverse, flatMap};
 ghost use lib.Dec.{ltb};
 ghost use lib.ListN.{length};
 ghost use Rattle.point_slices.specs.Holds.{HoldsFrom};
 ghost use Rattle.rules.specs.Wkb.{littleBytes, bytesBy, recordBy, anyMissing, chainsAs, Wrote};
-ghost use Rattle.wkb_writing.specs.Writing.{bytesFrom, RecordPut, chainBytes, Chain, Writable, Written};
+ghost use Rattle.wkb_writing.specs.Writing.{bytesFrom, EightsPut, RecordPut, chainBytes, Chain, Writable, Written};
 ghost use Rattle.rules.specs.Refusals.{recordSize};
 
 // The bytes of a record before its numbers, and of each number there.
@@ -68,17 +68,75 @@ fn put_number(run: &mut [u8], at: usize, order: u8, n: u64)
     put_four_turned(run, at + 4, n);
 }
 
-// The bytes of all numbers from `at` on.
+// The bytes of two numbers from `at` on.
+fn put_two(run: &mut [u8], at: usize, order: u8, a: u64, b: u64)
+    requires { ⌜ at + 16 ≤ length (now run) ⌝ }
+    ensures { λ _. ⌜ HoldsFrom (now (run .exit)) (now (run .entry)) at 16 (bytesBy order 8 a ++ bytesBy order 8 b) ⌝ }
+{
+    put_number(run, at, order, a);
+    put_number(run, at + EIGHT, order, b);
+}
+
+// The bytes of all numbers from `at` on, two numbers a turn.
+fn put_pairs(run: &mut [u8], at: usize, order: u8, numbers: &[u64])
+    requires { ⌜ at + length (now numbers) * 8 ≤ length (now run) ⌝ }
+    ensures { λ _. ⌜ HoldsFrom (now (run .exit)) (now (run .entry)) at (length (now (numbers .entry)) * 8)
+        (flatMap (bytesBy order 8) (now (numbers .entry))) ⌝ }
+{
+    let pairs = numbers.len() / 2;
+    let mut j = 0;
+    while j < pairs {
+        let i = j * 2;
+        put_number(run, at + i * EIGHT, order, numbers[i]);
+        put_number(run, at + (i + 1) * EIGHT, order, numbers[i + 1]);
+        j += 1;
+    }
+    let i = pairs * 2;
+    if numbers.len() <= i {
+        return;
+    }
+    put_number(run, at + i * EIGHT, order, numbers[i]);
+}
+
+// The bytes of as many numbers as eights of them go, from `at` on. Returns how many these are.
+// Eight are read before the first of them is written, so that they can be moved two at once.
+fn put_eights(run: &mut [u8], at: usize, order: u8, numbers: &[u64]) -> usize
+    requires { ⌜ at + length (now numbers) * 8 ≤ length (now run) ⌝ }
+    ensures { λ r. ⌜ EightsPut (now (run .exit)) (now (run .entry)) at r order (now (numbers .entry)) ⌝ }
+{
+    let eights = numbers.len() / EIGHT;
+    let mut j = 0;
+    while j < eights {
+        let i = j * EIGHT;
+        let a = numbers[i];
+        let b = numbers[i + 1];
+        let c = numbers[i + 2];
+        let d = numbers[i + 3];
+        let e = numbers[i + 4];
+        let f = numbers[i + 5];
+        let g = numbers[i + 6];
+        let h = numbers[i + 7];
+        put_two(run, at + i * EIGHT, order, a, b);
+        put_two(run, at + (i + 2) * EIGHT, order, c, d);
+        put_two(run, at + (i + 4) * EIGHT, order, e, f);
+        put_two(run, at + (i + 6) * EIGHT, order, g, h);
+        j += 1;
+    }
+    eights * EIGHT
+}
+
+// The bytes of all numbers from `at` on. Those that stay in their order are moved by eights as far as these go.
 fn put_numbers(run: &mut [u8], at: usize, order: u8, numbers: &[u64])
     requires { ⌜ at + length (now numbers) * 8 ≤ length (now run) ⌝ }
     ensures { λ _. ⌜ HoldsFrom (now (run .exit)) (now (run .entry)) at (length (now (numbers .entry)) * 8)
         (flatMap (bytesBy order 8) (now (numbers .entry))) ⌝ }
 {
-    let mut i = 0;
-    while i < numbers.len() {
-        put_number(run, at + i * EIGHT, order, numbers[i]);
-        i += 1;
+    if order == 0 {
+        put_pairs(run, at, order, numbers);
+        return;
     }
+    let n = put_eights(run, at, order, numbers);
+    put_pairs(run, at + n * EIGHT, order, &numbers[n..]);
 }
 
 // One record from `at` on. Returns where it ends.
@@ -150,7 +208,7 @@ fn put_chain<'a>(
         (chainBytes order «wkb_type» (now (input .entry)) (now (merged .entry)) (now (table .entry)) k) ⌝ }
 {
     let count = table[k * RECORD + 4];
-    let numbers = build_question::part(input, merged, table, width, k);
+    let numbers = build_question::known_part(input, merged, table, width, k);
     put_record(run, at, order, wkb_type, count, numbers)
 }
 

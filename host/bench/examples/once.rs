@@ -5,12 +5,16 @@
 //! valgrind --tool=callgrind --callgrind-out-file=/dev/null --toggle-collect=lovasuku_build \
 //!     target/release/examples/once grid 4096 strict
 //! ```
+//!
+//! A fourth word gives the lines another type than 2, by its number: 1002 for Z, 3002 for ZM.
 
+use answers::random::Random;
+use answers::styles::heights::with_extras;
 use bench::workloads::{MODES, WORKLOADS};
 use lovasuku_chains::{Dimension, Lines, Rooms, Settings};
 use std::process::ExitCode;
 
-const USAGE: &str = "once WORKLOAD LINES MODE";
+const USAGE: &str = "once WORKLOAD LINES MODE [TYPE]";
 
 fn main() -> ExitCode {
     match once(std::env::args().skip(1)) {
@@ -28,10 +32,13 @@ fn once(mut words: impl Iterator<Item = String>) -> Option<usize> {
     let (name, lines, mode) = (words.next()?, words.next()?.parse().ok()?, words.next()?);
     let workload = WORKLOADS.iter().find(|workload| workload.name == name)?;
     let mode = MODES.iter().find(|one| one.name == mode)?;
-    let call = workload.network(lines).call(mode);
+    let mut call = workload.network(lines).call(mode);
+    if let Some(wkb_type) = words.next() {
+        call = with_extras(&mut Random::new(7), &call, wkb_type.parse().ok()?);
+    }
     let coordinates: Vec<f64> = call.coordinates.iter().map(|&bits| f64::from_bits(bits)).collect();
     let lent = Lines {
-        dimension: Dimension::Xy,
+        dimension: Dimension::of_wkb_type(call.wkb_type)?,
         coordinates: &coordinates,
         counts: &call.counts,
         groups: &call.groups,

@@ -1,6 +1,7 @@
 //! The lines of a building call.
 
 use crate::size::{MOST_LINES, MOST_POINTS, POINT};
+use crate::two::one_by_one;
 use crate::{Dimension, Refusal};
 use std::iter::repeat;
 
@@ -41,6 +42,27 @@ pub struct Lines<'a> {
     pub groups: &'a [u32],
     /// The kind of each line: [`PLAIN`] or [`PASSING`].
     pub kinds: &'a [u8],
+}
+
+impl<'a> Lines<'a> {
+    /// Lines of x and y by their points, one line behind another, which are not copied.
+    ///
+    /// ```
+    /// use lovasuku_chains::{Lines, PLAIN};
+    ///
+    /// let points = [[0.0, 0.0], [1.0, 0.0], [1.0, 0.0], [2.0, 0.0], [2.0, 5.0]];
+    /// let lines = Lines::of_points(&points, &[2, 3], &[0, 0], &[PLAIN, PLAIN]);
+    /// assert_eq!(lines.coordinates[6..], [2.0, 0.0, 2.0, 5.0]);
+    /// ```
+    pub fn of_points(
+        points: &'a [[f64; POINT]],
+        counts: &'a [u32],
+        groups: &'a [u32],
+        kinds: &'a [u8],
+    ) -> Self {
+        let (dimension, coordinates) = (Dimension::Xy, one_by_one(points));
+        Lines { dimension, coordinates, counts, groups, kinds }
+    }
 }
 
 impl Lines<'_> {

@@ -10,9 +10,21 @@ pub fn by_two<T>(numbers: &[T]) -> &[[T; 2]] {
     unsafe { from_raw_parts(numbers.as_ptr().cast(), numbers.len() / 2) }
 }
 
+/// The same numbers one by one, not copied.
+pub fn one_by_one<T>(numbers: &[[T; 2]]) -> &[T] {
+    // As above, the other way round. A slice is no longer than the memory.
+    unsafe { from_raw_parts(numbers.as_ptr().cast(), 2 * numbers.len()) }
+}
+
 #[cfg(test)]
 mod tests {
-    use super::by_two;
+    use super::{by_two, one_by_one};
+
+    #[test]
+    fn one_behind_another() {
+        assert_eq!(one_by_one::<u8>(&[]), [0; 0]);
+        assert_eq!(one_by_one(&[[1, 2], [3, 4]]), [1, 2, 3, 4]);
+    }
 
     #[test]
     fn two_by_two() {

@@ -2,8 +2,8 @@
 
 use crate::arguments::Request;
 use crate::classes::Classes;
-use crate::delivery::{Delivery, Geometry};
-use crate::joining::{gaps, join, zooms, Chain, Fault, Line, Told};
+use crate::delivery::{Delivery, Feature, Geometry};
+use crate::joining::{gaps, join, zooms, Chain, Fault, Lent, Line, Told};
 use crate::measure::{bounds, extent, Measure};
 use crate::outcome::{Outcome, Targets};
 use crate::page::{self, Page};
@@ -16,7 +16,7 @@ use crate::tally::{length_of, Tally};
 use crate::writing;
 use anyhow::{anyhow, Context, Error, Result};
 use lovasuku_chains::explain::Explained;
-use lovasuku_chains::{Dimension, Settings, Window};
+use lovasuku_chains::{Dimension, Lines, Settings, Window, PLAIN};
 use std::sync::atomic::AtomicUsize;
 use std::time::Instant;
 
@@ -29,24 +29,20 @@ pub fn run(requests: &[Request]) -> Result<String> {
     let targets: Vec<Targets> = requests.iter().map(Targets::of).collect::<Result<_>>()?;
     let wanted = request.wanted();
     let input = || wanted.whole_name();
-    let (source, text) = Source::read(wanted, &progress).with_context(input)?;
+    let (source, ground) = Source::read(wanted, &progress).with_context(input)?;
     let (delivery, layer) =
-        source.delivery(&text, &request.reading, &progress).with_context(input)?;
+        source.delivery(&ground, &request.reading, &progress).with_context(input)?;
     let delivery = &delivery;
     let classes = &Classes::of(delivery, request.class.as_deref(), request.district.as_ref())
         .with_context(input)?;
     let unit = layer.as_ref().and_then(|layer| layer.unit(bounds(delivery)));
     let measure = &Measure::of(delivery, request.units.as_deref().or(unit.as_deref()));
+    let joined = joined(requests, delivery, classes, &progress).with_context(input)?;
     let lines = lines(delivery, classes);
-    let asked = (request.settings, request.window);
-    let tolerances: Vec<f64> = requests.iter().map(|request| request.settings.tolerance).collect();
-    let joined = zooms(delivery.dimension, &lines, asked, &tolerances, &progress)
-        .map_err(|fault| named(delivery, classes, fault))
-        .with_context(input)?;
     let layer = layer.as_ref();
     let (named, told) = named_reference(layer, &targets, delivery, measure);
     let reference = layer.map_or(named.as_ref(), |layer| layer.reference.as_ref());
-    let checksum = &checksum(request, &text, layer.map(|_| delivery)).with_context(input)?;
+    let checksum = &checksum(request, &ground.text, layer.map(|_| delivery)).with_context(input)?;
     let given = Given { delivery, classes, measure, layer, reference, checksum };
     let zoom = |(request, told)| given.zoom(request, told, &lines, &progress);
     let zooms: Vec<Zoom> = requests.iter().zip(&joined).map(zoom).collect::<Result<_>>()?;
@@ -60,6 +56,35 @@ pub fn run(requests: &[Request]) -> Result<String> {
         summary.text(requests.len() > 1, from.elapsed())
     };
     Ok(zooms.iter().zip(warnings).map(summary).collect::<Vec<_>>().join("\n"))
+}
+
+/// The chains of each tolerance. Lines that lie one behind another are joined where they lie.
+fn joined(
+    requests: &[Request],
+    delivery: &Delivery,
+    classes: &Classes,
+    progress: &Progress,
+) -> Result<Vec<Told>> {
+    let request = requests.first().context("nothing is asked for")?;
+    let asked = (request.settings, request.window);
+    let tolerances: Vec<f64> = requests.iter().map(|request| request.settings.tolerance).collect();
+    let joined = match delivery.points {
+        Some(points) => {
+            let count = |feature: &Feature| match &feature.geometry {
+                Geometry::Line(run) => run.points.len() as u32,
+                Geometry::Lines(_) | Geometry::Other(_) => 0,
+            };
+            let counts: Vec<u32> = delivery.features.iter().map(count).collect();
+            let kinds = vec![PLAIN; counts.len()];
+            let lines = Lines::of_points(points, &counts, &classes.groups, &kinds);
+            zooms(Lent::InPlace(lines), asked, &tolerances, progress)
+        }
+        None => {
+            let lines = lines(delivery, classes);
+            zooms(Lent::Apart(delivery.dimension, &lines), asked, &tolerances, progress)
+        }
+    };
+    joined.map_err(|fault| named(delivery, classes, fault))
 }
 
 /// The reference system that GeoJSON names, where it goes into a store, and what there is to warn of.
@@ -148,12 +173,11 @@ impl<'a> Given<'a> {
         progress: &Progress,
     ) -> Result<Vec<Vec<String>>> {
         let outcomes: Vec<Outcome> = zooms.iter().map(|zoom| self.outcome(zoom)).collect();
-        let (mut outputs, mut of, mut warnings) = (Vec::new(), Vec::new(), Vec::new());
+        let (mut outputs, mut of) = (Vec::new(), Vec::new());
+        let mut warnings = vec![Vec::new(); zooms.len()];
         for (zoom, (outcome, targets)) in outcomes.iter().zip(targets).enumerate() {
-            let (more, told) = outcome.outputs(targets, progress);
-            outputs.extend(more);
+            outputs.extend(outcome.outputs(targets, progress));
             of.resize(outputs.len(), zoom);
-            warnings.push(told);
         }
         for (zoom, told) in of.into_iter().zip(writing::put(&outputs)?) {
             warnings[zoom].extend(told);

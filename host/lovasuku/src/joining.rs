@@ -6,7 +6,7 @@ pub use lovasuku_chains::large::{
     blocking, check_batches, distance, gaps, Capacity, Chain, CheckBatch, Checker, Fault, Gap,
     Joint, JointKind, Line, Told, Way, Why,
 };
-use lovasuku_chains::{Dimension, Settings, Window};
+use lovasuku_chains::{Dimension, Lines, Settings, Window};
 
 /// Joins lines of a dimension, and tells which chains meet a window. Every node is decided by the
 /// library with all its ends, as far as a call holds them.
@@ -23,17 +23,35 @@ pub fn join(
     large::join(dimension, lines, (settings, window), way)
 }
 
+/// Lines that are joined.
+#[derive(Clone, Copy)]
+pub enum Lent<'a> {
+    /// Wherever they stand.
+    Apart(Dimension, &'a [Line<'a>]),
+    /// One behind another, where they lie.
+    InPlace(Lines<'a>),
+}
+
 /// Joins lines for each of several tolerances, with one round one for all.
 pub fn zooms(
-    dimension: Dimension,
-    lines: &[Line],
+    lent: Lent,
     (settings, window): (Settings, Option<Window>),
     tolerances: &[f64],
     progress: &Progress,
 ) -> Result<Vec<Told>, Fault> {
     let rounds = 1 + tolerances.iter().filter(|&&tolerance| tolerance > 0.0).count();
-    progress.begin("joining", rounds * lines.len());
+    let lines = match lent {
+        Lent::Apart(_, lines) => lines.len(),
+        Lent::InPlace(lines) => lines.len(),
+    };
+    progress.begin("joining", rounds * lines);
     let tell = |lines: usize| progress.add(lines);
-    let way = Way { neighbours: true, tell: &tell, ..Way::default() };
-    large::join_zooms(dimension, lines, (settings, window), tolerances, way)
+    let (asked, way) =
+        ((settings, window), Way { neighbours: true, tell: &tell, ..Way::default() });
+    match lent {
+        Lent::Apart(dimension, lines) => {
+            large::join_zooms(dimension, lines, asked, tolerances, way)
+        }
+        Lent::InPlace(lines) => large::join_lines(lines, asked, tolerances, way),
+    }
 }

@@ -79,19 +79,14 @@ pub struct Outcome<'a> {
 }
 
 impl Outcome<'_> {
-    /// The outputs, and what the user has to know about those that are stores.
-    pub fn outputs<'o>(
-        &'o self,
-        targets: &'o Targets,
-        progress: &'o Progress,
-    ) -> (Vec<Output<'o>>, Vec<String>) {
+    /// The outputs.
+    pub fn outputs<'o>(&'o self, targets: &'o Targets, progress: &'o Progress) -> Vec<Output<'o>> {
         let output =
             |target: &Target, content: Content<'o>| Output { target: target.clone(), content };
         let text = |text: Text<'o>| Content::Text(text);
-        let mut warnings = Vec::new();
         let (target, store) = &targets.chains;
         let chains = match store {
-            Some(store) => self.stored_chains(store, &mut warnings, progress),
+            Some(store) => self.stored_chains(store, progress),
             None => text(Box::new(move |into| self.write_chains(into, progress))),
         };
         let mut outputs = vec![output(target, chains)];
@@ -108,7 +103,7 @@ impl Outcome<'_> {
         if let (Some(target), Some(page)) = (&targets.page, self.page) {
             outputs.push(output(target, text(Box::new(move |into| into.write_all(page)))));
         }
-        (outputs, warnings)
+        outputs
     }
 
     fn write_chains(&self, into: &mut dyn Write, progress: &Progress) -> io::Result<()> {

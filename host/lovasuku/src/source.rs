@@ -2,7 +2,7 @@
 
 use crate::delivery::{self, formats, Delivery, Reading};
 use crate::progress::Progress;
-use crate::store::{self, About, Asked, Dataset, Rows};
+use crate::store::{self, About, Asked, Dataset, Held, Positions, Rows};
 use anyhow::{ensure, Context, Result};
 use std::fs::File;
 use std::io::Read;
@@ -33,7 +33,14 @@ impl Wanted<'_> {
     }
 }
 
-/// A delivery that was read from its source, but for what its texts say.
+/// What a delivery lies in: its text, and the positions of a layer.
+#[derive(Default)]
+pub struct Ground {
+    pub text: String,
+    positions: Positions,
+}
+
+/// A delivery that was read from its source, but for what it lies in.
 pub enum Source {
     /// GeoJSON.
     Text,
@@ -45,10 +52,14 @@ pub enum Source {
 const START: u64 = 512;
 
 impl Source {
-    /// Reads what is wanted into a text: GeoJSON as it is, or the ids and properties of a layer.
-    pub fn read(wanted: Wanted, progress: &Progress) -> Result<(Self, String)> {
+    /// Reads what is wanted: GeoJSON as a text as it is, or the ids and properties of a layer as one, and
+    /// its positions.
+    pub fn read(wanted: Wanted, progress: &Progress) -> Result<(Self, Ground)> {
         let (name, what) = match store_of(wanted)? {
-            None => return Ok((Source::Text, delivery::text(wanted.input)?)),
+            None => {
+                let text = delivery::text(wanted.input)?;
+                return Ok((Source::Text, Ground { text, ..Ground::default() }));
+            }
             Some(store) => store,
         };
         let opened = Dataset::open(&name, false);
@@ -56,25 +67,27 @@ impl Source {
             Some(what) => opened.with_context(|| format!("it is {what}, which GDAL reads"))?,
             None => opened?,
         };
-        let mut text = Vec::new();
+        let mut held = Held::default();
         let heights = wanted.reading.heights;
-        let rows = store::read(&dataset, wanted.store, heights, &mut text, progress)?;
+        let rows = store::read(&dataset, wanted.store, heights, &mut held, progress)?;
+        let Held { text, positions } = held;
         let text = String::from_utf8(text).context("its texts are not UTF-8")?;
-        Ok((Source::Layer(Box::new(rows)), text))
+        Ok((Source::Layer(Box::new(rows)), Ground { text, positions }))
     }
 
-    /// The delivery that the text is of, and what its layer is where it is one.
+    /// The delivery that lies in the ground, and what its layer is where it is one.
     pub fn delivery<'a>(
         self,
-        text: &'a str,
+        ground: &'a Ground,
         reading: &Reading,
         progress: &Progress,
     ) -> Result<(Delivery<'a>, Option<About>)> {
+        let Ground { text, positions } = ground;
         match self {
             Source::Text => Ok((delivery::read(text, reading, progress)?, None)),
-            Source::Layer(rows) => {
-                rows.delivery(text, reading).map(|(delivery, about)| (delivery, Some(about)))
-            }
+            Source::Layer(rows) => rows
+                .delivery(text, positions, reading)
+                .map(|(delivery, about)| (delivery, Some(about))),
         }
     }
 }

@@ -1,19 +1,19 @@
 //! Chains and bridges as layers of stores.
 
 use crate::arguments::Request;
-use crate::delivery::object::Object;
-use crate::delivery::{Delivery, Feature as Read, Geometry, Heights};
+use crate::delivery::object::{Entry, Object};
+use crate::delivery::{Delivery, Feature, Geometry, Heights, Point};
 use crate::joining::Chain;
 use crate::measure::Measure;
 use crate::outcome::{told_of_clashes, Outcome};
 use crate::progress::Progress;
 use crate::store::{
-    driver_name, is_database, shown, About, Drawn, Feature, Kinds, Reference, Sheet, Store,
+    driver_name, is_database, shown, About, Drawn, Features, Field, Kinds, Reference, Sheet, Store,
 };
-use crate::writing::{Content, Target};
+use crate::writing::{Chains, Content, Keep, Target};
 use anyhow::{ensure, Context, Result};
 use lovasuku_chains::Dimension;
-use rayon::prelude::*;
+use std::borrow::Cow;
 
 /// The name, behind the prefix, of the field that tells which chain a feature is.
 const CHAIN: &str = "chain";
@@ -28,6 +28,9 @@ const OWN: [Kinds; 6] = [
     Kinds::TRUTHS,
     Kinds::LISTS_OF_WHOLE_NUMBERS,
 ];
+
+/// The place of its members among these.
+const MEMBERS: usize = 1;
 
 /// The fields of bridges and gaps, and what their values are.
 const OF_BRIDGES: [(&str, Kinds); 8] = [
@@ -101,81 +104,132 @@ const DEGREES: &str = "EPSG:4326";
 fn drawn<'a>(delivery: &'a Delivery, chain: &'a Chain) -> Drawn<'a> {
     let alone = chain.members.first().map(|&line| &delivery.features[line as usize].geometry);
     match (chain.points, alone) {
-        (Some(points), _) => Drawn::Line(points.into(), chain.extras.into()),
-        (None, Some(Geometry::Line(run))) => {
-            Drawn::Line((&run.points).into(), (&run.heights).into())
-        }
+        (Some(points), _) => Drawn::Line(points, chain.extras),
+        (None, Some(Geometry::Line(run))) => Drawn::Line(&run.points, &run.heights),
         (None, Some(Geometry::Lines(parts))) => Drawn::Lines(parts),
         (None, None | Some(Geometry::Other(_))) => Drawn::Lines(&[]),
     }
 }
 
-/// The properties of a chain with its id under a name, and whether they had that name before.
-fn with_id(mut properties: String, name: &str, id: usize) -> (String, bool) {
-    let entry = format!("{}:", serde_json::Value::from(name));
-    let has = |all: Object| all.get(name).is_some();
-    // What looks like the name may stand within a text, too.
-    let clash = properties.contains(&entry) && Object::of(&properties).map_or(false, has);
-    properties.pop();
-    properties += &format!(",{entry}{id}}}");
-    (properties, clash)
+/// The chains that go into a store, each with the properties that GeoJSON has and with its id, which not
+/// all formats keep.
+struct StoredChains<'a> {
+    chains: &'a [Chain<'a>],
+    /// The positions of those that meet the window.
+    inside: Vec<usize>,
+    writer: Chains<'a>,
+    /// The names of the fields that every chain has, the first of which is that of the id.
+    own: Vec<String>,
+}
+
+impl Features for StoredChains<'_> {
+    fn len(&self) -> usize {
+        self.inside.len()
+    }
+
+    fn id(&self, place: usize) -> usize {
+        self.inside[place]
+    }
+
+    fn properties(&self, place: usize) -> (Vec<Entry<'_>>, bool) {
+        let id = self.id(place);
+        let (mut properties, clash) = self.writer.properties(&self.chains[id]);
+        let all = properties.len();
+        properties.retain(|(name, _)| *name != self.own[0]);
+        let more = properties.len() < all;
+        properties.insert(0, (Cow::from(&self.own[0]), id.to_string().into()));
+        (properties, clash || more)
+    }
+
+    fn drawn(&self, place: usize) -> Drawn<'_> {
+        drawn(self.writer.delivery, &self.chains[self.id(place)])
+    }
+
+    fn told_of(&self, left_out: usize) -> Option<String> {
+        told_of_clashes(left_out, &self.own)
+    }
+}
+
+/// The bridges and the gaps that go into a store: the properties of each as an object of JSON, and its
+/// points.
+struct StoredBridges(Vec<(String, Vec<Point>)>);
+
+impl Features for StoredBridges {
+    fn len(&self) -> usize {
+        self.0.len()
+    }
+
+    fn id(&self, place: usize) -> usize {
+        place
+    }
+
+    fn properties(&self, place: usize) -> (Vec<Entry<'_>>, bool) {
+        let properties = Object::of(&self.0[place].0).unwrap_or_default();
+        (properties.into_entries().collect(), false)
+    }
+
+    fn drawn(&self, place: usize) -> Drawn<'_> {
+        Drawn::Line(&self.0[place].1, &[])
+    }
+
+    fn told_of(&self, _: usize) -> Option<String> {
+        None
+    }
 }
 
 impl Outcome<'_> {
-    /// The chains as a layer, each with the properties that GeoJSON has and with its id, which not all
-    /// formats keep.
-    pub fn stored_chains<'o>(
-        &'o self,
-        store: &'o Store,
-        warnings: &mut Vec<String>,
-        progress: &'o Progress,
-    ) -> Content<'o> {
-        progress.begin("writing", self.chains.len());
-        let (writer, name) = (self.writer(), format!("{}{CHAIN}", self.request.prefix));
-        let feature = |(id, chain): (usize, &'o Chain)| {
-            let (text, clash) = writer.properties(chain);
-            let (properties, more) = with_id(text_of(&text), &name, id);
-            (Feature { id, properties, drawn: drawn(self.delivery, chain) }, clash || more)
-        };
-        let chains = self.chains.par_iter().enumerate().filter(|(_, chain)| chain.in_window);
-        let all: Vec<(Feature, bool)> = chains.map(feature).collect();
-        let clashes = all.iter().filter(|(_, clash)| *clash).count();
-        let own: Vec<String> = [name].into_iter().chain(writer.own).collect();
-        warnings.extend(told_of_clashes(clashes, &own));
+    /// The chains as a layer.
+    pub fn stored_chains<'o>(&'o self, store: &'o Store, progress: &'o Progress) -> Content<'o> {
+        let (chains, writer) = (self.chains, self.writer());
+        let name = format!("{}{CHAIN}", self.request.prefix);
+        let own: Vec<String> = [name].into_iter().chain(writer.own.iter().cloned()).collect();
         let fields = self.layer.map_or(&[][..], |layer| &layer.fields);
         let others = fields.iter().map(|field| &field.name).filter(|name| !own.contains(name));
         let others = others.cloned().map(|name| (name, Kinds::default()));
-        let first = own.iter().cloned().zip(OWN).chain(others).collect();
-        let features = all.into_iter().map(|(feature, _)| feature).collect();
-        self.content(store, "chain", features, first, self.delivery.dimension, progress)
+        let mut first: Vec<(String, Kinds)> = own.iter().cloned().zip(OWN).chain(others).collect();
+        let known = self.are_known(fields, &own);
+        if known {
+            let lines = 0..self.delivery.features.len() as u32;
+            let kinds = lines.map(|line| Kinds::of_item(&self.delivery.name(line)));
+            first[MEMBERS].1 = kinds.fold(first[MEMBERS].1, Kinds::with);
+        }
+        let inside = (0..chains.len()).filter(|&chain| chains[chain].in_window).collect();
+        let features = Box::new(StoredChains { chains, inside, writer, own });
+        let content = (features as Box<dyn Features>, first, known);
+        self.content(store, "chain", content, self.delivery.dimension, progress)
+    }
+
+    /// True where the fields of chains are known without a look at each: the chain's own, and of the input
+    /// fields of single values, of which a chain has one or none.
+    fn are_known(&self, fields: &[Field], own: &[String]) -> bool {
+        let is_plain = |field: &Field| field.kind.is_single() && !own.contains(&field.name);
+        let few = i32::try_from(self.delivery.features.len()).is_ok();
+        let whole = self.request.window.is_none() && self.request.keep != Keep::List;
+        self.layer.is_some() && few && whole && fields.iter().all(is_plain)
     }
 
     /// The bridges and the gaps as a layer.
     pub fn stored_bridges<'o>(&'o self, store: &'o Store, progress: &'o Progress) -> Content<'o> {
-        let feature = |(id, text): (usize, Vec<u8>)| {
-            let text = text_of(&text);
-            let read = Read::of(&text, Heights::Dropped).ok()?;
+        let feature = |text: Vec<u8>| {
+            let text = String::from_utf8(text).ok()?;
+            let read = Feature::of(&text, Heights::Dropped).ok()?;
             let properties = read.properties.unwrap_or("{}").to_owned();
             match read.geometry {
-                Geometry::Line(run) => {
-                    let drawn = Drawn::Line(run.points.into(), run.heights.into());
-                    Some(Feature { id, properties, drawn })
-                }
+                Geometry::Line(run) => Some((properties, run.points.into_owned())),
                 Geometry::Lines(_) | Geometry::Other(_) => None,
             }
         };
-        let all = self.bridge_features().into_iter().enumerate();
-        let features = all.filter_map(feature).collect();
+        let all = self.bridge_features().into_iter();
+        let features = Box::new(StoredBridges(all.filter_map(feature).collect()));
         let first = OF_BRIDGES.map(|(name, kinds)| (name.to_owned(), kinds)).into();
-        self.content(store, "bridge", features, first, Dimension::Xy, progress)
+        self.content(store, "bridge", (features, first, false), Dimension::Xy, progress)
     }
 
     fn content<'o>(
         &'o self,
         store: &'o Store,
         each: &'static str,
-        features: Vec<Feature<'o>>,
-        first: Vec<(String, Kinds)>,
+        (features, first, known): (Box<dyn Features + 'o>, Vec<(String, Kinds)>, bool),
         dimension: Dimension,
         progress: &'o Progress,
     ) -> Content<'o> {
@@ -188,8 +242,10 @@ impl Outcome<'_> {
             reference: self.reference,
             geometry: self.layer.map(|layer| &layer.geometry[..]).filter(|name| !name.is_empty()),
             first,
+            known,
             input: self.layer.map_or(&[], |layer| &layer.fields),
             ids: store.ids,
+            indexed: store.indexed,
             longest: store.longest,
             options: store.options,
         };
@@ -199,9 +255,4 @@ impl Outcome<'_> {
         };
         Content::Store { write: Box::new(write), beside: store.beside }
     }
-}
-
-/// A text that was written by this command.
-fn text_of(bytes: &[u8]) -> String {
-    String::from_utf8_lossy(bytes).into_owned()
 }

@@ -40,7 +40,7 @@ fn lines_of(name: &str, class: Option<&str>) -> Vec<(Option<Vec<Point>>, u32)> {
             values.push(value);
         }
         let points = match &feature.geometry {
-            Geometry::Line(run) => Some(run.points.clone()),
+            Geometry::Line(run) => Some(run.points.to_vec()),
             _ => None,
         };
         all.push((points, group as u32));

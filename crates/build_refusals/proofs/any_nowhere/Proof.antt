@@ -2,7 +2,7 @@
 use borrow.Author.Needs.{needs}
 use mathlib.Core.Path.{sym, _∙_}
 use denote.Ref.{now}
-use Rattle.build_refusals.proofs.Laws.{nowhere-wild}
+use Rattle.build_refusals.proofs.Places.{nowhere-wild}
 use Rattle.build_refusals.proofs.any_nowhere.Statement.{statement}
 use Rattle.build_refusals.proofs.any_nowhere.Tie as tie
 

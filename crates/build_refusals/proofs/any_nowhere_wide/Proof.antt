@@ -1,86 +1,82 @@
--- `any_nowhere_wide` tells whether a point is no place: those from the i-th number on have one where all have.
-use Rattle.build_refusals.proofs.any_nowhere_wide.Statement.{statement}
-use Rattle.build_refusals.proofs.any_nowhere_wide.Tie as tie
-use Prim.Native.Nat.{_+_, _-_, _≤_}
-use mathlib.Core.Path.{_≡_, refl, sym, _∙_}
+-- `any_nowhere_wide` tells whether a point is no place: the sign's place of what the xs passed have made is taken where one of them is none, that of the ys
+-- likewise, and beside them stand the points that are left.
+use Prim.Native.Nat.{_+_, _-_, _^_, _≤_, _<_}
+use mathlib.Core.Path.{_≡_, _∙_}
 use native.Mathlib.Omega.{arith}
 use borrow.Author.Needs.{needs}
-use borrow.Author.Tests.{not-true, not-false}
+use lib.Bits.{or-lt}
 use lib.ListN.{length, drop}
 use Rattle.rules.specs.Plane.{points}
 use Rattle.rules.specs.Refusals.{anyNowhere}
 use Rattle.point_numbers.specs.Width.{Multiple}
 use Rattle.point_numbers.proofs.Points.{multiple-next}
-use Rattle.build_refusals.proofs.Laws.{x-nowhere, y-nowhere, place-passed, places-end}
+use Rattle.build_refusals.proofs.Places.{told, told-none, told-more, told-all}
+use Rattle.build_refusals.proofs.any_nowhere_wide.Statement.{statement}
+use Rattle.build_refusals.proofs.any_nowhere_wide.Tie as tie
 
 abbrev Inv-loop : tie.InvT-loop
-Inv-loop numbers width i₀ i =
-    (i ≤ length numbers) × Multiple width (length numbers - i) × (anyNowhere (points width (drop i numbers)) ≡ anyNowhere (points width numbers))
+Inv-loop numbers width any-x₀ any-y₀ i₀ any-x any-y i =
+    (i ≤ length numbers) × Multiple width (length numbers - i) × (any-x < 2 ^ 64) × (any-y < 2 ^ 64) × (told any-x any-y (points width (drop i numbers)) ≡ anyNowhere (points width numbers))
 
 abbrev μ-loop : tie.MeasureT-loop
-μ-loop numbers width i₀ i = length numbers - i
+μ-loop numbers width any-x₀ any-y₀ i₀ any-x any-y i = length numbers - i
+
+-- the point looked at has all its numbers, and what is left are whole points
+next : (c : tie.In-loop Inv-loop μ-loop) → (c .before .loop .i + c .before .before .before .args .width ≤ length (c .before .before .before .args .numbers .now)) × Multiple (c .before .before .before .args .width) (length (c .before .before .before .args .numbers .now) - (c .before .loop .i + c .before .before .before .args .width))
+next c = multiple-next (c .before .loop .inv .1) (c .loop-test .taken)
 
 loop-holds : tie.Need-loop-holds Inv-loop μ-loop
-loop-holds c = let m = c .before .pre .1 in (omega arith, record { number = m .number; long = omega (arith, m .long) }, refl)
+loop-holds c =
+    let s = c .before in
+    let m = s .pre .1 in
+    (omega arith, record { number = m .number; long = omega (arith, m .long) }, omega arith, omega arith, told-none (points (s .args .width) (s .args .numbers .now)))
 
-mul-is-finite : tie.Need-mul-is-finite Inv-loop μ-loop
-mul-is-finite c = omega arith
+mul-raised : tie.Need-mul-raised Inv-loop μ-loop
+mul-raised c = omega arith
 
-shared-slice-read-is-finite : tie.Need-shared-slice-read-is-finite Inv-loop μ-loop
-shared-slice-read-is-finite c = omega arith
+shared-slice-read-raised : tie.Need-shared-slice-read-raised Inv-loop μ-loop
+shared-slice-read-raised c = omega arith
 
-is-finite-requires : tie.Need-is-finite-requires Inv-loop μ-loop
-is-finite-requires c κs = search needs
+raised-requires : tie.Need-raised-requires Inv-loop μ-loop
+raised-requires c κs = search needs
 
-returns : tie.Need-returns Inv-loop μ-loop
-returns c =
-    let s = c .before .before .before .before .before .before in
-    let l = c .before .before .before .before in
-    let next = multiple-next (l .loop .inv .1) (c .before .before .before .loop-test .taken) .0 in
-    sym (sym (l .loop .inv .2) ∙ x-nowhere (s .args .width) (s .args .numbers .now) (l .loop .i) (s .pre .0) next (sym (c .before .is-finite .ensures) ∙ not-true _ (c .if1 .taken)))
+add-raised : tie.Need-add-raised Inv-loop μ-loop
+add-raised c = omega arith
 
-add-is-finite : tie.Need-add-is-finite Inv-loop μ-loop
-add-is-finite c = omega arith
+mul-raised-2 : tie.Need-mul-raised-2 Inv-loop μ-loop
+mul-raised-2 c = omega (arith, next (c .before .before) .0, c .before .before .before .before .before .pre .0)
 
-mul-is-finite-2 : tie.Need-mul-is-finite-2 Inv-loop μ-loop
-mul-is-finite-2 c = omega (arith, c .before .before .before .before .before .before .pre .0, multiple-next (c .before .before .before .before .loop .inv .1) (c .before .before .before .loop-test .taken) .0)
+shared-slice-read-raised-2 : tie.Need-shared-slice-read-raised-2 Inv-loop μ-loop
+shared-slice-read-raised-2 c = omega (arith, next (c .before .before .before) .0, c .before .before .before .before .before .before .pre .0)
 
-shared-slice-read-is-finite-2 : tie.Need-shared-slice-read-is-finite-2 Inv-loop μ-loop
-shared-slice-read-is-finite-2 c = omega (arith, c .before .before .before .before .before .before .before .pre .0, multiple-next (c .before .before .before .before .before .loop .inv .1) (c .before .before .before .before .loop-test .taken) .0)
-
-is-finite-requires-2 : tie.Need-is-finite-requires-2 Inv-loop μ-loop
-is-finite-requires-2 c κs = search needs
-
-returns-2 : tie.Need-returns-2 Inv-loop μ-loop
-returns-2 c =
-    let s = c .before .before .before .before .before .before .before .before .before in
-    let l = c .before .before .before .before .before .before .before in
-    let next = multiple-next (l .loop .inv .1) (c .before .before .before .before .before .before .loop-test .taken) .0 in
-    sym (sym (l .loop .inv .2) ∙ y-nowhere (s .args .width) (s .args .numbers .now) (l .loop .i) (s .pre .0) next
-    (sym (c .before .before .before .before .is-finite .ensures) ∙ not-false _ (c .before .before .before .if1 .left)) (sym (c .before .is-finite2 .ensures) ∙ not-true _ (c .if2 .taken)))
+raised-requires-2 : tie.Need-raised-requires-2 Inv-loop μ-loop
+raised-requires-2 c κs = search needs
 
 add-i : tie.Need-add-i Inv-loop μ-loop
-add-i c = omega (arith, multiple-next (c .before .before .before .before .before .before .before .loop .inv .1) (c .before .before .before .before .before .before .loop-test .taken) .0)
+add-i c = omega (arith, next (c .before .before .before .before) .0)
 
 loop-less : tie.Need-loop-less Inv-loop μ-loop
-loop-less c = omega (arith, c .before .before .before .before .before .before .before .before .before .pre .0, c .before .before .before .before .before .before .loop-test .taken, multiple-next (c .before .before .before .before .before .before .before .loop .inv .1) (c .before .before .before .before .before .before .loop-test .taken) .0)
+loop-less c = omega (arith, next (c .before .before .before .before) .0, c .before .before .before .before .before .before .before .pre .0)
 
 loop-again : tie.Need-loop-again Inv-loop μ-loop
 loop-again c =
-    let s = c .before .before .before .before .before .before .before .before .before in
-    let l = c .before .before .before .before .before .before .before in
-    let next = multiple-next (l .loop .inv .1) (c .before .before .before .before .before .before .loop-test .taken) in (
-      next .0,
-      next .1,
-      sym (place-passed (s .args .width) (s .args .numbers .now) (l .loop .i) (s .pre .0) (next .0)
-          (sym (c .before .before .before .before .is-finite .ensures) ∙ not-false _ (c .before .before .before .if1 .left)) (sym (c .before .is-finite2 .ensures) ∙ not-false _ (c .if2 .left))) ∙ l .loop .inv .2,
+    let x = c .before .before in
+    let l = x .before .before .before in
+    let s = l .before .before in
+    let more = next (x .before .before) in (
+      more .0,
+      more .1,
+      or-lt 64 (l .loop .any-x) (x .raised .result) (l .loop .inv .2) (x .raised .ensures .1),
+      or-lt 64 (l .loop .any-y) (c .raised2 .result) (l .loop .inv .3) (c .raised2 .ensures .1),
+      told-more (s .args .width) (s .args .numbers .now) (l .loop .i) (s .pre .0) (more .0) (l .loop .any-x) (l .loop .any-y) (x .raised .result) (c .raised2 .result)
+          (l .loop .inv .2) (l .loop .inv .3) (x .raised .ensures .0) (c .raised2 .ensures .0) ∙ l .loop .inv .4,
     )
 
-returns-3 : tie.Need-returns-3 Inv-loop μ-loop
-returns-3 c =
-    let s = c .before .before .before in
+returns : tie.Need-returns Inv-loop μ-loop
+returns c =
     let l = c .before in
-    sym (sym (l .loop .inv .2) ∙ places-end (s .args .width) (s .args .numbers .now) (l .loop .i) (s .pre .0) (c .loop-test .left))
+    let s = l .before .before in
+    told-all (s .args .width) (s .args .numbers .now) (l .loop .i) (l .loop .any-x) (l .loop .any-y) (s .pre .0) (c .loop-test .left) (l .loop .inv .2) (l .loop .inv .3) ∙ l .loop .inv .4
 
 pub any-nowhere-wide-spec : {M : Type 1} → statement M
 any-nowhere-wide-spec =
@@ -89,16 +85,14 @@ any-nowhere-wide-spec =
     Inv-loop
     μ-loop
     loop-holds
-    mul-is-finite
-    shared-slice-read-is-finite
-    is-finite-requires
-    returns
-    add-is-finite
-    mul-is-finite-2
-    shared-slice-read-is-finite-2
-    is-finite-requires-2
-    returns-2
+    mul-raised
+    shared-slice-read-raised
+    raised-requires
+    add-raised
+    mul-raised-2
+    shared-slice-read-raised-2
+    raised-requires-2
     add-i
     loop-less
     loop-again
-    returns-3)
+    returns)

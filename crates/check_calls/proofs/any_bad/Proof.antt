@@ -7,9 +7,8 @@ use mathlib.Core.Path.{_≡_, refl, sym, ap, _∙_}
 use lib.ListN.{drop}
 use Rattle.rules.specs.Lists.{upto, anyOf}
 use Rattle.chain_laws.proofs.Counts.{upto-length}
-use Rattle.check_laws.proofs.Rows.{any-next, any-stop, any-end}
+use Rattle.check_laws.proofs.Rows.{any-next, any-stop, any-end, upto-at}
 use Rattle.check_calls.specs.Deliveries.{badAt}
-use Rattle.check_calls.proofs.Records.{upto-at}
 
 abbrev Inv-loop : tie.InvT-loop
 Inv-loop coordinates merged table width listing n k j₀ j = (j ≤ k) × (anyOf (badAt width n coordinates merged table listing) (drop j (upto k)) ≡ anyOf (badAt width n coordinates merged table listing) (upto k))

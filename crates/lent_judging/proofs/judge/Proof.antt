@@ -19,12 +19,12 @@ one-asked c =
       groups = now (s .groups);
       merged = now (s .merged);
       number = s .k;
-      judgeable = start e .pre;
+      judgeable = start e .pre .0;
       frame = frame-fine _ _ _ _ (e .before .frame-at .ensures .framed (e .if1 .left));
       one-line = c .if2 .taken;
     }
 
-abbrev more-asked : (c : tie.Else2) → (let s = start (c .before .before) .args in MoreAsked (s .width) (now (s .seen)) (now (s .counts)) (now (s .groups)) (now (s .kinds)) (now (s .pieces)) (now (s .members)) (now (s .marks)) (now (s .listing)) (now (s .merged)) (s .q))
+abbrev more-asked : (c : tie.Else2) → (let s = start (c .before .before) .args in MoreAsked (s .width) (s .clean) (now (s .seen)) (now (s .counts)) (now (s .groups)) (now (s .kinds)) (now (s .pieces)) (now (s .members)) (now (s .marks)) (now (s .listing)) (now (s .merged)) (s .q))
 more-asked c =
     let e = c .before .before in
     let s = start e .args in
@@ -32,8 +32,9 @@ more-asked c =
       coordinates = now (s .coordinates);
       places = now (s .places);
       number = s .k;
-      judgeable = start e .pre;
+      judgeable = start e .pre .0;
       frame = frame-fine _ _ _ _ (e .before .frame-at .ensures .framed (e .if1 .left));
+      front = start e .pre .1;
       more-lines = c .if2 .left;
     }
 
@@ -41,7 +42,7 @@ frame-at-requires : tie.Need-frame-at-requires
 frame-at-requires c κs = search needs
 
 returns : tie.Need-returns
-returns c = frame-refused _ _ _ (c .before .before .before .before .before .before .before .before .before .before .before .pre) (c .before .frame-at .ensures) (c .if1 .taken)
+returns c = frame-refused _ _ _ (c .before .before .before .before .before .before .before .before .before .before .before .pre .0) (c .before .frame-at .ensures) (c .if1 .taken)
 
 mul-if2 : tie.Need-mul-if2
 mul-if2 c = search needs

@@ -98,7 +98,7 @@ shared-slice-read-points-bad-3 : tie.Need-shared-slice-read-points-bad-3
 shared-slice-read-points-bad-3 c = search needs
 
 points-bad-requires : tie.Need-points-bad-requires
-points-bad-requires c κs = let y = c .before .before .before .before .before .before .before .before .before .before .before .before .before .before .before .before .before .before .before .pre in (y .judgeable .sized .two, y .judgeable .sized .four, λ e. merged-inside _ _ _ (y .judgeable) (y .frame) (y .more-lines) e)
+points-bad-requires c κs = let y = c .before .before .before .before .before .before .before .before .before .before .before .before .before .before .before .before .before .before .before .pre in (y .judgeable .sized .two, y .judgeable .sized .four, λ e. merged-inside _ _ _ (y .judgeable) (y .frame) (y .more-lines) e, y .front)
 
 returns-2 : tie.Need-returns-2
 returns-2 c = λ y. more-judged _ _ _ (y .judgeable) (y .frame) (y .more-lines) (c .before .before .before .before .before .lines-bad .ensures) (c .before .before .before .before .if1 .left) (c .points-bad .ensures)

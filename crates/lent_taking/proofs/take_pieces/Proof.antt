@@ -1,53 +1,38 @@
--- `take_pieces`: the first q pieces are taken, each behind those before it.
+-- `take_pieces`: where the members are in a row the pieces are taken as they are, and else one by one.
+use borrow.Author.Needs.{needs}
 use Rattle.lent_taking.proofs.take_pieces.Statement.{statement}
 use Rattle.lent_taking.proofs.take_pieces.Tie as tie
-use Prim.Native.Nat.{_-_, _≤_}
-use denote.Ref.{now}
-use native.Mathlib.Omega.{arith}
-use Rattle.lent_taking.specs.Taking.{Took}
-use Rattle.lent_taking.proofs.Steps.{took-start, piece-takable, took-next, took-all}
+use mathlib.Core.Path.{sym, _∙_}
 
-abbrev Inv-loop : tie.InvT-loop
-Inv-loop w₀ n k pieces members marks listing m₀ q₀ w m q = (q ≤ k) × Took w w₀ n q pieces members marks listing m
+in-a-row-requires : tie.Need-in-a-row-requires
+in-a-row-requires c κs = search needs
 
-abbrev μ-loop : tie.MeasureT-loop
-μ-loop w₀ n k pieces members marks listing m₀ q₀ w m q = k - q
+take-row-requires : tie.Need-take-row-requires
+take-row-requires c κs = (c .before .before .before .before .before .before .before .before .pre, sym (c .before .before .in-a-row .ensures) ∙ c .before .if1 .taken)
 
-loop-holds : tie.Need-loop-holds Inv-loop μ-loop
-loop-holds c = let s = c .before .before .before .before .before .args in (omega arith, took-start (now (s .w)) (s .n) (now (s .pieces)) (now (s .members)) (now (s .marks)) (now (s .listing)))
+same-length : tie.Need-same-length
+same-length c = search needs
 
-take-piece-requires : tie.Need-take-piece-requires Inv-loop μ-loop
-take-piece-requires c κs = piece-takable (c .before .before .before .before .before .before .before .before .pre) (c .before .before .loop .inv .1) (c .before .loop-test .taken)
+returns : tie.Need-returns
+returns c = search needs
 
-add-m : tie.Need-add-m Inv-loop μ-loop
-add-m c = let y = piece-takable (c .before .before .before .before .before .before .before .before .before .before .before .pre) (c .before .before .before .before .before .loop .inv .1) (c .before .before .before .before .loop-test .taken) in omega (arith, y .members-fit, y .few, c .before .before .take-piece .ensures .count)
+take-each-requires : tie.Need-take-each-requires
+take-each-requires c κs = search needs
 
-add-q : tie.Need-add-q Inv-loop μ-loop
-add-q c = omega arith
+same-length-2 : tie.Need-same-length-2
+same-length-2 c = search needs
 
-loop-less : tie.Need-loop-less Inv-loop μ-loop
-loop-less c = omega arith
-
-loop-again : tie.Need-loop-again Inv-loop μ-loop
-loop-again c = (omega arith, took-next (c .before .before .before .before .before .before .before .before .before .before .before .pre) (c .before .before .before .before .before .loop .inv .1) (c .before .before .before .before .loop-test .taken) (c .before .before .take-piece .ensures))
-
-same-length : tie.Need-same-length Inv-loop μ-loop
-same-length c = c .before .loop .inv .1 .size
-
-returns : tie.Need-returns Inv-loop μ-loop
-returns c = took-all (c .before .loop .inv .1) (omega arith)
+returns-2 : tie.Need-returns-2
+returns-2 c = search needs
 
 pub take-pieces-spec : {M : Type 1} → statement M
 take-pieces-spec =
     tie.close
     (tie.spec
-    Inv-loop
-    μ-loop
-    loop-holds
-    take-piece-requires
-    add-m
-    add-q
-    loop-less
-    loop-again
+    in-a-row-requires
+    take-row-requires
     same-length
-    returns)
+    returns
+    take-each-requires
+    same-length-2
+    returns-2)

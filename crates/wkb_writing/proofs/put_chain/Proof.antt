@@ -25,11 +25,11 @@ mul-count-2 c = omega (arith, row (c .before .before .before .before))
 shared-slice-read-count : tie.Need-shared-slice-read-count
 shared-slice-read-count c = omega (arith, row (c .before .before .before .before .before))
 
-part-requires : tie.Need-part-requires
-part-requires c κs = search needs
+known-part-requires : tie.Need-known-part-requires
+known-part-requires c κs = search needs
 
 put-record-requires : tie.Need-put-record-requires
-put-record-requires c κs = view-room (c .before .before .before .before .before .before .before .pre) (c .before .part .ensures)
+put-record-requires c κs = view-room (c .before .before .before .before .before .before .before .pre) (c .before .known-part .ensures)
 
 same-length : tie.Need-same-length
 same-length c = search needs
@@ -37,7 +37,7 @@ same-length c = search needs
 returns : tie.Need-returns
 returns c =
     let s = c .before .before .before .before .before .before .before .before .before .before in
-    chain-put (s .pre) (s .args .order) (c .before .before .before .before .part .ensures) (c .before .before .put-record .ensures)
+    chain-put (s .pre) (s .args .order) (c .before .before .before .before .known-part .ensures) (c .before .before .put-record .ensures)
 
 pub put-chain-spec : {M : Type 1} → statement M
 put-chain-spec =
@@ -47,7 +47,7 @@ put-chain-spec =
     add-count
     mul-count-2
     shared-slice-read-count
-    part-requires
+    known-part-requires
     put-record-requires
     same-length
     returns)

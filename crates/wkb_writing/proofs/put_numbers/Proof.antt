@@ -1,75 +1,65 @@
--- After i turns the bytes of the first i numbers stand from `at` on.
+-- The eights, and then what is left of the numbers.
+use borrow.Author.Needs.{needs}
 use Rattle.wkb_writing.proofs.put_numbers.Statement.{statement}
 use Rattle.wkb_writing.proofs.put_numbers.Tie as tie
-use Prim.Native.Nat.{_-_, _*_, _≤_}
-use mathlib.Core.Path.{_≡_, refl, _∙_}
-use mathlib.Core.List.{flatMap}
-use native.Mathlib.Omega.{arith}
-use lib.ListN.{length, take}
-use Rattle.point_slices.specs.Holds.{HoldsFrom}
-use Rattle.point_slices.proofs.Laws.{from-length}
-use Rattle.rules.specs.Wkb.{bytesBy}
-use Rattle.wkb_writing.proofs.Laws.{none-put, number-put, all-put}
+use Rattle.point_slices.proofs.Laws.{mid-rest}
+use Rattle.wkb_writing.proofs.Laws.{numbers-put}
 
-abbrev Inv-loop : tie.InvT-loop
-Inv-loop run₀ at order numbers i₀ run i = (i ≤ length numbers) × (length run ≡ length run₀) × HoldsFrom run run₀ at (i * 8) (flatMap (bytesBy order 8) (take i numbers))
+put-pairs-requires : tie.Need-put-pairs-requires
+put-pairs-requires c κs = search needs
 
-abbrev μ-loop : tie.MeasureT-loop
-μ-loop run₀ at order numbers i₀ run i = length numbers - i
+same-length : tie.Need-same-length
+same-length c = search needs
 
-loop-holds : tie.Need-loop-holds Inv-loop μ-loop
-loop-holds c = (omega arith, refl, none-put _ _ _ (c .before .before .args .numbers .now))
+returns : tie.Need-returns
+returns c = search needs
 
-mul-put-number : tie.Need-mul-put-number Inv-loop μ-loop
-mul-put-number c = omega arith
+put-eights-requires : tie.Need-put-eights-requires
+put-eights-requires c κs = search needs
 
-add-put-number : tie.Need-add-put-number Inv-loop μ-loop
-add-put-number c = omega arith
+mul-put-pairs : tie.Need-mul-put-pairs
+mul-put-pairs c = search needs
 
-mul-put-number-2 : tie.Need-mul-put-number-2 Inv-loop μ-loop
-mul-put-number-2 c = omega arith
+add-put-pairs : tie.Need-add-put-pairs
+add-put-pairs c = search needs
 
-shared-slice-read-put-number : tie.Need-shared-slice-read-put-number Inv-loop μ-loop
-shared-slice-read-put-number c = omega arith
+mul-put-pairs-2 : tie.Need-mul-put-pairs-2
+mul-put-pairs-2 c = search needs
 
-put-number-requires : tie.Need-put-number-requires Inv-loop μ-loop
-put-number-requires c κs = omega (arith, c .before .before .before .loop .inv .1, c .before .before .before .before .before .before .pre)
+sub-put-pairs : tie.Need-sub-put-pairs
+sub-put-pairs c = search needs
 
-add-i : tie.Need-add-i Inv-loop μ-loop
-add-i c = omega (arith, c .before .before .before .before .before .loop-test .taken)
+part-put-pairs-start : tie.Need-part-put-pairs-start
+part-put-pairs-start c = search needs
 
-loop-less : tie.Need-loop-less Inv-loop μ-loop
-loop-less c = omega (arith, c .before .before .before .before .before .loop-test .taken)
+part-put-pairs-end : tie.Need-part-put-pairs-end
+part-put-pairs-end c = search needs
 
-loop-again : tie.Need-loop-again Inv-loop μ-loop
-loop-again c =
-    let l = c .before .before .before .before .before .before in
-    let a = c .before .before .before .before .before .before .before .before .before .args in (
-      omega (arith, c .before .before .before .before .before .loop-test .taken),
-      from-length (c .before .before .put-number .ensures) (omega (arith, l .loop .inv .1, c .before .before .before .before .before .before .before .before .before .pre, c .before .before .before .before .before .loop-test .taken)) ∙ l .loop .inv .1,
-      number-put (a .numbers .now) (a .order) (a .at) (l .loop .i) (l .loop .inv .2) (c .before .before .before .before .before .before .before .before .before .pre) (c .before .before .before .before .before .loop-test .taken) (c .before .before .put-number .ensures),
-    )
+put-pairs-requires-2 : tie.Need-put-pairs-requires-2
+put-pairs-requires-2 c κs = search needs
 
-same-length : tie.Need-same-length Inv-loop μ-loop
-same-length c = c .before .loop .inv .1
+same-length-2 : tie.Need-same-length-2
+same-length-2 c = search needs
 
-returns : tie.Need-returns Inv-loop μ-loop
-returns c = let l = c .before in let a = c .before .before .before .before .args in all-put (a .numbers .now) (a .order) (a .at) (l .loop .i) (l .loop .inv .2) (omega arith)
+returns-2 : tie.Need-returns-2
+returns-2 c =
+    let s = c .before .before .before .before .before .before .before .before .before .before .before .before in
+    numbers-put (s .args .numbers .now) _ (s .args .order) (s .args .at) _ (c .before .before .before .before .before .before .before .put-eights .ensures) (s .pre) (mid-rest (s .args .numbers .now) _) (c .before .before .put-pairs2 .ensures)
 
 pub put-numbers-spec : {M : Type 1} → statement M
 put-numbers-spec =
     tie.close
     (tie.spec
-    Inv-loop
-    μ-loop
-    loop-holds
-    mul-put-number
-    add-put-number
-    mul-put-number-2
-    shared-slice-read-put-number
-    put-number-requires
-    add-i
-    loop-less
-    loop-again
+    put-pairs-requires
     same-length
-    returns)
+    returns
+    put-eights-requires
+    mul-put-pairs
+    add-put-pairs
+    mul-put-pairs-2
+    sub-put-pairs
+    part-put-pairs-start
+    part-put-pairs-end
+    put-pairs-requires-2
+    same-length-2
+    returns-2)

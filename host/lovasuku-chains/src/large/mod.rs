@@ -33,9 +33,10 @@
 //! ```
 //!
 //! [`join`] takes lines that stand anywhere, and keeps the chains with what each was joined by;
-//! [`join_zooms`] does so for several tolerances, with one round one for all; [`gaps`] tells what stayed
-//! open. [`check`] checks chains made elsewhere, of any number and size; a host that works on several cores
-//! cuts them by [`check_batches`], and gives each core a [`Checker`].
+//! [`join_zooms`] does so for several tolerances, with one round one for all, and [`join_lines`] for lines
+//! that lie one behind another, without a copy of them; [`gaps`] tells what stayed open. [`check`] checks
+//! chains made elsewhere, of any number and size; a host that works on several cores cuts them by
+//! [`check_batches`], and gives each core a [`Checker`].
 
 mod arranging;
 mod assembling;
@@ -76,7 +77,7 @@ pub use joined::Joined;
 pub use joints::{blocking, distance, Joint, JointKind};
 pub(crate) use keys::{exact_key, key, Key};
 pub use rooms::{Rooms, Way};
-pub use told::{join, join_zooms, Chain, Told};
+pub use told::{join, join_lines, join_zooms, Chain, Told};
 
 /// A point: x and y.
 pub type Point = [f64; 2];

@@ -61,6 +61,12 @@ impl Nodes {
         joining.join(&self.ends, 0)
     }
 
+    /// Lets go of all but where crossings are.
+    pub fn let_go(&mut self) {
+        self.ends = Vec::new();
+        self.joins = Vec::new();
+    }
+
     /// The end that an end is joined with.
     pub fn joined(&self, end: u32) -> Option<u32> {
         some(&self.joins, end)

@@ -39,12 +39,12 @@ pub struct Way<'a> {
 
 impl<'a> Way<'a> {
     /// How the calls of a round are made.
-    fn ways<'w>(self, settings: Settings, callers: &'w Callers) -> Ways<'w>
+    fn ways<'w>(self, settings: Settings, callers: &'w Callers, lean: bool) -> Ways<'w>
     where
         'a: 'w,
     {
         let Way { capacity, batch, neighbours, cores, tell, .. } = self;
-        Ways { settings, capacity, batch, neighbours, cores, callers, tell }
+        Ways { settings, capacity, batch, neighbours, cores, callers, lean, tell }
     }
 }
 
@@ -107,6 +107,10 @@ pub struct Rooms {
     first: Round,
     second: Round,
     whole: Whole,
+    /// Whether the rooms let go of what is not needed any more, so that nothing can be run again in them.
+    pub(super) lean: bool,
+    /// True where the coordinates of chains stay where round one laid them.
+    in_place: bool,
     /// The pieces of round one that were laid without a call, and its calls.
     first_laid: Vec<u32>,
     first_calls: usize,
@@ -168,17 +172,18 @@ impl Rooms {
         way.cores.within(|| self.finish(lines, settings, way))
     }
 
-    /// Lets go of all that chains were made by and that is not told of them.
-    pub(super) fn let_go(&mut self) {
-        self.sorting = Sorting::default();
-        self.callers = Callers::default();
-        self.first.let_go();
-        self.second = Round::default();
+    /// Takes the coordinates of chains of several lines.
+    pub(super) fn take_merged(&mut self) -> Vec<f64> {
+        match self.in_place {
+            true => self.first.let_go(),
+            false => std::mem::take(&mut self.whole.merged),
+        }
     }
 
     /// The chains of the lines that were joined last.
     pub(super) fn joined<'a>(&'a self, lines: Lines<'a>) -> Joined<'a> {
         let Whole { table, members, marks, listing, way, merged, boxes, .. } = &self.whole;
+        let merged = if self.in_place { self.first.laid() } else { merged };
         let boxed = table.len() / RECORD;
         let chains = Chains { lines, table, members, marks, listing, way, merged, boxes, boxed };
         let Round { nodes, outlines, .. } = &self.first;
@@ -197,18 +202,20 @@ impl Rooms {
         callers.take(first_laid);
         first_laid.clear();
         let lines = LinePieces { lines, firsts };
-        first.run(&lines, Grid::Exact, sorting, way.ways(settings, callers))?;
+        let last = self.lean && Grid::of_round_two(settings).is_none();
+        first.run(&lines, Grid::Exact, sorting, way.ways(settings, callers, last))?;
         *first_calls = callers.take(first_laid);
         Ok(())
     }
 
     /// Round two, where there is a tolerance, over what round one left, and the chains put together.
     fn finish(&mut self, lines: Lines, settings: Settings, way: Way) -> Result<(), Fault> {
+        let lean = self.lean;
         let Rooms { firsts, sorting, callers, first, second, whole, laid, calls, .. } = self;
         laid.clone_from(&self.first_laid);
         *calls = self.first_calls;
         let lines = LinePieces { lines, firsts };
-        let ways = way.ways(settings, callers);
+        let ways = way.ways(settings, callers, lean);
         let mut rounds = Rounds { lines, first, second: None };
         if let Some(grid) = Grid::of_round_two(settings) {
             second.run(&ChainPieces { lines, first }, grid, sorting, ways)?;
@@ -218,7 +225,16 @@ impl Rooms {
         }
         laid.sort_unstable();
         laid.dedup();
-        whole.put_together(rounds, way.boxes, way.cores);
+        self.in_place = lean && rounds.second.is_none();
+        whole.put_together(rounds, way.boxes, self.in_place, way.cores);
+        if lean {
+            self.sorting = Sorting::default();
+            self.callers = Callers::default();
+        }
+        if lean && !self.in_place {
+            first.let_go();
+            *second = Round::default();
+        }
         Ok(())
     }
 }

@@ -48,6 +48,8 @@ pub struct Ways<'a> {
     pub neighbours: bool,
     pub cores: Cores,
     pub callers: &'a Callers,
+    /// Whether what was needed is let go of at once, for want of another round.
+    pub lean: bool,
     /// Is told how many lines are done.
     pub tell: &'a (dyn Fn(usize) + Sync),
 }
@@ -94,6 +96,9 @@ impl Round {
         let Ways { capacity, batch, neighbours, cores, .. } = ways;
         let plan = Plan { nodes: &self.nodes, outlines: &self.outlines };
         self.batches.cut(pieces, plan, sorting, Cutting { capacity, batch, neighbours, cores });
+        if ways.lean {
+            *sorting = Sorting::default();
+        }
         self.sizes.clear();
         resize(&mut self.sizes, self.batches.slots(), 0);
         let room = self.batches.room(0..self.batches.slots() as u32);
@@ -110,6 +115,10 @@ impl Round {
         // The lines for which no call was needed.
         tell(pieces.all_lines().saturating_sub(told.load(Relaxed)));
         self.find_places(cores);
+        if ways.lean {
+            self.batches = Batches::default();
+            self.sizes = Vec::new();
+        }
         Ok(())
     }
 
@@ -131,12 +140,23 @@ impl Round {
         cores.parts((0, &mut places[..]), PART, &find, &|(), ()| ());
     }
 
-    /// Lets go of batches and of what was laid.
-    pub fn let_go(&mut self) {
+    /// Lets go of all but what tells of joints, and gives the coordinates that were laid.
+    pub fn let_go(&mut self) -> Vec<f64> {
+        self.nodes.let_go();
         self.batches = Batches::default();
         self.sizes = Vec::new();
-        self.laid = Vec::new();
         self.places = Vec::new();
+        std::mem::take(&mut self.laid)
+    }
+
+    /// All coordinates that were laid.
+    pub fn laid(&self) -> &[f64] {
+        &self.laid
+    }
+
+    /// The first coordinate of the chain of an outline of several pieces, among all that were laid.
+    pub fn place(&self, outline: u32) -> u32 {
+        self.places[outline as usize][0]
     }
 
     /// The numbers of the chain of an outline of several pieces.
@@ -172,6 +192,7 @@ mod tests {
             neighbours,
             cores,
             callers: &callers,
+            lean: false,
             tell: &|_| (),
         };
         let (mut round, mut sorting) = (Round::default(), Sorting::default());

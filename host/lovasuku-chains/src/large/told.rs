@@ -3,8 +3,9 @@
 use super::joints::Joint;
 use super::rooms::{Rooms, Way};
 use super::{Fault, Joined, Line, Point};
-use crate::size::POINT;
-use crate::{Dimension, LinesBuf, PathLine, Settings, Window, WindowBuf};
+use crate::size::{POINT, RECORD};
+use crate::two::by_two;
+use crate::{Dimension, Lines, LinesBuf, PathLine, Settings, Window, WindowBuf};
 
 /// A chain: lines that were joined, or one that was not.
 #[derive(Clone, Copy, Debug, PartialEq)]
@@ -29,24 +30,34 @@ pub struct Chain<'a> {
 
 /// The chains of a delivery, for a host that keeps them, with what each was joined by.
 ///
-/// Four bytes a line, eight more on its way, 48 a joint, 12 a chain, and the coordinates of chains of
+/// Four bytes a line, eight more on its way, 48 a joint, 16 a chain, and the coordinates of chains of
 /// several lines.
-#[derive(Clone, Debug, Default, PartialEq)]
+#[derive(Clone, Debug, Default)]
 pub struct Told {
     members: Vec<u32>,
     path: Vec<PathLine>,
     joints: Vec<Joint>,
-    points: Vec<Point>,
+    /// x, y, x, y .. of chains of several lines, and the extras of these.
+    points: Vec<f64>,
     extras: Vec<f64>,
     width: usize,
     chains: Vec<Record>,
     laid: Vec<u32>,
 }
 
-/// A chain by where its parts end, which begin where those of the chain before end.
-#[derive(Clone, Copy, Debug, Default, PartialEq)]
+impl PartialEq for Told {
+    /// Whether the same is told of the same chains, wherever their coordinates lie.
+    fn eq(&self, other: &Told) -> bool {
+        self.laid == other.laid && self.chains().eq(other.chains())
+    }
+}
+
+/// A chain by where its members end, which begin where those of the chain before end, and by its points: the
+/// first of several lines' and how many there are.
+#[derive(Clone, Copy, Debug, Default)]
 struct Record {
     members: u32,
+    first: u32,
     points: u32,
     is_loop: bool,
     in_window: bool,
@@ -81,12 +92,8 @@ pub fn join(
     (settings, window): (Settings, Option<Window>),
     way: Way,
 ) -> Result<Told, Fault> {
-    let lent = lent(dimension, lines);
-    let mut rooms = Rooms::default();
-    let way = Way { boxes: window.is_some(), ..way };
-    rooms.run(lent.lines(), settings, way)?;
-    rooms.let_go();
-    Told::of(&rooms.joined(lent.lines()), window)
+    let zooms = join_zooms(dimension, lines, (settings, window), &[settings.tolerance], way)?;
+    Ok(zooms.into_iter().next().unwrap_or_default())
 }
 
 /// Joins lines as [`join`] does for each of several tolerances, with one round one for all. The chains of each
@@ -102,20 +109,33 @@ pub fn join_zooms(
     tolerances: &[f64],
     way: Way,
 ) -> Result<Vec<Told>, Fault> {
-    let lent = lent(dimension, lines);
+    join_lines(lent(dimension, lines).lines(), (settings, window), tolerances, way)
+}
+
+/// Joins lines as [`join_zooms`] does that lie one behind another, and of which no copy is made.
+///
+/// # Errors
+///
+/// Those of [`Rooms::build`].
+pub fn join_lines(
+    lines: Lines,
+    (settings, window): (Settings, Option<Window>),
+    tolerances: &[f64],
+    way: Way,
+) -> Result<Vec<Told>, Fault> {
     let mut rooms = Rooms::default();
     let way = Way { boxes: window.is_some(), ..way };
     let mut zooms = Vec::with_capacity(tolerances.len());
     for (k, &tolerance) in tolerances.iter().enumerate() {
         let settings = settings.with_tolerance(tolerance);
+        rooms.lean = k + 1 == tolerances.len();
         match k {
-            0 => rooms.run(lent.lines(), settings, way)?,
-            _ => rooms.run_again(lent.lines(), settings, way)?,
+            0 => rooms.run(lines, settings, way)?,
+            _ => rooms.run_again(lines, settings, way)?,
         }
-        if k + 1 == tolerances.len() {
-            rooms.let_go();
-        }
-        zooms.push(Told::of(&rooms.joined(lent.lines()), window)?);
+        let mut told = Told::but_coordinates(&rooms.joined(lines), window)?;
+        told.put_coordinates(rooms.take_merged(), lines.dimension);
+        zooms.push(told);
     }
     Ok(zooms)
 }
@@ -137,23 +157,24 @@ impl Told {
     /// What is told of the chains of a delivery. For a window their boxes must be there.
     pub fn of(joined: &Joined, window: Option<Window>) -> Result<Self, Fault> {
         let chains = joined.chains();
-        let dimension = chains.lines().dimension;
+        let mut told = Told::but_coordinates(joined, window)?;
+        told.put_coordinates(chains.merged().to_vec(), chains.lines().dimension);
+        Ok(told)
+    }
+
+    /// What is told of the chains of a delivery beside their coordinates.
+    fn but_coordinates(joined: &Joined, window: Option<Window>) -> Result<Self, Fault> {
+        let chains = joined.chains();
         let mut told = Told {
             members: chains.members().to_vec(),
             path: Vec::with_capacity(chains.members().len()),
             joints: Vec::with_capacity(chains.members().len().saturating_sub(chains.len())),
-            points: Vec::with_capacity(chains.merged().len() / dimension.stride()),
-            width: dimension.extras(),
             chains: Vec::with_capacity(chains.len()),
             laid: joined.laid().to_vec(),
             ..Told::default()
         };
-        for numbers in chains.merged().chunks_exact(dimension.stride()) {
-            told.points.push([numbers[0], numbers[1]]);
-            told.extras.extend(&numbers[POINT..]);
-        }
-        for chain in chains.iter() {
-            told.put(joined, chain, window.is_none());
+        for (chain, record) in chains.iter().zip(chains.table().chunks_exact(RECORD)) {
+            told.put(joined, chain, record, window.is_none());
         }
         if let Some(window) = window {
             for (position, _) in chains.window(window, &mut WindowBuf::default())? {
@@ -163,16 +184,31 @@ impl Told {
         Ok(told)
     }
 
-    fn put(&mut self, joined: &Joined, chain: crate::Chain, in_window: bool) {
+    /// Puts the coordinates of chains of several lines.
+    fn put_coordinates(&mut self, merged: Vec<f64>, dimension: Dimension) {
+        self.width = dimension.extras();
+        if self.width == 0 {
+            self.points = merged;
+            return;
+        }
+        for numbers in merged.chunks_exact(dimension.stride()) {
+            let (point, extras) = numbers.split_at(POINT);
+            self.points.extend(point);
+            self.extras.extend(extras);
+        }
+    }
+
+    fn put(&mut self, joined: &Joined, chain: crate::Chain, record: &[u32], in_window: bool) {
         let from = self.path.len();
         self.path.extend(chain.path());
         let way = &self.path[from..];
         self.joints.extend(way.windows(2).map(|two| joined.joint(two[0], two[1])));
-        let before = self.chains.last().map_or(0, |record| record.points);
-        let points = if chain.is_merged() { chain.positions().len() as u32 } else { 0 };
-        let members = self.path.len() as u32;
-        let is_loop = chain.is_loop();
-        self.chains.push(Record { members, points: before + points, is_loop, in_window });
+        let (members, is_loop) = (self.path.len() as u32, chain.is_loop());
+        let [first, points] = match *record {
+            [_, _, 1, first, points, ..] => [first, points],
+            _ => [0; 2],
+        };
+        self.chains.push(Record { members, first, points, is_loop, in_window });
     }
 
     /// How many chains there are.
@@ -198,16 +234,17 @@ impl Told {
 
     fn chain(&self, k: usize) -> Chain<'_> {
         let before = k.checked_sub(1).map(|last| self.chains[last]).unwrap_or_default();
-        let Record { members, points, is_loop, in_window } = self.chains[k];
+        let Record { members, first, points, is_loop, in_window } = self.chains[k];
         let lines = before.members as usize..members as usize;
         // A chain of so many lines has one joint less.
         let joints = lines.start - k..lines.end - k - 1;
-        let run = before.points as usize..points as usize;
+        let run = first as usize..first as usize + points as usize;
+        let numbers = POINT * run.start..POINT * run.end;
         let extras = self.width * run.start..self.width * run.end;
         Chain {
             members: &self.members[lines.clone()],
             path: &self.path[lines.clone()],
-            points: (lines.len() > 1).then(|| &self.points[run]),
+            points: (lines.len() > 1).then(|| by_two(&self.points[numbers])),
             extras: &self.extras[extras],
             is_loop,
             in_window,

@@ -4,7 +4,7 @@ use super::has_heights;
 use super::names::Step;
 use crate::delivery::{self, Delivery, Feature, Geometry, Reading, Run};
 use crate::progress::Progress;
-use crate::source::Source;
+use crate::source::{Ground, Source};
 use anyhow::{anyhow, bail, Result};
 use lovasuku_chains::Dimension;
 use rayon::prelude::*;
@@ -12,17 +12,17 @@ use serde_json::Value;
 
 /// A chain as it was read.
 #[derive(Clone, Debug)]
-pub struct Read {
+pub struct Read<'a> {
     /// What names it as it is written, if it has an id.
     id: Option<String>,
     /// Its lines in the order of travel.
     pub path: Vec<Step>,
-    geometry: Geometry,
+    geometry: Geometry<'a>,
     /// What its positions have.
     pub dimension: Dimension,
 }
 
-impl Read {
+impl<'a> Read<'a> {
     /// The chain in words, by its position and its id.
     pub fn name(&self, position: usize) -> String {
         match &self.id {
@@ -32,7 +32,7 @@ impl Read {
     }
 
     /// The runs of its positions.
-    pub fn runs(&self) -> impl Iterator<Item = &Run> {
+    pub fn runs(&self) -> impl Iterator<Item = &Run<'a>> {
         runs(&self.geometry)
     }
 
@@ -42,7 +42,7 @@ impl Read {
 }
 
 /// The runs of a line, or of the parts of one.
-fn runs(geometry: &Geometry) -> impl Iterator<Item = &Run> {
+fn runs<'g, 'a>(geometry: &'g Geometry<'a>) -> impl Iterator<Item = &'g Run<'a>> {
     let (line, parts) = match geometry {
         Geometry::Line(run) => (Some(run), &[][..]),
         Geometry::Lines(parts) => (None, &parts[..]),
@@ -55,18 +55,17 @@ fn runs(geometry: &Geometry) -> impl Iterator<Item = &Run> {
 const PART: usize = 512;
 
 /// Reads chains, whose lines a property lists.
-pub fn read(
+pub fn read<'a>(
     source: Source,
-    text: &str,
+    ground: &'a Ground,
     (property, reading): (&str, &Reading),
     progress: &Progress,
-) -> Result<Vec<Read>> {
-    let rows = match source {
-        Source::Text => return of_text(text, (property, reading), progress),
-        Source::Layer(rows) => rows,
-    };
-    let (delivery, _) = rows.delivery(text, reading)?;
-    let chain = |(row, feature): (usize, Feature)| {
+) -> Result<Vec<Read<'a>>> {
+    if let Source::Text = source {
+        return of_text(&ground.text, (property, reading), progress);
+    }
+    let (delivery, _) = source.delivery(ground, reading, progress)?;
+    let chain = |(row, feature): (usize, Feature<'a>)| {
         chain(feature, property, delivery.dimension)
             .map_err(|fault| anyhow!("feature {row}: {fault}"))
     };
@@ -74,18 +73,18 @@ pub fn read(
 }
 
 /// Reads the chains of a text.
-fn of_text(
-    text: &str,
+fn of_text<'a>(
+    text: &'a str,
     (property, reading): (&str, &Reading),
     progress: &Progress,
-) -> Result<Vec<Read>> {
+) -> Result<Vec<Read<'a>>> {
     let features = delivery::features(text).map_err(|fault| anyhow!(fault))?;
     progress.begin("reading", features.len());
-    let of = |text: &&str| {
+    let of = |text: &&'a str| {
         let feature = Feature::of(text, reading.heights)?;
         chain(feature, property, Dimension::Xyz)
     };
-    let part = |texts: &[&str]| -> Vec<Result<Read, String>> {
+    let part = |texts: &[&'a str]| -> Vec<Result<Read<'a>, String>> {
         progress.add(texts.len());
         texts.iter().map(of).collect()
     };
@@ -100,7 +99,11 @@ fn of_text(
     Ok(chains)
 }
 
-fn chain(feature: Feature, property: &str, dimension: Dimension) -> Result<Read, String> {
+fn chain<'a>(
+    feature: Feature<'a>,
+    property: &str,
+    dimension: Dimension,
+) -> Result<Read<'a>, String> {
     let list = feature.property(property).ok_or_else(|| {
         format!(
             "it has no property {property:?} that lists its lines (--path PROPERTY names another)"

@@ -55,8 +55,8 @@ pub fn run(request: &CheckRequest) -> Result<(Verdict, Vec<String>)> {
     let progress = Progress::new(!request.quiet);
     let lines = lines_of(request);
     let of = || lines.whole_name();
-    let (source, text) = Source::read(lines, &progress).with_context(of)?;
-    let (delivery, _) = source.delivery(&text, lines.reading, &progress).with_context(of)?;
+    let (source, ground) = Source::read(lines, &progress).with_context(of)?;
+    let (delivery, _) = source.delivery(&ground, lines.reading, &progress).with_context(of)?;
     let delivery = &delivery;
     let (class, district) = (request.class.as_deref(), request.district.as_ref());
     let classes = &Classes::of(delivery, class, district).with_context(of)?;
@@ -64,9 +64,9 @@ pub fn run(request: &CheckRequest) -> Result<(Verdict, Vec<String>)> {
     let (reading, store) = (&as_they_are(request.reading.heights), &Asked::default());
     let wanted = Wanted { input: &request.chains, reading, store };
     let from = || wanted.whole_name();
-    let (source, text) = Source::read(wanted, &progress).with_context(from)?;
+    let (source, ground) = Source::read(wanted, &progress).with_context(from)?;
     let list = (&request.path[..], reading);
-    let read = &chains::read(source, &text, list, &progress).with_context(from)?;
+    let read = &chains::read(source, &ground, list, &progress).with_context(from)?;
     let verdict = judged(request, delivery, classes, &names, read, &progress);
     progress.end();
     Ok((verdict.with_context(from)?, delivery.warnings.clone()))
@@ -167,7 +167,7 @@ fn has_heights(dimension: Dimension) -> bool {
 }
 
 /// The positions of a run with their heights, NaN where there is none.
-fn positions(run: &Run, dimension: Dimension) -> impl Iterator<Item = [f64; 3]> + '_ {
+fn positions<'r>(run: &'r Run, dimension: Dimension) -> impl Iterator<Item = [f64; 3]> + 'r {
     let extras = has_heights(dimension).then(|| dimension.extras());
     let height = move |k: usize| {
         let height = extras.and_then(|extras| run.heights.get(extras * k));

@@ -51,7 +51,7 @@ impl Names {
     pub fn of(delivery: &Delivery, parts: bool) -> Result<Self> {
         let mut names = HashMap::with_capacity(delivery.features.len());
         for (line, feature) in delivery.features.iter().enumerate() {
-            let written = delivery.name(line as u32);
+            let written = delivery.name(line as u32).into_owned();
             // A name is JSON already; a number is written as all are that are compared with it.
             let name = serde_json::from_str(&written).map_or(written, |v: Value| v.to_string());
             let step = Step { name, part: if parts { feature.part } else { 0 } };

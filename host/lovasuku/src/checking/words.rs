@@ -27,7 +27,7 @@ pub fn accepted([chains, lines]: [String; 2], settings: Settings, beyond: usize)
 pub struct Words<'a> {
     pub delivery: &'a Delivery<'a>,
     pub classes: &'a Classes<'a>,
-    pub read: &'a [Read],
+    pub read: &'a [Read<'a>],
     pub lines: Lines<'a>,
     pub chains: Delivered<'a>,
 }
@@ -66,7 +66,7 @@ impl Words<'_> {
     fn line(&self, line: u32) -> String {
         let part = self.delivery.features.get(line as usize).map_or(0, |feature| feature.part);
         match part {
-            0 => self.delivery.name(line),
+            0 => self.delivery.name(line).into_owned(),
             part => format!("{} (part {part})", self.delivery.name(line)),
         }
     }

@@ -1,7 +1,7 @@
 //! One feature of a delivery.
 
 use super::object::Object;
-use super::positions::Run;
+use super::positions::{Run, Written};
 use super::Point;
 
 /// A feature: a line, or other line geometry, with what the delivery tells about it.
@@ -17,7 +17,7 @@ pub struct Feature<'a> {
     pub properties: Option<&'a str>,
     /// Its members beside those that GeoJSON asks for.
     pub foreign: Object<'a>,
-    pub geometry: Geometry,
+    pub geometry: Geometry<'a>,
 }
 
 /// The members that GeoJSON asks for.
@@ -25,11 +25,11 @@ const ASKED_FOR: [&str; 4] = ["type", "id", "properties", "geometry"];
 
 /// The geometry of a feature.
 #[derive(Clone, Debug)]
-pub enum Geometry {
+pub enum Geometry<'a> {
     /// A LineString, which may be joined.
-    Line(Run),
+    Line(Run<'a>),
     /// A MultiLineString, which passes through.
-    Lines(Vec<Run>),
+    Lines(Vec<Run<'a>>),
     /// What is no line, in words.
     Other(String),
 }
@@ -43,7 +43,7 @@ pub enum Heights {
     Dropped,
 }
 
-impl Geometry {
+impl Geometry<'_> {
     /// The runs of points that it is drawn by.
     pub fn runs(&self) -> Box<dyn Iterator<Item = &[Point]> + '_> {
         match self {
@@ -83,12 +83,14 @@ impl<'a> Feature<'a> {
         let (properties, geometry) = (properties(&object)?, geometry(&object, heights)?);
         let mut foreign = object;
         foreign.retain(|name, _| !ASKED_FOR.contains(&name));
+        foreign.fit();
         Ok(Feature { position: 0, part: 0, id, properties, foreign, geometry })
     }
 
     /// Takes away the box, which is that of the geometry as it was written.
     pub fn drop_box(&mut self) {
         self.foreign.retain(|name, _| name != "bbox");
+        self.foreign.fit();
     }
 
     /// The value of a property as it is written; a null is no value.
@@ -121,7 +123,7 @@ fn properties<'a>(feature: &Object<'a>) -> Result<Option<&'a str>, String> {
     }
 }
 
-fn geometry(feature: &Object, heights: Heights) -> Result<Geometry, String> {
+fn geometry(feature: &Object, heights: Heights) -> Result<Geometry<'static>, String> {
     let text = match feature.get("geometry") {
         None => return Err("it has no geometry".into()),
         Some("null") => return Ok(Geometry::Other("null".into())),
@@ -154,25 +156,28 @@ fn unread(fault: serde_json::Error) -> &'static str {
     }
 }
 
-fn line(coordinates: &str, heights: Heights) -> Result<Geometry, String> {
-    let run: Run = serde_json::from_str(coordinates).map_err(unread)?;
+fn line(coordinates: &str, heights: Heights) -> Result<Geometry<'static>, String> {
+    let run: Written = serde_json::from_str(coordinates).map_err(unread)?;
     with_heights(run, heights, "").map(Geometry::Line)
 }
 
-fn lines(coordinates: &str, heights: Heights) -> Result<Geometry, String> {
-    let runs: Vec<Run> = serde_json::from_str(coordinates).map_err(unread)?;
+fn lines(coordinates: &str, heights: Heights) -> Result<Geometry<'static>, String> {
+    let runs: Vec<Written> = serde_json::from_str(coordinates).map_err(unread)?;
     let part = |(part, run)| with_heights(run, heights, &format!(" of part {part}"));
     runs.into_iter().enumerate().map(part).collect::<Result<_, _>>().map(Geometry::Lines)
 }
 
 /// The run with its heights or without them.
-fn with_heights(run: Run, heights: Heights, of: &str) -> Result<Run, String> {
-    match (run.beyond, heights) {
+fn with_heights(run: Written, heights: Heights, of: &str) -> Result<Run<'static>, String> {
+    let Written { mut points, heights: written, beyond } = run;
+    points.shrink_to_fit();
+    let points = points.into();
+    match (beyond, heights) {
         (Some(k), Heights::Kept) => Err(format!(
             "its position {k}{of} has more than three numbers (--drop-heights leaves all but x and y out)"
         )),
-        (None, Heights::Kept) => Ok(run),
-        (_, Heights::Dropped) => Ok(run.flat()),
+        (None, Heights::Kept) => Ok(Run { points, heights: written.into() }),
+        (_, Heights::Dropped) => Ok(Run { points, ..Run::default() }),
     }
 }
 

@@ -38,6 +38,8 @@ pub struct Delivery<'a> {
     pub warnings: Vec<String>,
     /// What each position has. Those that a position lacks are NaN.
     pub dimension: Dimension,
+    /// The points of all lines, one line behind another, where they lie so and there is nothing else.
+    pub points: Option<&'a [Point]>,
 }
 
 /// How a delivery is read.
@@ -81,18 +83,18 @@ impl<'a> Delivery<'a> {
     }
 
     /// The name of a line as it is written in an output: its id, or the position of its feature.
-    pub fn name(&self, line: u32) -> String {
+    pub fn name(&self, line: u32) -> Cow<'a, str> {
         let feature = self.features.get(line as usize);
         match feature.and_then(|feature| feature.id) {
-            Some(id) if self.named_by_ids => id.to_owned(),
-            _ => feature.map_or(line, |feature| feature.position).to_string(),
+            Some(id) if self.named_by_ids => id.into(),
+            _ => feature.map_or(line, |feature| feature.position).to_string().into(),
         }
     }
 
     /// The name of a line for people: its id in plain words, or the position of its feature.
     pub fn label(&self, line: u32) -> String {
         let name = self.name(line);
-        serde_json::from_str(&name).unwrap_or(name)
+        serde_json::from_str(&name).unwrap_or_else(|_| name.into_owned())
     }
 }
 

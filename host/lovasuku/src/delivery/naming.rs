@@ -33,8 +33,22 @@ pub fn judge(features: &[Feature], property: Option<&str>) -> (bool, Option<Stri
 const INSTEAD: &str = "lines are named by their positions instead, counted from 0 \
                        (--id PROPERTY names them by a property)";
 
+/// True where ids ascend, by their lengths and then by their letters, so that no two features have one.
+/// Parts of a feature have its id.
+fn ascend(features: &[Feature]) -> bool {
+    let mut before: Option<(u32, &str)> = None;
+    features.iter().filter_map(|feature| Some((feature.position, feature.id?))).all(|each| {
+        let (position, id) = each;
+        let last = before.replace(each);
+        last.map_or(true, |(of, last)| of == position || (last.len(), last) < (id.len(), id))
+    })
+}
+
 /// The first name that two features have, in words, with the number of such features.
 fn twice(features: &[Feature]) -> Option<String> {
+    if ascend(features) {
+        return None;
+    }
     let mut first: HashMap<&str, u32> = HashMap::new();
     let mut more = 0;
     let mut words = None;

@@ -10,6 +10,9 @@ use std::fmt;
 #[derive(Clone, Debug, Default, PartialEq)]
 pub struct Object<'a>(Vec<(Name<'a>, &'a str)>);
 
+/// A name and a value as it is written.
+pub type Entry<'a> = (Cow<'a, str>, Cow<'a, str>);
+
 impl<'a> Object<'a> {
     /// The object that a text is, if it is one.
     pub fn of(text: &'a str) -> Option<Self> {
@@ -26,9 +29,18 @@ impl<'a> Object<'a> {
         self.0.iter().map(|(name, value)| (&*name.0, *value))
     }
 
-    /// Takes out each name for which the question is answered with no, and the room that it had.
+    /// All names and values, by themselves.
+    pub fn into_entries(self) -> impl Iterator<Item = Entry<'a>> {
+        self.0.into_iter().map(|(name, value)| (name.0, Cow::Borrowed(value)))
+    }
+
+    /// Takes out each name for which the question is answered with no.
     pub fn retain(&mut self, mut question: impl FnMut(&str, &str) -> bool) {
         self.0.retain(|(name, value)| question(&name.0, value));
+    }
+
+    /// Lets go of all room that is not used.
+    pub fn fit(&mut self) {
         self.0.shrink_to_fit();
     }
 

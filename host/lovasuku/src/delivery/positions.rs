@@ -2,47 +2,51 @@
 
 use super::Point;
 use serde::de::{Deserialize, Deserializer, Error, IgnoredAny, SeqAccess, Visitor};
+use std::borrow::Cow;
 use std::fmt;
 
-/// A run of positions: x and y of each, their heights, and the first that has more than these.
+/// A run of positions: x and y of each, and their heights. Those of a layer lie with all others of it.
 #[derive(Clone, Debug, Default)]
-pub struct Run {
-    pub points: Vec<Point>,
+pub struct Run<'a> {
+    pub points: Cow<'a, [Point]>,
     /// One for each point where any has a height, NaN where it has none; else empty.
+    pub heights: Cow<'a, [f64]>,
+}
+
+impl Run<'_> {
+    /// The height of a point, if it has one.
+    pub fn height(&self, point: usize) -> Option<f64> {
+        self.heights.get(point).copied().filter(|height| !height.is_nan())
+    }
+}
+
+/// Positions as they are written.
+#[derive(Debug, Default)]
+pub struct Written {
+    pub points: Vec<Point>,
+    /// As those of a run.
     pub heights: Vec<f64>,
     /// The first position of more than three numbers.
     pub beyond: Option<usize>,
 }
 
-impl Run {
-    /// The height of a point, if it has one.
-    pub fn height(&self, point: usize) -> Option<f64> {
-        self.heights.get(point).copied().filter(|height| !height.is_nan())
-    }
-
-    /// The same without heights and whatever else follows.
-    pub fn flat(self) -> Self {
-        Run { points: self.points, ..Run::default() }
-    }
-}
-
-impl<'de> Deserialize<'de> for Run {
+impl<'de> Deserialize<'de> for Written {
     fn deserialize<D: Deserializer<'de>>(from: D) -> Result<Self, D::Error> {
-        from.deserialize_seq(RunVisitor)
+        from.deserialize_seq(WrittenVisitor)
     }
 }
 
-struct RunVisitor;
+struct WrittenVisitor;
 
-impl<'de> Visitor<'de> for RunVisitor {
-    type Value = Run;
+impl<'de> Visitor<'de> for WrittenVisitor {
+    type Value = Written;
 
     fn expecting(&self, f: &mut fmt::Formatter) -> fmt::Result {
         f.write_str("a list of positions")
     }
 
-    fn visit_seq<A: SeqAccess<'de>>(self, mut positions: A) -> Result<Run, A::Error> {
-        let mut run = Run::default();
+    fn visit_seq<A: SeqAccess<'de>>(self, mut positions: A) -> Result<Written, A::Error> {
+        let mut run = Written::default();
         while let Some(Position { point, height, beyond }) = positions.next_element()? {
             if beyond && run.beyond.is_none() {
                 run.beyond = Some(run.points.len());
@@ -93,9 +97,9 @@ impl<'de> Visitor<'de> for PositionVisitor {
 
 #[cfg(test)]
 mod tests {
-    use super::Run;
+    use super::{Run, Written};
 
-    fn run(text: &str) -> Option<Run> {
+    fn run(text: &str) -> Option<Written> {
         serde_json::from_str(text).ok()
     }
 
@@ -103,9 +107,10 @@ mod tests {
     type Parts = (Vec<[f64; 2]>, Vec<Option<f64>>, Option<usize>);
 
     fn parts(text: &str) -> Option<Parts> {
-        let run = run(text)?;
-        let heights = (0..run.points.len()).map(|point| run.height(point)).collect();
-        Some((run.points, heights, run.beyond))
+        let Written { points, heights, beyond } = run(text)?;
+        let run = Run { points: (&points).into(), heights: heights.into() };
+        let heights = (0..points.len()).map(|point| run.height(point)).collect();
+        Some((points, heights, beyond))
     }
 
     #[test]

@@ -35,7 +35,7 @@ pub fn checksum(path: &Path, text: &str, layer: Option<&Delivery>) -> Result<Str
 fn add(delivery: &Delivery, sum: &mut Sha256) {
     let mut run = |Run { points, heights, .. }: &Run| {
         sum.update((points.len() as u64).to_le_bytes());
-        let numbers = points.iter().flatten().chain(heights);
+        let numbers = points.iter().flatten().chain(&**heights);
         numbers.for_each(|number| sum.update(number.to_le_bytes()));
     };
     for feature in &delivery.features {

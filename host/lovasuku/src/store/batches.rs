@@ -52,11 +52,12 @@ fn put<'b>(texts: &mut Texts, id: Option<i64>, properties: impl Iterator<Item = 
 }
 
 /// How many rows one core reads at a time.
-const PART: usize = 1024;
+pub const PART: usize = 1024;
 
-/// So many rows, in parts for the cores.
-pub fn parts(rows: usize) -> Vec<Range<usize>> {
-    (0..rows).step_by(PART).map(|from| from..rows.min(from + PART)).collect()
+/// Rows in parts of so many.
+pub fn parts(rows: Range<usize>, part: usize) -> Vec<Range<usize>> {
+    let end = rows.end;
+    rows.step_by(part).map(|from| from..end.min(from + part)).collect()
 }
 
 /// The name of a field as JSON, with a colon.
@@ -149,7 +150,7 @@ fn texts(batch: &Batch, columns: &Columns) -> Result<Vec<Texts>> {
         }
         texts
     };
-    Ok(parts(batch.rows()).into_par_iter().map(part).collect())
+    Ok(parts(0..batch.rows(), PART).into_par_iter().map(part).collect())
 }
 
 /// The column of a field in a batch, its name and whether its texts are JSON.

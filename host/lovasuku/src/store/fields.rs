@@ -5,7 +5,7 @@
 
 use super::gdal::{Datum, Driver, Field, FieldType};
 use super::properties::of_hexadecimal;
-use crate::delivery::object::Object;
+use crate::delivery::object::Entry;
 use serde_json::value::RawValue;
 use std::collections::HashMap;
 use std::ffi::CString;
@@ -39,6 +39,11 @@ impl Kinds {
         Kinds { single: 0, items: LIST | SHORT, others: false };
     pub const OTHERS: Kinds = Kinds { single: 0, items: 0, others: true };
 
+    /// The kinds of lists that have a single value among their items.
+    pub fn of_item(value: &str) -> Self {
+        Kinds { items: LIST | single(value).unwrap_or(TEXT), ..Kinds::default() }
+    }
+
     /// The kinds of a value as it is written.
     fn of(value: &str) -> Self {
         match value.as_bytes().first() {
@@ -52,7 +57,8 @@ impl Kinds {
         }
     }
 
-    fn with(self, other: Kinds) -> Self {
+    /// The kinds of both.
+    pub fn with(self, other: Kinds) -> Self {
         Kinds {
             single: self.single | other.single,
             items: self.items | other.items,
@@ -96,7 +102,13 @@ fn items(list: &str) -> Option<Vec<&str>> {
 
 /// The kinds of the items of a list, if all are single values.
 fn of_items(list: &str) -> Option<u8> {
-    items(list)?.into_iter().try_fold(LIST, |all, item| Some(all | single(item)?))
+    let within = list.strip_prefix('[')?.strip_suffix(']')?;
+    let kinds = |all: u8, item: &str| Some(all | single(item)?);
+    // Numbers stand between commas.
+    match within.bytes().all(|byte| byte.is_ascii_digit() || matches!(byte, b',' | b'-')) {
+        true if !within.is_empty() => within.split(',').try_fold(LIST, kinds),
+        _ => items(list)?.into_iter().try_fold(LIST, kinds),
+    }
 }
 
 /// The kind of a single value; none of a list, an object or a null.
@@ -111,6 +123,9 @@ fn single(value: &str) -> Option<u8> {
         _ => Some(REAL),
     }
 }
+
+/// A name is looked for among so many before it is asked for.
+const NEAR: usize = 8;
 
 /// The names of properties in the order in which they came, and the kinds of their values.
 #[derive(Clone, Debug, Default)]
@@ -128,8 +143,13 @@ impl Names {
     }
 
     fn add(&mut self, name: &str, kinds: Kinds) {
-        match self.places.get(name) {
-            Some(&place) => self.all[place].1 = self.all[place].1.with(kinds),
+        self.add_at(self.places.get(name).copied(), name, kinds);
+    }
+
+    /// Adds kinds to those of a name at a place, or behind all where it has none.
+    fn add_at(&mut self, place: Option<usize>, name: &str, kinds: Kinds) {
+        match place {
+            Some(place) => self.all[place].1 = self.all[place].1.with(kinds),
             None => {
                 self.places.insert(name.to_owned(), self.all.len());
                 self.all.push((name.to_owned(), kinds));
@@ -137,9 +157,23 @@ impl Names {
         }
     }
 
-    /// Adds the properties of an object.
-    pub fn add_object(&mut self, object: &Object) {
-        object.iter().for_each(|(name, value)| self.add(name, Kinds::of(value)));
+    /// Where a name stands, which is likely to be at a place or soon behind it.
+    fn place(&self, name: &str, likely: usize) -> Option<usize> {
+        let near = self.all.iter().skip(likely).take(NEAR).position(|(each, _)| each == name);
+        near.map(|k| likely + k).or_else(|| self.places.get(name).copied())
+    }
+
+    /// Adds properties.
+    pub fn add_all(&mut self, properties: &[Entry]) {
+        let mut likely = 0;
+        for (name, value) in properties {
+            let place = self.place(name, likely);
+            // Where there are others, no value changes the type.
+            if !place.map_or(false, |place| self.all[place].1.others) {
+                self.add_at(place, name, Kinds::of(value));
+            }
+            likely = place.map_or(likely, |place| place + 1);
+        }
     }
 
     /// Adds names behind these.
@@ -168,7 +202,7 @@ impl Names {
                 false => Field::new(&name, kind),
             });
         }
-        Fields { fields, json, places: self.places.clone() }
+        Fields { fields, json, names: self.clone() }
     }
 }
 
@@ -187,18 +221,20 @@ pub struct Fields {
     pub fields: Vec<Field>,
     /// Whether the texts of a field are JSON.
     json: Vec<bool>,
-    places: HashMap<String, usize>,
+    names: Names,
 }
 
 impl Fields {
-    /// The values of an object's properties, each with the position of its field.
-    pub fn values(&self, object: &Object) -> Vec<(usize, Datum)> {
-        let value = |(name, value): (&str, &str)| {
-            let &place = self.places.get(name)?;
+    /// The values of properties, each with the position of its field.
+    pub fn values(&self, properties: &[Entry]) -> Vec<(usize, Datum)> {
+        let mut likely = 0;
+        let value = |(name, value): &Entry| {
+            let place = self.names.place(name, likely)?;
+            likely = place + 1;
             let (field, json) = (self.fields.get(place)?, *self.json.get(place)?);
             Some((place, datum(value, field.kind, json)?))
         };
-        object.iter().filter_map(value).collect()
+        properties.iter().filter_map(value).collect()
     }
 }
 

@@ -5,14 +5,101 @@
 //! header and then the records of its parts, one behind another.
 
 use super::gdal::{Column, Offsets};
-use crate::delivery::{Geometry, Heights, Run};
+use crate::delivery::{Geometry, Heights, Point, Run};
 use lovasuku_chains::size::{POINT, WKB_HEADER, WKB_NUMBER};
 use lovasuku_chains::{read_wkb, read_wkb_offsets, Dimension, WkbLines, WkbRooms};
+use std::borrow::Cow;
 use std::ops::Range;
 
-/// The geometry of a row and what its positions have, or what is wrong with it. The heights of a run
-/// are all extras of its positions.
-pub type Shape = Result<(Geometry, Dimension), String>;
+/// The geometry of a row, whose positions lie with those of all rows, or what is wrong with it.
+pub type Shape = Result<(Counts, Dimension), String>;
+
+/// The geometry of rows that follow each other.
+pub enum Shapes {
+    /// Lines of one dimension alone: how many positions each has.
+    Lines(Vec<u32>, Dimension),
+    Any(Vec<Shape>),
+}
+
+impl Shapes {
+    /// What positions of each row have, where they have any.
+    pub fn dimensions(&self) -> impl Iterator<Item = Dimension> + '_ {
+        let (one, each) = match self {
+            Shapes::Lines(_, dimension) => (Some(*dimension), &[][..]),
+            Shapes::Any(shapes) => (None, &shapes[..]),
+        };
+        one.into_iter().chain(each.iter().flatten().map(|(_, dimension)| *dimension))
+    }
+
+    /// The rows one by one.
+    pub fn rows(self) -> impl Iterator<Item = Shape> {
+        let (dimension, counts, shapes) = match self {
+            Shapes::Lines(counts, dimension) => (dimension, counts, Vec::new()),
+            Shapes::Any(shapes) => (Dimension::Xy, Vec::new(), shapes),
+        };
+        let line = move |count| Ok((Counts::Line(count), dimension));
+        counts.into_iter().map(line).chain(shapes)
+    }
+}
+
+/// The positions of rows, one row behind another.
+#[derive(Default)]
+pub struct Positions {
+    pub points: Vec<Point>,
+    /// All extras of those that have such.
+    pub extras: Vec<f64>,
+}
+
+/// How many positions a row has, in all or of each part, or what it is in words.
+pub enum Counts {
+    Line(u32),
+    Lines(Vec<u32>),
+    Other(String),
+}
+
+impl Counts {
+    /// The geometry, from the first positions of a dimension on, which are taken. Positions of a delivery
+    /// have all extras that any has: NaN stands for those that these lack.
+    pub fn geometry<'a>(
+        self,
+        (points, extras): (&mut &'a [Point], &mut &'a [f64]),
+        own: Dimension,
+        to: Dimension,
+    ) -> Geometry<'a> {
+        let mut run = |count: u32| {
+            let count = count as usize;
+            let points = taken(points, count);
+            Run {
+                points: points.into(),
+                heights: widened(taken(extras, own.extras() * count), own, to),
+            }
+        };
+        match self {
+            Counts::Line(count) => Geometry::Line(run(count)),
+            Counts::Lines(counts) => Geometry::Lines(counts.into_iter().map(run).collect()),
+            Counts::Other(what) => Geometry::Other(what),
+        }
+    }
+}
+
+/// So many of the first items, which are taken from the others.
+fn taken<'a, T>(rest: &mut &'a [T], count: usize) -> &'a [T] {
+    let (first, behind) = rest.split_at(count.min(rest.len()));
+    *rest = behind;
+    first
+}
+
+/// The extras of positions of a dimension in one that has more.
+fn widened(extras: &[f64], own: Dimension, to: Dimension) -> Cow<'_, [f64]> {
+    let both = |&extra: &f64| match own {
+        Dimension::Xym => [f64::NAN, extra],
+        _ => [extra, f64::NAN],
+    };
+    match own == to || own == Dimension::Xy {
+        true => extras.into(),
+        false => extras.iter().flat_map(both).collect(),
+    }
+}
 
 /// What is wrong with a coordinate that is not finite.
 const NO_PLACE: &str = "a number of its coordinates is NaN or infinite, so that it is no place";
@@ -35,18 +122,24 @@ impl<'b> Wkb<'b> {
     }
 }
 
-/// The geometry of some rows.
-pub fn shapes(wkb: Wkb, rows: Range<usize>, heights: Heights, rooms: &mut WkbRooms) -> Vec<Shape> {
+/// The geometry of some rows, whose positions are put behind others.
+pub fn shapes(
+    wkb: Wkb,
+    rows: Range<usize>,
+    heights: Heights,
+    rooms: &mut WkbRooms,
+    positions: &mut Positions,
+) -> Shapes {
     if let Some(lines) = lines_alone(wkb, rows.clone(), rooms) {
-        let dimension = lines.dimension();
-        let shape = |run: Result<Run, String>| Ok((Geometry::Line(run?), dimension));
-        return runs(lines, heights).map(shape).map(|shape| kept(shape, heights)).collect();
+        if positions.put(lines, heights) {
+            return Shapes::Lines(lines.counts().to_vec(), kept(lines.dimension(), heights));
+        }
     }
     let shape = |row: usize| match wkb.record(row) {
-        [] => Ok((Geometry::Other("null".into()), Dimension::Xy)),
-        record => kept(of_record(record, heights, rooms), heights),
+        [] => Ok((Counts::Other("null".into()), Dimension::Xy)),
+        record => of_record(record, heights, rooms, positions),
     };
-    rows.map(shape).collect()
+    Shapes::Any(rows.map(shape).collect())
 }
 
 /// The rows as lines, where they are nothing else.
@@ -60,40 +153,33 @@ fn lines_alone<'a>(wkb: Wkb, rows: Range<usize>, rooms: &'a mut WkbRooms) -> Opt
     read.ok()
 }
 
-/// The shape, of x and y alone where heights are left out.
-fn kept(shape: Shape, heights: Heights) -> Shape {
+/// What is kept of a dimension: x and y alone where heights are left out.
+fn kept(dimension: Dimension, heights: Heights) -> Dimension {
     match heights {
-        Heights::Kept => shape,
-        Heights::Dropped => shape.map(|(geometry, _)| (geometry, Dimension::Xy)),
+        Heights::Kept => dimension,
+        Heights::Dropped => Dimension::Xy,
     }
 }
 
-/// The runs of lines that were read.
-fn runs<'a>(
-    lines: WkbLines<'a>,
-    heights: Heights,
-) -> impl Iterator<Item = Result<Run, String>> + 'a {
-    let stride = lines.dimension().stride();
-    let line = move |rest: &mut &'a [f64], &count: &u32| {
-        let (line, behind) = rest.split_at(rest.len().min(stride * count as usize));
-        *rest = behind;
-        Some(run_of(line, stride, heights))
-    };
-    lines.counts().iter().scan(lines.coordinates(), line)
-}
-
-/// A run of positions of so many numbers each.
-fn run_of(numbers: &[f64], stride: usize, heights: Heights) -> Result<Run, String> {
-    let positions = numbers.chunks_exact(stride);
-    let points: Vec<[f64; POINT]> = positions.clone().map(|all| [all[0], all[1]]).collect();
-    if !points.iter().flatten().all(|x| x.is_finite()) {
-        return Err(NO_PLACE.into());
+impl Positions {
+    /// Puts the positions of lines that were read behind the others, unless one is no place.
+    fn put(&mut self, lines: WkbLines, heights: Heights) -> bool {
+        let positions = lines.coordinates().chunks_exact(lines.dimension().stride());
+        let finite = positions.clone().flat_map(|all| &all[..POINT]).all(|x| x.is_finite());
+        if finite {
+            self.points.extend(positions.clone().map(|all| [all[0], all[1]]));
+            if kept(lines.dimension(), heights) != Dimension::Xy {
+                self.extras.extend(positions.flat_map(|all| &all[POINT..]));
+            }
+        }
+        finite
     }
-    let extras = match (heights, stride) {
-        (Heights::Dropped, _) | (_, POINT) => Vec::new(),
-        _ => positions.flat_map(|all| &all[POINT..]).copied().collect(),
-    };
-    Ok(Run { points, heights: extras, beyond: None })
+
+    /// Puts positions behind these.
+    pub fn append(&mut self, behind: &Positions) {
+        self.points.extend_from_slice(&behind.points);
+        self.extras.extend_from_slice(&behind.extras);
+    }
 }
 
 /// The types of OGC 06-103r4 as words, by what is left of them by a thousand.
@@ -136,20 +222,26 @@ fn header(record: &[u8]) -> Option<(u32, u32)> {
 }
 
 /// The shape of a record by itself.
-fn of_record(record: &[u8], heights: Heights, rooms: &mut WkbRooms) -> Shape {
+fn of_record(
+    record: &[u8],
+    heights: Heights,
+    rooms: &mut WkbRooms,
+    positions: &mut Positions,
+) -> Shape {
     let (kind, count) = header(record).ok_or("its geometry is not WKB")?;
-    if Dimension::of_wkb_type(kind).is_some() {
-        let (dimension, mut runs) = of_lines(record, &[record.len() as u64], heights, rooms)?;
-        return Ok((Geometry::Line(runs.pop().unwrap_or_default()), dimension));
+    if let Some(dimension) = Dimension::of_wkb_type(kind) {
+        let counts = of_lines(record, &[record.len() as u64], heights, rooms, positions)?;
+        let count = counts.first().copied().unwrap_or_default();
+        return Ok((Counts::Line(count), kept(dimension, heights)));
     }
     match kind.checked_sub(MULTI).and_then(Dimension::of_wkb_type) {
         Some(dimension) => {
             let parts = record.get(WKB_HEADER..).unwrap_or_default();
             let lengths = lengths(parts, count, dimension)?;
-            let (_, runs) = of_lines(parts, &lengths, heights, rooms)?;
-            Ok((Geometry::Lines(runs), dimension))
+            let counts = of_lines(parts, &lengths, heights, rooms, positions)?;
+            Ok((Counts::Lines(counts), kept(dimension, heights)))
         }
-        None => other(kind).map(|what| (Geometry::Other(what), Dimension::Xy)),
+        None => other(kind).map(|what| (Counts::Other(what), Dimension::Xy)),
     }
 }
 
@@ -161,16 +253,20 @@ fn other(kind: u32) -> Result<String, String> {
     }
 }
 
-/// The runs of records that are lines of one dimension.
+/// How many positions records have that are lines of one dimension.
 fn of_lines(
     run: &[u8],
     lengths: &[u64],
     heights: Heights,
     rooms: &mut WkbRooms,
-) -> Result<(Dimension, Vec<Run>), String> {
+    positions: &mut Positions,
+) -> Result<Vec<u32>, String> {
     let lines = read_wkb(run, lengths, rooms)
         .map_err(|refusal| format!("its geometry is not WKB of lines: {refusal}"))?;
-    Ok((lines.dimension(), runs(lines, heights).collect::<Result<_, _>>()?))
+    match positions.put(lines, heights) {
+        true => Ok(lines.counts().to_vec()),
+        false => Err(NO_PLACE.into()),
+    }
 }
 
 /// The lengths of the parts of a MultiLineString, by their counts.

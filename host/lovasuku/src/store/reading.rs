@@ -1,11 +1,11 @@
 //! A layer of a store as a delivery: its rows in batches, each with its id, its properties as JSON and
 //! its geometry.
 
-use super::batches::{by_features, by_stream, parts, Cut, Texts};
+use super::batches::{by_features, by_stream, parts, Cut, Texts, PART};
 use super::gdal::{failures, listed, settle, warnings, Dataset, Field, Layer, Reference};
-use super::geometry::{shapes, Shape, Wkb};
+use super::geometry::{shapes, Positions, Shape, Shapes, Wkb};
 use crate::delivery::object::Object;
-use crate::delivery::{gather, named, Delivery, Feature, Geometry, Heights, Point, Reading, Run};
+use crate::delivery::{gather, named, Delivery, Feature, Geometry, Heights, Point, Reading};
 use crate::progress::Progress;
 use anyhow::{bail, Context, Result};
 use lovasuku_chains::{Dimension, WkbRooms};
@@ -47,23 +47,30 @@ impl About {
     }
 }
 
-/// The rows of a layer. Their ids and properties lie in a text, one row behind another, behind the
-/// members of the collection that they are.
+/// What rows were read into: their ids and properties, one row behind another, behind the members of the
+/// collection that they are, and their positions.
+#[derive(Default)]
+pub struct Held {
+    pub text: Vec<u8>,
+    pub positions: Positions,
+}
+
+/// The rows of a layer, but for what they were read into.
 pub struct Rows {
     pub about: About,
     members: usize,
     cuts: Vec<Cut>,
     /// The geometry of all rows, in parts of them.
-    shapes: Vec<Vec<Shape>>,
+    shapes: Vec<Shapes>,
     dimension: Dimension,
 }
 
-/// Reads what is asked for from a store. Ids and properties are put into the text.
+/// Reads what is asked for from a store.
 pub fn read(
     dataset: &Dataset,
     asked: &Asked,
     heights: Heights,
-    text: &mut Vec<u8>,
+    held: &mut Held,
     progress: &Progress,
 ) -> Result<Rows> {
     let mut layer = layer(dataset, asked)?;
@@ -77,12 +84,12 @@ pub fn read(
     let (column, geometry, reference) = geometry(&layer, asked.geometry.as_deref())?;
     let about = About { geometry, fields: layer.fields(), reference };
     let name = asked.sql.is_none().then(|| layer.name());
-    text.extend(members(name, about.reference.as_ref()));
-    let members = text.len();
+    held.text.extend(members(name, about.reference.as_ref()));
+    let members = held.text.len();
     let mut rows =
         Rows { about, members, cuts: Vec::new(), shapes: Vec::new(), dimension: Dimension::Xy };
     settle();
-    rows.fill(&mut layer, column, heights, text, progress)?;
+    rows.fill(&mut layer, column, heights, held, progress)?;
     Ok(rows)
 }
 
@@ -145,13 +152,13 @@ impl Rows {
         layer: &mut Layer,
         column: usize,
         heights: Heights,
-        text: &mut Vec<u8>,
+        held: &mut Held,
         progress: &Progress,
     ) -> Result<()> {
         let (fields, geometry) = (self.about.fields.clone(), self.about.geometry.clone());
         let each = |read: Vec<Texts>, wkb: Wkb| {
             progress.add(read.iter().map(|(_, cuts)| cuts.len()).sum());
-            self.add(read, wkb, heights, text);
+            self.add(read, wkb, heights, held);
         };
         match fields.iter().any(|field| field.kind.is_wrong_in_streams()) {
             true => by_features(layer, &fields, column, each),
@@ -160,24 +167,34 @@ impl Rows {
     }
 
     /// Adds rows that were read together.
-    fn add(&mut self, read: Vec<Texts>, wkb: Wkb, heights: Heights, text: &mut Vec<u8>) {
+    fn add(&mut self, read: Vec<Texts>, wkb: Wkb, heights: Heights, held: &mut Held) {
         let before = self.cuts.len();
         for (part, cuts) in read {
-            text.extend(part);
+            held.text.extend(part);
             self.cuts.extend(cuts);
         }
-        let shapes = |rooms: &mut WkbRooms, rows| shapes(wkb, rows, heights, rooms);
-        let parts: Vec<Vec<Shape>> = parts(self.cuts.len() - before)
+        let shapes = |rooms: &mut WkbRooms, rows| {
+            let mut positions = Positions::default();
+            (shapes(wkb, rows, heights, rooms, &mut positions), positions)
+        };
+        let parts: Vec<(Shapes, Positions)> = parts(0..self.cuts.len() - before, PART)
             .into_par_iter()
             .map_init(WkbRooms::new, shapes)
             .collect();
-        let dimensions = parts.iter().flatten().flatten().map(|(_, each)| *each);
-        self.dimension = dimensions.fold(self.dimension, with);
-        self.shapes.extend(parts);
+        for (shapes, positions) in parts {
+            self.dimension = shapes.dimensions().fold(self.dimension, with);
+            held.positions.append(&positions);
+            self.shapes.push(shapes);
+        }
     }
 
-    /// The rows as a delivery, whose texts are those that were read.
-    pub fn delivery<'a>(self, text: &'a str, reading: &Reading) -> Result<(Delivery<'a>, About)> {
+    /// The rows as a delivery, whose texts and positions are those that were read.
+    pub fn delivery<'a>(
+        self,
+        text: &'a str,
+        positions: &'a Positions,
+        reading: &Reading,
+    ) -> Result<(Delivery<'a>, About)> {
         let Rows { about, members, cuts, shapes, dimension } = self;
         let begins = cuts.iter().scan(members, |end, cut| {
             let begin = *end;
@@ -185,20 +202,15 @@ impl Rows {
             Some(begin)
         });
         let places: Vec<(usize, Cut)> = begins.zip(cuts.iter().copied()).collect();
-        let row = |((begin, cut), shape): ((usize, Cut), Shape)| {
-            let (geometry, own) = shape?;
+        let (mut points, mut extras) = (&positions.points[..], &positions.extras[..]);
+        let row = |(&(begin, cut), shape): (&(usize, Cut), Shape)| {
+            let (counts, own) = shape?;
             let (id, properties) = cut.of(text, begin);
-            let geometry = widened(geometry, own, dimension);
+            let geometry = counts.geometry((&mut points, &mut extras), own, dimension);
             let foreign = Object::default();
             named(Feature { position: 0, part: 0, id, properties, foreign, geometry }, reading)
         };
-        // A part is taken when its turn comes, so that what it held is free for what follows.
-        let mut rest = &places[..];
-        let rows = shapes.into_iter().flat_map(|part| {
-            let (places, behind) = rest.split_at(part.len());
-            rest = behind;
-            places.par_iter().copied().zip(part).map(row).collect::<Vec<Result<Feature, String>>>()
-        });
+        let rows = places.iter().zip(shapes.into_iter().flat_map(Shapes::rows)).map(row);
         let place =
             |row: usize| match places.get(row).and_then(|(begin, cut)| cut.of(text, *begin).0) {
                 Some(id) => format!("feature {row} (id {id})"),
@@ -207,6 +219,7 @@ impl Rows {
         let mut delivery = gather(rows, reading, place)?;
         delivery.members = text.get(..members).and_then(Object::of).unwrap_or_default();
         delivery.dimension = dimension;
+        delivery.points = alone(&delivery, &positions.points);
         delivery.warnings.extend(warnings());
         Ok((delivery, about))
     }
@@ -224,21 +237,12 @@ fn with(a: Dimension, b: Dimension) -> Dimension {
     }
 }
 
-/// The geometry with all extras that any has: NaN stands for those that its own positions lack.
-fn widened(mut geometry: Geometry, own: Dimension, to: Dimension) -> Geometry {
-    let widen = |run: &mut Run| {
-        if own != to && own != Dimension::Xy {
-            let both = |&extra: &f64| match own {
-                Dimension::Xym => [f64::NAN, extra],
-                _ => [extra, f64::NAN],
-            };
-            run.heights = run.heights.iter().flat_map(both).collect();
-        }
+/// The points, where they are those of lines alone and no line has others.
+fn alone<'a>(delivery: &Delivery, points: &'a [Point]) -> Option<&'a [Point]> {
+    let own = |feature: &Feature| match &feature.geometry {
+        Geometry::Line(run) => Some(run.points.len()),
+        Geometry::Lines(_) | Geometry::Other(_) => None,
     };
-    match &mut geometry {
-        Geometry::Line(run) => widen(run),
-        Geometry::Lines(parts) => parts.iter_mut().for_each(widen),
-        Geometry::Other(_) => (),
-    }
-    geometry
+    let count: Option<usize> = delivery.features.iter().map(own).sum();
+    (delivery.dimension == Dimension::Xy && count == Some(points.len())).then_some(points)
 }

@@ -2,9 +2,10 @@
 
 use super::fields::Fields;
 use super::gdal::Datum;
-use super::writing::{Drawn, Feature};
-use crate::delivery::object::Object;
+use super::writing::{Drawn, Features};
+use crate::delivery::object::Entry;
 use lovasuku_chains::{ByteOrder, Dimension, LinesBuf, WkbBuf};
+use std::ops::Range;
 
 /// Rows that were encoded together.
 #[derive(Default)]
@@ -38,14 +39,15 @@ const MULTI: u32 = 3;
 
 /// Encodes features whose positions have a dimension, leaving out texts beyond a length.
 pub fn encoded(
-    features: &[Feature],
+    features: &dyn Features,
+    places: Range<usize>,
     dimension: Dimension,
     fields: &Fields,
     longest: Option<usize>,
 ) -> Encoded {
     let mut lines = LinesBuf::of(dimension);
-    for feature in features {
-        match &feature.drawn {
+    for place in places.clone() {
+        match features.drawn(place) {
             Drawn::Line(points, extras) => lines.push_apart(points, extras, 0),
             Drawn::Lines(parts) => {
                 parts.iter().for_each(|part| lines.push_apart(&part.points, &part.heights, 0));
@@ -56,8 +58,8 @@ pub fn encoded(
     // Lines that were pushed have the coordinates that their counts say, so that none is refused.
     let mut records = lines.lines().write_wkb(ByteOrder::Little, &mut buffer).into_iter().flatten();
     let mut encoded = Encoded::default();
-    for feature in features {
-        let parts = match &feature.drawn {
+    for place in places {
+        let parts = match features.drawn(place) {
             Drawn::Line(..) => 1,
             Drawn::Lines(parts) => {
                 encoded.run.push(ByteOrder::Little.number());
@@ -67,7 +69,8 @@ pub fn encoded(
             }
         };
         records.by_ref().take(parts).for_each(|record| encoded.run.extend(record));
-        let values = values(&feature.properties, fields, longest, &mut encoded.long);
+        let (properties, _) = features.properties(place);
+        let values = values(&properties, fields, longest, &mut encoded.long);
         encoded.rows.push((encoded.run.len(), values));
     }
     encoded
@@ -75,12 +78,12 @@ pub fn encoded(
 
 /// The values of properties, without texts that are too long, which are counted.
 fn values(
-    properties: &str,
+    properties: &[Entry],
     fields: &Fields,
     longest: Option<usize>,
     long: &mut usize,
 ) -> Vec<(usize, Datum)> {
-    let mut values = fields.values(&Object::of(properties).unwrap_or_default());
+    let mut values = fields.values(properties);
     let all = values.len();
     if let Some(longest) = longest {
         let fits =

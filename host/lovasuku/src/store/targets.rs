@@ -8,7 +8,7 @@ use std::path::Path;
 /// The endings of names, and the drivers of GDAL's that they ask for: formats that keep every bit of a
 /// coordinate.
 const ENDINGS: [(&str, &str); 4] =
-    [("gpkg", "GPKG"), ("fgb", "FlatGeobuf"), ("shp", SHAPEFILE), ("sqlite", "SQLite")];
+    [("gpkg", GEOPACKAGE), ("fgb", "FlatGeobuf"), ("shp", SHAPEFILE), ("sqlite", "SQLite")];
 const SHAPEFILE: &str = "ESRI Shapefile";
 
 /// The endings of other formats that GDAL writes, where it is asked to by a driver's name.
@@ -19,10 +19,14 @@ const OTHER_ENDINGS: [&str; 10] =
 const DATABASE: &str = "PostgreSQL";
 
 /// The drivers whose features have ids from 0 on, as they are given.
-const WITH_IDS: [&str; 3] = ["GPKG", "SQLite", DATABASE];
+const WITH_IDS: [&str; 3] = [GEOPACKAGE, "SQLite", DATABASE];
 
 /// The most bytes of a text in a Shapefile.
 const SHAPEFILE_TEXT: usize = 254;
+
+/// How a GeoPackage is made: its spatial index is laid when all features are there.
+const GEOPACKAGE: &str = "GPKG";
+const GEOPACKAGE_OPTIONS: [&str; 1] = ["SPATIAL_INDEX=NO"];
 
 /// How a Shapefile is made: with texts in UTF-8.
 const SHAPEFILE_OPTIONS: [&str; 1] = ["ENCODING=UTF-8"];
@@ -60,6 +64,8 @@ pub struct Store {
     pub ids: bool,
     /// The most bytes of a text, where there is a bound.
     pub longest: Option<usize>,
+    /// Whether its spatial index is laid when all features are there.
+    pub indexed: bool,
     /// How the layer is made, beyond its columns.
     pub options: &'static [&'static str],
     /// The endings of files beside it that are of it alone.
@@ -81,12 +87,16 @@ impl Store {
             layer: if database { layer } else { stem }.to_owned(),
             ids: WITH_IDS.iter().any(|each| each.eq_ignore_ascii_case(driver)),
             longest: None,
+            indexed: driver.eq_ignore_ascii_case(GEOPACKAGE),
             options: &[],
             beside: &[],
         };
         if driver.eq_ignore_ascii_case(SHAPEFILE) {
             store.longest = Some(SHAPEFILE_TEXT);
             (store.options, store.beside) = (&SHAPEFILE_OPTIONS, &BESIDE_SHAPEFILE);
+        }
+        if store.indexed {
+            store.options = &GEOPACKAGE_OPTIONS;
         }
         Ok(store)
     }

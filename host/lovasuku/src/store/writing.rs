@@ -1,37 +1,49 @@
 //! Layers that are written into stores: features with WKB of the proved writer's, and with the properties
 //! of GeoJSON as fields.
 
+use super::batches::parts;
 use super::fields::{Fields, Kinds, Names};
 use super::gdal::{
     failures, settle, warnings, Dataset, Driver, Field, Layer, Making, Reference, Row,
 };
+use super::index::Index;
 use super::rows::{encoded, Encoded};
-use crate::delivery::object::Object;
+use crate::delivery::object::Entry;
 use crate::delivery::{Point, Run};
+use crate::measure::extent;
 use crate::numbers::count;
 use crate::progress::Progress;
-use anyhow::{ensure, Context, Result};
+use anyhow::{Context, Result};
 use lovasuku_chains::Dimension;
 use rayon::prelude::*;
-use std::borrow::Cow;
+use std::ops::Range;
 use std::sync::mpsc::sync_channel;
 use std::thread;
 
-/// A feature to be written.
-pub struct Feature<'a> {
-    /// Its id, which formats keep that have ids.
-    pub id: usize,
-    /// Its properties as an object of JSON.
-    pub properties: String,
-    pub drawn: Drawn<'a>,
+/// Features to be written, each made when it is asked for by its place.
+pub trait Features: Sync {
+    /// How many there are.
+    fn len(&self) -> usize;
+
+    /// The id of a feature, which formats keep that have ids.
+    fn id(&self, place: usize) -> usize;
+
+    /// The properties of a feature, and whether one of the input's is left out for its name.
+    fn properties(&self, place: usize) -> (Vec<Entry<'_>>, bool);
+
+    /// The geometry of a feature.
+    fn drawn(&self, place: usize) -> Drawn<'_>;
+
+    /// What there is to tell where so many features have left out a property.
+    fn told_of(&self, left_out: usize) -> Option<String>;
 }
 
 /// The geometry of a feature.
 pub enum Drawn<'a> {
     /// A line: its points and their extras.
-    Line(Cow<'a, [Point]>, Cow<'a, [f64]>),
+    Line(&'a [Point], &'a [f64]),
     /// A MultiLineString, by its parts.
-    Lines(&'a [Run]),
+    Lines(&'a [Run<'a>]),
 }
 
 /// A layer to be written.
@@ -39,7 +51,7 @@ pub struct Sheet<'a> {
     pub driver: Driver,
     /// The name of the layer.
     pub name: &'a str,
-    pub features: Vec<Feature<'a>>,
+    pub features: Box<dyn Features + 'a>,
     /// What a feature is, in a word.
     pub each: &'static str,
     pub dimension: Dimension,
@@ -48,10 +60,14 @@ pub struct Sheet<'a> {
     pub geometry: Option<&'a str>,
     /// The names of the first fields, in their order, and what is known of their values.
     pub first: Vec<(String, Kinds)>,
+    /// Whether there are no others, no more is to be known of their values, and none is left out.
+    pub known: bool,
     /// The fields of the input, which keep their types.
     pub input: &'a [Field],
     /// Whether features have ids from 0 on.
     pub ids: bool,
+    /// Whether the spatial index is laid when all features are there.
+    pub indexed: bool,
     /// The most bytes of a text, where the format has a bound.
     pub longest: Option<usize>,
     /// How the layer is made, beyond its columns.
@@ -87,7 +103,8 @@ impl Sheet<'_> {
 
     fn write(&self, dataset: Dataset, progress: &Progress) -> Result<Vec<String>> {
         progress.begin("storing", self.features.len());
-        let fields = self.names().fields(&self.driver, self.input);
+        let (names, left_out) = self.names();
+        let fields = names.fields(&self.driver, self.input);
         let transaction = dataset.begin()?;
         let mut layer = dataset.make(&Making {
             name: self.name,
@@ -97,34 +114,52 @@ impl Sheet<'_> {
             fields: &fields.fields,
         })?;
         settle();
-        ensure!(!layer.geometries().is_empty(), "this format has no place for geometry");
-        let long = self.put(&mut layer, &fields, progress)?;
+        let geometries = layer.geometries();
+        let column = geometries.first().map(|(name, _)| name);
+        let column = column.context("this format has no place for geometry")?;
+        let begin = || Index::begin(&dataset, self.name, column);
+        let mut index = self.indexed.then(begin).transpose()?;
+        let long = self.put(&mut layer, &fields, index.as_mut(), progress)?;
         drop(layer);
+        index.map_or(Ok(()), Index::end)?;
         transaction.commit()?;
         dataset.close()?;
-        let mut told = warnings();
+        let mut told: Vec<String> = self.features.told_of(left_out).into_iter().collect();
+        told.extend(warnings());
         told.extend(self.told_of(long));
         Ok(told)
     }
 
-    /// The names of all properties, and the kinds of their values.
-    fn names(&self) -> Names {
-        let part = |features: &[Feature]| {
-            let mut names = Names::default();
-            let objects = features.iter().filter_map(|feature| Object::of(&feature.properties));
-            objects.for_each(|object| names.add_object(&object));
-            names
+    /// The names of all properties and the kinds of their values, and how many features have left out
+    /// one.
+    fn names(&self) -> (Names, usize) {
+        let (features, first) = (&*self.features, Names::of(&self.first));
+        if self.known {
+            return (first, 0);
+        }
+        let part = |places: Range<usize>| {
+            let (mut names, mut left_out) = (first.clone(), 0);
+            for place in places {
+                let (properties, leaves_out) = features.properties(place);
+                names.add_all(&properties);
+                left_out += usize::from(leaves_out);
+            }
+            (names, left_out)
         };
-        let parts: Vec<Names> = self.features.par_chunks(PART).map(part).collect();
-        let mut names = Names::of(&self.first);
-        parts.into_iter().for_each(|part| names.merge(part));
-        names
+        let parts = parts(0..features.len(), PART * PARTS);
+        let parts: Vec<(Names, usize)> = parts.into_par_iter().map(part).collect();
+        let (mut names, mut all_left_out) = (first, 0);
+        for (part, left_out) in parts {
+            names.merge(part);
+            all_left_out += left_out;
+        }
+        (names, all_left_out)
     }
 
     /// The type of the layer's geometry: that of all features, or any where they differ.
     fn geometry_type(&self) -> u32 {
-        let is_line = |feature: &Feature| matches!(feature.drawn, Drawn::Line(..));
-        let lines = self.features.iter().filter(|feature| is_line(feature)).count();
+        let is_line = |&place: &usize| matches!(self.features.drawn(place), Drawn::Line(..));
+        let lines = (0..self.features.len()).filter(is_line).count();
         let plain = match lines {
             lines if lines == self.features.len() => LINES,
             0 => MULTI_LINES,
@@ -156,21 +191,31 @@ impl Sheet<'_> {
 
     /// Puts all features into the layer, and tells how many texts were too long for it. They are encoded
     /// on all cores while others are written.
-    fn put(&self, layer: &mut Layer, fields: &Fields, progress: &Progress) -> Result<usize> {
+    fn put(
+        &self,
+        layer: &mut Layer,
+        fields: &Fields,
+        mut index: Option<&mut Index>,
+        progress: &Progress,
+    ) -> Result<usize> {
         let (send, receive) = sync_channel(1);
-        let (features, dimension, longest) = (&self.features[..], self.dimension, self.longest);
+        let (features, dimension, longest) = (&*self.features, self.dimension, self.longest);
         thread::scope(|scope| {
             scope.spawn(move || {
-                let part = |part: &[Feature]| encoded(part, dimension, fields, longest);
+                let part = |places| encoded(features, places, dimension, fields, longest);
                 // The one who writes has gone where a feature could not be written.
-                let sent = |window: &[Feature]| {
-                    send.send(window.par_chunks(PART).map(part).collect::<Vec<Encoded>>()).is_ok()
+                let sent = |window: Range<usize>| {
+                    let parts = parts(window, PART).into_par_iter().map(part);
+                    send.send(parts.collect::<Vec<Encoded>>()).is_ok()
                 };
-                features.chunks(PART * PARTS).all(sent)
+                parts(0..features.len(), PART * PARTS).into_iter().all(sent)
             });
             let (mut put, mut long) = (0, 0);
             for part in receive.into_iter().flatten() {
                 self.put_part(layer, &part, put)?;
+                if let Some(index) = &mut index {
+                    (put..put + part.len()).for_each(|place| self.put_box(index, place));
+                }
                 progress.add(part.len());
                 (put, long) = (put + part.len(), long + part.long);
             }
@@ -180,13 +225,22 @@ impl Sheet<'_> {
 
     /// Puts features into the layer, from the one of a position on.
     fn put_part(&self, layer: &mut Layer, part: &Encoded, first: usize) -> Result<()> {
-        let ids = self.features.iter().skip(first).map(|feature| feature.id);
-        for (id, (wkb, values)) in ids.zip(part.rows()) {
+        for (place, (wkb, values)) in (first..).zip(part.rows()) {
+            let id = self.features.id(place);
             let put = layer.put(&Row { id: self.ids.then_some(id as i64), wkb, values });
             put.and_then(|()| failures().map_or(Ok(()), Err))
                 .with_context(|| format!("{} {id}", self.each))?;
         }
         Ok(())
+    }
+
+    /// Puts the box of a feature into an index.
+    fn put_box(&self, index: &mut Index, place: usize) {
+        let extent = match self.features.drawn(place) {
+            Drawn::Line(points, _) => extent(points.iter().copied()),
+            Drawn::Lines(parts) => extent(parts.iter().flat_map(|part| &*part.points).copied()),
+        };
+        index.put(self.features.id(place) as i64, extent);
     }
 
     fn told_of(&self, long: usize) -> Option<String> {

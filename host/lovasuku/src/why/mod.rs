@@ -22,9 +22,9 @@ pub fn run(question: &Question) -> Result<String> {
     let wanted = question.wanted();
     let input = || wanted.whole_name();
     let progress = Progress::new(false);
-    let (source, text) = Source::read(wanted, &progress).with_context(input)?;
+    let (source, ground) = Source::read(wanted, &progress).with_context(input)?;
     let (delivery, layer) =
-        source.delivery(&text, &question.reading, &progress).with_context(input)?;
+        source.delivery(&ground, &question.reading, &progress).with_context(input)?;
     let delivery = &delivery;
     let classes = &Classes::of(delivery, question.class.as_deref(), question.district.as_ref())
         .with_context(input)?;

@@ -1,6 +1,7 @@
 //! The chains as features.
 
 use super::{entry, list, number, position, value, FeatureText, Keep};
+use crate::delivery::object::Entry;
 use crate::delivery::{Delivery, Geometry, Point};
 use crate::joining::Chain;
 use crate::measure::Measure;
@@ -60,11 +61,16 @@ impl Chains<'_> {
         Ok(clashes)
     }
 
+    /// The name of a line.
+    fn name(&self, out: &mut Vec<u8>, line: u32) {
+        out.extend_from_slice(self.delivery.name(line).as_bytes());
+    }
+
     /// A line of a path: its name, which part of its feature it is where lines are parts, and whether it
     /// is turned.
     fn step(&self, out: &mut Vec<u8>, PathLine { line, turned }: PathLine) {
         out.extend(b"{\"line\":");
-        out.extend(self.delivery.name(line).bytes());
+        self.name(out, line);
         if self.parts {
             out.extend(b",\"part\":");
             value(out, &self.delivery.features[line as usize].part);
@@ -81,44 +87,43 @@ impl Chains<'_> {
         value(&mut out, &id);
         out.extend(b",\"properties\":");
         let (properties, clash) = self.properties(chain);
-        out.extend(properties);
-        out.extend(b",\"geometry\":");
+        for (k, (name, text)) in properties.iter().enumerate() {
+            out.push(if k == 0 { b'{' } else { b',' });
+            entry(&mut out, name, text);
+        }
+        out.extend(b"},\"geometry\":");
         geometry(&mut out, delivery, chain);
         for (name, text) in keep.foreign(delivery, measure, chain).iter() {
+            out.push(b',');
             entry(&mut out, name, text);
         }
         out.push(b'}');
         (out, clash)
     }
 
-    /// The properties of a chain as an object of JSON, and whether a member has one of a chain's own
-    /// name. They are those of GeoJSON and the fields of a store alike.
-    pub fn properties(&self, chain: &Chain) -> (Vec<u8>, bool) {
+    /// The properties of a chain, its own first, and whether a member has one of a chain's own name. They
+    /// are those of GeoJSON and the fields of a store alike.
+    pub fn properties(&self, chain: &Chain) -> (Vec<Entry<'_>>, bool) {
         let Chains { delivery, measure, keep, own, .. } = self;
-        let mut out = b"{".to_vec();
-        for (k, name) in own.iter().enumerate() {
-            if k > 0 {
-                out.push(b',');
-            }
-            value(&mut out, name);
-            out.push(b':');
-            let part = |&line: &u32| delivery.features[line as usize].part;
-            match k {
-                0 => list(&mut out, chain.members, |out, &line| {
-                    out.extend(delivery.name(line).bytes())
-                }),
-                1 => list(&mut out, chain.path, |out, step| self.step(out, *step)),
-                2 => value(&mut out, &chain.members.len()),
-                3 => value(&mut out, &chain.is_loop),
-                _ => list(&mut out, chain.members, |out, line| value(out, &part(line))),
-            }
+        let own_values = (0..).map(|k| self.own_value(k, chain).into());
+        let mut properties: Vec<Entry> = own.iter().map(Into::into).zip(own_values).collect();
+        let (others, clash) = keep.properties(delivery, measure, chain, own);
+        properties.extend(others);
+        (properties, clash)
+    }
+
+    /// A property that every chain has, by its place among these.
+    fn own_value(&self, place: usize, chain: &Chain) -> String {
+        let mut out = Vec::new();
+        let part = |&line: &u32| self.delivery.features[line as usize].part;
+        match place {
+            0 => list(&mut out, chain.members, |out, &line| self.name(out, line)),
+            1 => list(&mut out, chain.path, |out, step| self.step(out, *step)),
+            2 => value(&mut out, &chain.members.len()),
+            3 => value(&mut out, &chain.is_loop),
+            _ => list(&mut out, chain.members, |out, line| value(out, &part(line))),
         }
-        let (properties, clash) = keep.properties(delivery, measure, chain, own);
-        for (name, text) in &properties {
-            entry(&mut out, name, text);
-        }
-        out.push(b'}');
-        (out, clash)
+        String::from_utf8(out).unwrap_or_default()
     }
 }
 

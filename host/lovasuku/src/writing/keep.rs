@@ -1,7 +1,7 @@
 //! Which properties of its members a chain has.
 
 use super::{list, value};
-use crate::delivery::object::Object;
+use crate::delivery::object::{Entry, Object};
 use crate::delivery::{Delivery, Feature};
 use crate::joining::Chain;
 use crate::measure::Measure;
@@ -42,7 +42,7 @@ impl Keep {
         measure: &Measure,
         chain: &Chain,
         own: &[String],
-    ) -> (Vec<(String, String)>, bool) {
+    ) -> (Vec<Entry<'a>>, bool) {
         let mut all: Vec<Object<'a>> = members(delivery, chain).map(Feature::object).collect();
         let mut clash = false;
         for object in &mut all {
@@ -52,16 +52,13 @@ impl Keep {
                 !is_own
             });
         }
-        let owned = |object: &Object| {
-            object.iter().map(|(name, text)| (name.to_owned(), text.to_owned())).collect()
+        let kept = match self {
+            Keep::Shared => shared(all),
+            Keep::First => all.into_iter().next().unwrap_or_default(),
+            Keep::Longest => all.swap_remove(longest(delivery, measure, chain)),
+            Keep::List => return (lists(&all), clash),
         };
-        let properties = match self {
-            Keep::Shared => owned(&shared(all)),
-            Keep::First => all.first().map(owned).unwrap_or_default(),
-            Keep::Longest => owned(&all[longest(delivery, measure, chain)]),
-            Keep::List => lists(&all),
-        };
-        (properties, clash)
+        (kept.into_entries().collect(), clash)
     }
 
     /// The members of a chain beside those that GeoJSON asks for: of the member that its properties
@@ -112,7 +109,7 @@ fn longest(delivery: &Delivery, measure: &Measure, chain: &Chain) -> usize {
 }
 
 /// Each name that an object has, with the list of all values, null where there is none.
-fn lists(all: &[Object]) -> Vec<(String, String)> {
+fn lists<'a>(all: &[Object<'a>]) -> Vec<Entry<'a>> {
     let mut names: Vec<&str> = Vec::new();
     for (name, _) in all.iter().flat_map(Object::iter) {
         if !names.contains(&name) {
@@ -127,5 +124,5 @@ fn lists(all: &[Object]) -> Vec<(String, String)> {
         });
         String::from_utf8(out).unwrap_or_default()
     };
-    names.into_iter().map(|name| (name.to_owned(), listed(name))).collect()
+    names.into_iter().map(|name| (name.to_owned().into(), listed(name).into())).collect()
 }

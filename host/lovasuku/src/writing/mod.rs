@@ -32,12 +32,11 @@ fn list<T>(
     out.push(b']');
 }
 
-/// Writes a name and a value that is written already, behind others of an object.
+/// Writes a name of an object and a value that is written already.
 fn entry(out: &mut Vec<u8>, name: &str, text: &str) {
-    out.push(b',');
     value(out, &name);
     out.push(b':');
-    out.extend(text.bytes());
+    out.extend_from_slice(text.as_bytes());
 }
 
 /// Writes a position.

@@ -8,6 +8,7 @@ mod faults;
 mod fields;
 mod gdal;
 mod heights;
+mod indexes;
 mod places;
 mod roads;
 mod settings;

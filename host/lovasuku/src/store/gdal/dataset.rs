@@ -74,6 +74,20 @@ impl Dataset {
         }
     }
 
+    /// Runs a statement that gives no rows.
+    pub fn run(&self, sql: &str) -> Result<()> {
+        let sql = c_text(sql)?;
+        let handle = self.handle.as_ptr();
+        // SAFETY: as for a query; a layer that is given for all that is released once.
+        unsafe {
+            let rows = (self.gdal.GDALDatasetExecuteSQL)(handle, sql.as_ptr(), null_mut(), null());
+            if !rows.is_null() {
+                (self.gdal.GDALDatasetReleaseResultSet)(handle, rows);
+            }
+        }
+        failures().map_or(Ok(()), Err)
+    }
+
     /// Closes it, and tells what GDAL tells of that.
     pub fn close(self) -> Result<()> {
         drop(self);

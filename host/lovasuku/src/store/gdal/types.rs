@@ -49,6 +49,11 @@ impl FieldType {
         truth || matches!(self.name(), "Date" | "Time" | "DateTime")
     }
 
+    /// True where values are single ones: no lists, and no texts that may be JSON.
+    pub fn is_single(self) -> bool {
+        !matches!(self.number, 1 | 3 | 5 | 13) && self != FieldType::JSON
+    }
+
     /// The name of the type, as drivers list what they can write.
     pub fn name(self) -> &'static str {
         match self.number {
