@@ -2,7 +2,7 @@
  *
  * Every call lends its input and its rooms and gets back one number: a result from 0 up, or, below 0, minus
  * the number of a refusal. Nothing is allocated and nothing is kept between calls, so calls may run on
- * several threads at once, each with rooms of its own.
+ * several threads at once, each with rooms of its own. A call takes less than 64 KiB of its thread's stack.
  *
  * A slice is a pointer and a length in elements. A slice of length 0 is not looked at, so its pointer may be
  * anything, NULL included. Rooms (the slices without const) must not overlap one another or the input. They need
@@ -83,8 +83,8 @@ extern "C" {
 #define lovasuku_pairs_room(d) ((size_t)(d))
 #define lovasuku_pairs_workspace_room(d) ((size_t)LOVASUKU_END_WORKSPACE * (size_t)(d))
 
-/* The refusals, in order of checking. An answer is minus one of these, and the first that applies is given. Where a
- * type is given, 12 is the first of all. */
+/* The refusals. An answer is minus one of these: the first that applies, in the order in which each call below names
+ * its own. */
 enum lovasuku_refusal {
     LOVASUKU_TOO_MANY = 1,             /* More than 4,096 lines, or for pairing more than 8,192 ends. */
     LOVASUKU_TABLES_DIFFER = 2,        /* The tables of the lines, or of the ends, differ in length. */
@@ -152,10 +152,10 @@ enum lovasuku_reason {
  * has plus infinity as least and minus infinity as greatest. lovasuku_window reads them.
  *
  * Which way was a line drawn? Along its chain where its mark is 0, against it where it is 1, with a tolerance too: the
- * chain's lines in the order of the listing, each backwards where its mark is 1, laid end to end without repeats of x
- * and y, are the chain's coordinates by ==. The members are in another order where round two turned a piece of several
- * lines, which keep the order that they had in it: a mark belongs to the member at its place, not to the line at that
- * place of the listing. Lines from 0,0 to 1.25,0, from 4.5,0 to 3.5,0 and from 3.5,0 to 1.75,0 with tolerance 1 are one
+ * lines of a chain of several, in the order of the listing, each backwards where its mark is 1, laid end to end without
+ * repeats of x and y, are the chain's coordinates by ==. A chain of one line has that line's coordinates as they are,
+ * repeats and all. The members are in another order where round two turned a piece of several lines, which keep the
+ * order that they had in it: a mark belongs to the member at its place, not to the line at that place of the listing. Lines from 0,0 to 1.25,0, from 4.5,0 to 3.5,0 and from 3.5,0 to 1.75,0 with tolerance 1 are one
  * chain with members 0 1 2, marks 0 1 1 and listing 0 2 1.
  *
  * Two districts may go through one call. The lines of groups below 2^31 are the first district's and all others the
@@ -425,7 +425,7 @@ int64_t lovasuku_window(const double *boxes, size_t boxes_length, uint64_t k,
  * tolerance and origin; that is proved. Acceptable too are chains that it would have cut, turned or joined otherwise, as
  * long as their lines meet: no switch and no limit are asked for.
  *
- * Nothing is written.
+ * Nothing is written but the workspace.
  *
  * Rooms: workspace 192n.
  *

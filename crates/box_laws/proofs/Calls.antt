@@ -1,9 +1,8 @@
 -- What the record of the window question tells: an accepted call lists what the definition lists; on the boxes of chains of places these are the chains whose
 -- coordinates' extent overlaps or touches the window; and two answers that satisfy one record are equal.
-use Prim.Native.Nat.{ℕ, zero, suc}
-use mathlib.Core.Path.{_≡_, refl, sym, ap, _∙_}
-use mathlib.Core.List.{List, [], _∷_, _++_, map}
-use native.Mathlib.Omega.{arith}
+use Prim.Native.Nat.{ℕ}
+use mathlib.Core.Path.{_≡_, sym, ap, _∙_}
+use mathlib.Core.List.{List, [], _++_, map}
 use lib.ListN.{length, getD, take}
 use lib.Seq.{take-at}
 use Rattle.rules.specs.declared.Answer.{Answer}
@@ -12,8 +11,8 @@ use Rattle.rules.specs.declared.Window.{Window}
 use Rattle.rules.specs.Lists.{keep, upto}
 use Rattle.rules.specs.Plane.{Point}
 use Rattle.rules.specs.Boxes.{boxOf, stacked, boxNumbers}
-use Rattle.rules.specs.Calls.{unless, answerOf, written}
-use Rattle.rules.specs.Windows.{meets, inWindow, LentBoxes, boxesAs, windowRefusalOf, foundOf, Windowed}
+use Rattle.rules.specs.Calls.{unless, written}
+use Rattle.rules.specs.Windows.{meets, inWindow, LentBoxes, windowRefusalOf, foundOf, Windowed}
 use Rattle.chain_laws.proofs.Counts.{Each, each-getD}
 use Rattle.pair_laws.proofs.Calls.{accepted}
 use Rattle.box_laws.specs.Sound.{Places}

@@ -1,5 +1,5 @@
 -- A chain's box is its coordinates' extent: each of its boxNumbers is one of theirs, none of theirs lies beyond it, and of equal ones it is the earliest.
-use Prim.Native.Nat.{ℕ, zero, suc, _<_}
+use Prim.Native.Nat.{ℕ, zero, suc}
 use mathlib.Core.Path.{_≡_, refl, sym, subst, _∙_}
 use mathlib.Core.List.{List, [], _∷_, map}
 use native.Mathlib.Omega.{arith}
@@ -8,7 +8,7 @@ use Rattle.rules.specs.Plane.{Point, float}
 use Rattle.rules.specs.Boxes.{lesser, greater, union, spot, grown, boxOf}
 use Rattle.float_order.proofs.Order.{finite-num}
 use Rattle.chain_laws.proofs.Counts.{cons}
-use Rattle.box_laws.specs.Sound.{BoxPlace, Places}
+use Rattle.box_laws.specs.Sound.{Places}
 use Rattle.box_laws.proofs.Picks.{Numbers, Earliest, best, best-is, below, above, below-order, above-order, not-self}
 use Rattle.box_laws.proofs.Unions.{box-first}
 

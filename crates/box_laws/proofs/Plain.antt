@@ -3,7 +3,6 @@ use Prim.Native.Nat.{ℕ, zero, suc, _+_, _-_, _*_, _/_, _≤_, _<_}
 use mathlib.Core.Path.{_≡_, refl, sym, ap, ap₂, _∙_}
 use mathlib.Core.Bool.{Bool, true, false, _&&_}
 use mathlib.Core.List.{List, [], _∷_, _++_, map, append-assoc}
-use native.Mathlib.Nat.{add-zero, zero-add}
 use native.Mathlib.Omega.{arith}
 use native.Mathlib.Decide.{decLt}
 use borrow.Author.Tests.{le-ltb}
@@ -18,7 +17,7 @@ use Rattle.rules.specs.Boxes.{grown, boxOf, inPairs, levels, stacked, boxNumber
 use Rattle.rules.specs.Windows.{meets, shown, shownUp, seen, inWindow}
 use Rattle.chain_laws.proofs.Counts.{Each, each-map, each-weak}
 use Rattle.box_laws.specs.Sound.{Places, BoxSound, Sounds}
-use Rattle.box_laws.specs.Rows.{row, nth}
+use Rattle.box_laws.specs.Rows.{nth}
 use Rattle.box_laws.proofs.Runs.{keep-same}
 use Rattle.box_laws.proofs.Above.{up-top, up-more}
 use Rattle.box_laws.proofs.Rows.{boxes-append, boxes-length, pairs-length, row-back, row-at}

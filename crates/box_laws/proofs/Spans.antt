@@ -2,7 +2,7 @@
 -- The greatest is tested as the least is, by one law over the order.
 use Prim.Native.Nat.{ℕ}
 use mathlib.Core.Path.{_≡_, refl, sym, ap, ap₂, subst, _∙_}
-use mathlib.Core.Bool.{Bool, true, false, not, _&&_, _||_, cond}
+use mathlib.Core.Bool.{Bool, true, false, _&&_, _||_, cond}
 use mathlib.Core.List.{List, [], _∷_}
 use mathlib.Core.Logic.{_⊎_, inl, inr}
 use lib.Dec.{T}
@@ -12,14 +12,14 @@ use Rattle.rules.specs.declared.Box.{Box}
 use Rattle.rules.specs.declared.Window.{Window}
 use Rattle.rules.specs.Lists.{anyOf}
 use Rattle.rules.specs.Plane.{Point, float}
-use Rattle.rules.specs.Boxes.{lesser, greater, union, spot, empty, grown, boxOf}
+use Rattle.rules.specs.Boxes.{lesser, greater, union, spot, grown, boxOf}
 use Rattle.rules.specs.Windows.{overlap, meets}
 use Rattle.float_order.proofs.Order.{bool-ext, trans, refl-le, finite-num, or-l, or-r, or-split}
 use Rattle.chain_laws.proofs.Counts.{nil, cons}
 use Rattle.box_laws.specs.Sound.{Number, BoxPlace, Places, BoxSound}
 use Rattle.box_laws.specs.Spans.{spans}
 use Rattle.box_laws.proofs.Wider.{lesser-left, lesser-right, greater-left, greater-right}
-use Rattle.box_laws.proofs.Unions.{box-first, union-sound, spot-sound, box-sound}
+use Rattle.box_laws.proofs.Unions.{box-first, union-sound, spot-sound}
 
 -- ---- one of two, and one of all
 

@@ -7,7 +7,7 @@ use lib.Ieee.{Float, binary64, lt, nanBits}
 use lib.Ieee.Bits.{nanBits-is, toBits-ofBits}
 use Rattle.rules.specs.declared.Box.{Box}
 use Rattle.rules.specs.Plane.{Point, float}
-use Rattle.rules.specs.Boxes.{lesser, greater, union, empty, spot}
+use Rattle.rules.specs.Boxes.{lesser, greater, union, spot}
 use Rattle.box_laws.specs.Sound.{Number, BoxSound}
 use Rattle.box_laws.proofs.Unions.{union-sound}
 use Rattle.box_levels.specs.declared.Extent.{Extent}

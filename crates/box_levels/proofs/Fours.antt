@@ -1,12 +1,11 @@
 -- The extent of points, four at a time: after each turn it is that of the points before the i-th number, and the last four, of which some may have been taken, end it.
 use Prim.Native.Nat.{ℕ, _+_, _-_, _*_, _≤_, _<_}
-use mathlib.Core.Path.{_≡_, refl, sym, ap, ap₂, subst, _∙_}
+use mathlib.Core.Path.{_≡_, sym, ap, ap₂, subst, _∙_}
 use mathlib.Core.List.{List, _++_}
 use native.Mathlib.Omega.{arith}
 use native.Mathlib.Nat.{mul-le-mul-right, le-of-mul-le-mul-right, lt-of-mul-lt-mul-right, add-mul, zero-mul}
 use lib.ListN.{length, drop}
 use lib.Seq.{drop-drop}
-use Rattle.rules.specs.declared.Box.{Box}
 use Rattle.rules.specs.Plane.{Point, reads, points}
 use Rattle.rules.specs.Boxes.{union, boxOf}
 use Rattle.point_numbers.proofs.Points.{points-exact, reads-add}

@@ -1,22 +1,19 @@
 -- Points of a width in a slice, taken in parts: one point more, four at once, and the last four, of which some were taken already.
-use Prim.Native.Nat.{ℕ, zero, suc, _+_, _-_, _*_, _≤_, _<_}
+use Prim.Native.Nat.{ℕ, _+_, _-_, _≤_, _<_}
 use mathlib.Core.Path.{_≡_, refl, sym, ap, ap₂, subst, _∙_}
-use mathlib.Core.List.{List, [], _∷_, _++_}
+use mathlib.Core.List.{List, [], _∷_}
 use native.Mathlib.Omega.{arith}
-use native.Mathlib.Nat.{mul-le-mul-right, le-of-mul-le-mul-right, add-mul}
-use lib.Dec.{T}
-use lib.Ieee.Scale.{finite}
 use lib.ListN.{length, take, drop, getD}
 use lib.Seq.{drop-drop}
 use Rattle.rules.specs.declared.Box.{Box}
 use Rattle.rules.specs.Plane.{Point, point, float, pointOf, reads, points}
 use Rattle.rules.specs.Boxes.{union, empty, spot, grown, boxOf}
 use Rattle.float_order.proofs.Order.{finite-num}
-use Rattle.point_numbers.specs.Width.{pointAt, Multiple, Whole}
-use Rattle.point_numbers.proofs.Points.{at-x, at-y, points-from, points-past, points-exact, reads-add, multiple-next}
+use Rattle.point_numbers.specs.Width.{pointAt, Multiple}
+use Rattle.point_numbers.proofs.Points.{at-x, at-y, points-from, points-past, multiple-next}
 use Rattle.chain_laws.proofs.Counts.{nil, cons}
 use Rattle.box_laws.specs.Sound.{Number, BoxPlace, Places}
-use Rattle.box_laws.proofs.Unions.{box-append, box-one, box-overlap}
+use Rattle.box_laws.proofs.Unions.{box-append, box-one}
 use Rattle.box_levels.specs.declared.Extent.{Extent}
 use Rattle.box_levels.specs.Extents.{joined, Boxed}
 use Rattle.box_levels.specs.Lying.{Lying, FourAt}

@@ -1,5 +1,5 @@
 -- Boxes as numbers: an extent has the values that a box has the bits of.
-use Prim.Native.Nat.{ℕ, _<_, _^_}
+use Prim.Native.Nat.{_<_, _^_}
 use mathlib.Core.Path.{_≡_}
 use mathlib.Core.Bool.{not, cond}
 use lib.Dec.{T}

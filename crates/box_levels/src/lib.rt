@@ -5,13 +5,13 @@ ghost use mathlib.Core.Path.{_≡_};
 ghost use Prim.Native.Nat.{ℕ, _+_, _*_, _/_, _≤_, _<_};
 ghost use lib.ListN.{length, drop};
 ghost use Rattle.rules.specs.Plane.{point, points, reads};
-ghost use Rattle.rules.specs.Boxes.{spot as spot-of, empty, boxOf, four, inPairs, stacked, boxNumbers, boxAt, boxSize, boxRoom};
+ghost use Rattle.rules.specs.Boxes.{spot as spot-of, empty, boxOf, four, inPairs, stacked, boxNumbers, boxAt, boxSize};
 ghost use Rattle.rules.specs.Calls.{written};
 ghost use Rattle.point_slices.specs.Holds.{HoldsFrom};
 ghost use Rattle.box_laws.specs.Sound.{Number, BoxSound};
 ghost use Rattle.box_laws.specs.Rows.{row};
 ghost use Rattle.box_levels.specs.Extents.{lower, higher, joined, boxedOf, Real, Boxed};
-ghost use Rattle.box_levels.specs.Lying.{Lying, FourAt, Raisable, mostBoxes};
+ghost use Rattle.box_levels.specs.Lying.{Lying, FourAt, Raisable};
 
 // The bits of the infinities.
 const INFINITE: u64 = 0x7FF0_0000_0000_0000;

@@ -5,12 +5,12 @@ use mathlib.Core.Bool.{false}
 use mathlib.Core.List.{List, [], _∷_, _++_, map, map-append}
 use native.Mathlib.Nat.{add-zero, zero-add, add-mul}
 use native.Mathlib.Omega.{arith}
-use lib.ListN.{length, take, drop, length-append, length-map, length-drop}
+use lib.ListN.{length, drop, length-map, length-drop}
 use lib.Seq.{length-take-le}
 use Rattle.rules.specs.declared.Box.{Box}
 use Rattle.rules.specs.Lists.{from, upto}
 use Rattle.rules.specs.Plane.{points}
-use Rattle.rules.specs.Boxes.{empty, boxOf, levels, stacked, boxNumbers, four, boxAt, boxRoom}
+use Rattle.rules.specs.Boxes.{boxOf, levels, stacked, boxNumbers, four, boxAt}
 use Rattle.rules.specs.Refusals.{noChain, entry, sourceOf}
 use Rattle.rules.specs.Calls.{written}
 use Rattle.point_numbers.specs.Width.{Whole}
@@ -28,7 +28,7 @@ use Rattle.box_levels.specs.Extents.{boxedOf, Real, Boxed}
 use Rattle.box_levels.specs.Lying.{Lying, Raisable}
 use Rattle.box_levels.proofs.Extents.{real-of, boxed-back}
 use Rattle.build_question.specs.Parts.{partOf}
-use Rattle.build_question.proofs.Laws.{Stands, stands, part-there}
+use Rattle.build_question.proofs.Laws.{stands, part-there}
 use Rattle.build_boxes.specs.Boxing.{chainPoints, chainBoxes, Boxable}
 
 module _ (w : ℕ) (input merged table : List ℕ) where

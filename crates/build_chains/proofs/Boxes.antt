@@ -1,5 +1,5 @@
 -- The boxes of what was laid: each record names its chain's points, which are places, and so the boxes by the views are those of the chains.
-use Prim.Native.Nat.{ℕ, _≤_, _<_}
+use Prim.Native.Nat.{ℕ, _<_}
 use mathlib.Core.Path.{_≡_, refl, sym, ap, subst, _∙_}
 use mathlib.Core.List.{List, [], _++_, map, flatMap}
 use native.Mathlib.Omega.{arith}

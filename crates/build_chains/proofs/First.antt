@@ -1,6 +1,6 @@
 -- Round one of an accepted call: what each step asks, and that the pieces it leaves are the book's.
 use Prim.Native.Nat.{ℕ, _+_, _-_, _*_, _≤_}
-use mathlib.Core.Path.{_≡_, refl, sym, ap, _∙_, subst}
+use mathlib.Core.Path.{_≡_, sym, ap, _∙_, subst}
 use mathlib.Core.Bool.{Bool, true, false, _||_, _&&_}
 use mathlib.Core.List.{List, [], map}
 use native.Mathlib.Omega.{arith}
@@ -19,8 +19,8 @@ use Rattle.rules.specs.Refusals.{lineRoom, limitBad}
 use Rattle.build_refusals.specs.Tests.{switchBad}
 use Rattle.chain_laws.proofs.Room.{size, join-size, pieces-size, lines-size}
 use Rattle.chain_pieces.specs.Held.{Held, Packed}
-use Rattle.chain_pieces.specs.Map.{roundRoom, takenBlock}
-use Rattle.build_lines.specs.Taken.{Takable, plainOf, Taken}
+use Rattle.chain_pieces.specs.Map.{takenBlock}
+use Rattle.build_lines.specs.Taken.{plainOf, Taken}
 use Rattle.chain_round.specs.Round as round
 use Rattle.chain_round.specs.Round.{Rounded}
 use Rattle.build_chains.specs.Building.{Buildable, Left}

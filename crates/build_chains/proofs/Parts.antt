@@ -1,10 +1,10 @@
 -- A part of a slice that is lent and comes back: it stands where it stood, and before and beyond it all is as it was.
-use Prim.Native.Nat.{ℕ, _+_, _-_, _*_, _≤_}
+use Prim.Native.Nat.{ℕ, _+_, _-_, _≤_}
 use mathlib.Core.Path.{_≡_, refl, sym, ap, _∙_}
 use mathlib.Core.List.{List, _++_}
 use native.Mathlib.Omega.{arith}
 use lib.ListN.{length, take, drop, replicate, length-append, length-drop}
-use lib.Seq.{slice, length-take-le, take-at, drop-at, drop-drop}
+use lib.Seq.{length-take-le, take-at, drop-at, drop-drop}
 use borrow.Rule.Slice.PartMut.{midOf, putMid}
 use Rattle.rules.specs.Chaining.{Piece}
 use Rattle.rules.specs.Calls.{written, cleared}

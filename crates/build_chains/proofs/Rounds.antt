@@ -11,8 +11,6 @@ use Rattle.rules.specs.declared.Settings.{Settings}
 use Rattle.rules.specs.Plane.{points, flat, nought}
 use Rattle.rules.specs.Chaining.{cellsOf, Piece, join, roundOne, roundTwo, ruleOf}
 use Rattle.rules.specs.Layout.{Lines, copy}
-use Rattle.rules.specs.Refusals.{lineRoom}
-use Rattle.rules.specs.Calls.{written}
 use Rattle.point_numbers.proofs.Points.{flat-length}
 use Rattle.chain_laws.proofs.Room.{copies-size}
 use Rattle.chain_pieces.specs.Held.{linesOf, Packed}

@@ -10,7 +10,7 @@ use Rattle.rules.specs.Chaining.{Piece}
 use Rattle.rules.specs.Refusals.{lineRoom}
 use Rattle.point_slices.proofs.Laws.{slice-part}
 use Rattle.chain_pieces.specs.Held.{Held, Packed}
-use Rattle.chain_pieces.specs.Map.{roundRoom, takenBlock}
+use Rattle.chain_pieces.specs.Map.{takenBlock}
 use Rattle.chain_round.specs.Round as round
 use Rattle.chain_round.specs.Round.{Rounded}
 use Rattle.build_chains.specs.Building.{partFrom, Left, Second}

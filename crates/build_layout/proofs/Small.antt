@@ -1,6 +1,6 @@
 -- Small numbers: the members, the listing and the records of pieces are below a bound where the lines and the points are. A record's numbers are
 -- counts of what stands before it, and so no greater than the counts of everything.
-use Prim.Native.Nat.{ℕ, zero, suc, _+_, _≤_, _<_}
+use Prim.Native.Nat.{ℕ, _+_, _≤_, _<_}
 use mathlib.Core.Path.{_≡_, refl, _∙_}
 use mathlib.Core.Bool.{Bool, true, false}
 use mathlib.Core.List.{List, [], _∷_, map, flatMap}

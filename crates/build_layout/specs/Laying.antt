@@ -5,7 +5,6 @@ use mathlib.Core.Path.{_≡_}
 use mathlib.Core.Bool.{false}
 use mathlib.Core.List.{List, [], _∷_, map}
 use lib.ListN.{length, getD}
-use lib.Seq.{slice}
 use Rattle.rules.specs.declared.Settings.{Settings}
 use Rattle.rules.specs.Lists.{total}
 use Rattle.rules.specs.Chaining.{Piece, pieces, roundOne, roundTwo}

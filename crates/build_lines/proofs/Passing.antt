@@ -1,6 +1,6 @@
 -- Lines passed one by one: those that are wanted, the plain ones or those that pass through, as pieces. One line more is one piece more behind the
 -- others, or none. A piece of these has one line and no copy.
-use Prim.Native.Nat.{ℕ, zero, suc, _+_, _*_, _≤_, _<_, zero-le}
+use Prim.Native.Nat.{ℕ, zero, suc, _+_, _≤_, _<_, zero-le}
 use mathlib.Core.Path.{_≡_, refl, sym, ap, ap₂, _∙_, subst}
 use mathlib.Core.Bool.{Bool, true, false, _&&_, Bool·beq}
 use mathlib.Core.List.{List, [], _∷_, _++_, flatMap, append-nil}

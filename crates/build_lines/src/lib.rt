@@ -6,11 +6,8 @@ use chain_pieces::TAKEN_MEMBERS;
 use rules::PIECE;
 ghost use mathlib.Core.Path.{_≡_};
 ghost use mathlib.Core.Bool.{_&&_};
-ghost use mathlib.Core.List.{[], _∷_};
-ghost use Prim.Native.Nat.{_+_, _*_, _≤_};
+ghost use Prim.Native.Nat.{_+_, _*_};
 ghost use lib.Dec.{leb, eqb};
-ghost use lib.ListN.{length};
-ghost use Rattle.point_slices.specs.Holds.{HoldsFrom};
 ghost use Rattle.build_lines.specs.Taken.{Takable, Taken};
 
 // Whether a line is plain, by its coordinate count and its kind.

@@ -9,13 +9,13 @@ use Rattle.rules.specs.declared.Settings.{Settings}
 use Rattle.rules.specs.Lists.{total}
 use Rattle.rules.specs.Plane.{Point, points, flat}
 use Rattle.rules.specs.Chaining.{Piece, nothing, chains}
-use Rattle.rules.specs.Layout.{Lines, lines, linesIn}
+use Rattle.rules.specs.Layout.{Lines, linesIn}
 use Rattle.point_numbers.specs.Width.{Wide, AllWide, none-wide, more-wide}
 use Rattle.point_numbers.proofs.Points.{points-wide, points-flat}
 use Rattle.chain_laws.proofs.Counts.{Each, nil, cons, each-part, each-getD}
 use Rattle.chain_laws.proofs.Records.{line-at}
 use Rattle.chain_extras.proofs.Riding.{chains-all}
-use lib.ListN.{take, drop}
+use lib.ListN.{take}
 
 module _ (w : ℕ) (l : Lines) (s : Settings) where
   pub chains-have : (P : Point → Type 0) → Each P (points w (l .coordinates)) → Each (λ (c : Piece). Each P (c .points)) (chains s (linesIn w l))

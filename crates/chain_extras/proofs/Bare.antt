@@ -37,10 +37,6 @@ unfolding keyOf exactKey cellKey
 key-bare Exact g p = refl
 key-bare (Cells t ox oy) g p = refl
 
-pub equal-bare : (p q : Point) → equal (bare p) (bare q) ≡ equal p q
-unfolding equal
-equal-bare p q = refl
-
 first-bare : (p : Point) (l : List Point) → first (λ q. not (equal q (bare p))) (map bare l) ≡ bareOf (first (λ q. not (equal q p)) l)
 unfolding first equal
 first-bare p [] = refl

@@ -1,6 +1,6 @@
 // Ends grouped by key without a sort: buckets of leaders, and behind each leader the list of its key's ends.
 ghost use mathlib.Core.Path.{_≡_};
-ghost use Prim.Native.Nat.{ℕ, _+_, _*_, _≤_, _<_};
+ghost use Prim.Native.Nat.{_+_, _*_, _≤_, _<_};
 ghost use lib.ListN.{length, getD, set};
 ghost use Rattle.rules.specs.Refusals.{mostEnds};
 ghost use Rattle.chain_grouping.specs.Group.{words, sameWords, wordsAt, wordsOf, half, bucketOf, GroupingRoom, GroupedIn, EndPlaced, Found, Nodes};

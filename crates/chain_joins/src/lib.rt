@@ -1,6 +1,5 @@
 // Nodes read off grouped ends, and joins put into a table. The table, a list of ends and the groups stand in one workspace.
 use chain_grouping::NEXT;
-ghost use mathlib.Core.Path.{_≡_};
 ghost use Prim.Native.Nat.{_+_, _≤_, _<_};
 ghost use lib.ListN.{length, drop};
 ghost use lib.Seq.{slice};

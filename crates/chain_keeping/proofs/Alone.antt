@@ -9,7 +9,7 @@ use lib.Dec.{eqb}
 use lib.ListN.{length, getD, replicate}
 use Rattle.rules.specs.Lists.{from, upto, total}
 use Rattle.rules.specs.Plane.{Point}
-use Rattle.rules.specs.Walking.{pieceOf, sideOf}
+use Rattle.rules.specs.Walking.{sideOf}
 use Rattle.rules.specs.Chaining.{Piece, Rule, nothing, pieceAt, passed, turned, merged, merge}
 use Rattle.chain_laws.proofs.Counts.{Each, nil, cons, upto-length}
 use Rattle.chain_laws.proofs.Drawn.{Drawn}

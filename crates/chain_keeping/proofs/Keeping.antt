@@ -1,16 +1,15 @@
 -- What emission asks of walks that are pieces alone, and what comes out: the pieces themselves.
-use Prim.Native.Nat.{ℕ, _+_, _*_, _/_, _≤_, _<_}
-use mathlib.Core.Path.{_≡_, refl, sym, ap, _∙_, subst}
-use mathlib.Core.List.{List, [], _∷_, map}
+use Prim.Native.Nat.{ℕ, _+_, _*_, _≤_}
+use mathlib.Core.Path.{_≡_, sym, ap, _∙_, subst}
+use mathlib.Core.List.{List, map}
 use mathlib.Core.Option.{none}
 use native.Mathlib.Omega.{arith}
-use lib.ListN.{length, getD, take, drop, replicate}
+use lib.ListN.{length, getD}
 use lib.Seq.{slice}
 use Rattle.rules.specs.declared.Grid.the-variants.{Exact}
-use Rattle.rules.specs.Lists.{upto, total}
 use Rattle.rules.specs.Chaining.{Piece, Rule, merge}
-use Rattle.chain_pieces.specs.Held.{linesOf, Held}
-use Rattle.chain_pieces.specs.Map.{joinBlock, takenBlock, roundRoom}
+use Rattle.chain_pieces.specs.Held.{Held}
+use Rattle.chain_pieces.specs.Map.{joinBlock, takenBlock}
 use Rattle.chain_pieces.proofs.Reading.{held-beyond}
 use Rattle.chain_walks.specs.Map.{entryBlock}
 use Rattle.chain_merging.specs.Emit.{Walks, Done}

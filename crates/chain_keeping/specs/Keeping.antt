@@ -1,7 +1,7 @@
 -- A round that joins none, in its part w of the workspace for n lines: what it asks, its walks, and what comes out.
 use Prim.Native.Nat.{ℕ, _+_, _*_, _≤_}
 use mathlib.Core.Path.{_≡_}
-use mathlib.Core.List.{List, [], _∷_, map, flatMap}
+use mathlib.Core.List.{List, map, flatMap}
 use lib.ListN.{length, replicate}
 use Rattle.rules.specs.Lists.{upto, total}
 use Rattle.rules.specs.Plane.{flat}

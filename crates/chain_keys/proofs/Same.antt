@@ -1,6 +1,6 @@
 -- The words of the keys tell ends apart as the book's keys do, where the workspace holds the pieces.
 -- It is true because a record names its piece's coordinates and members, an exact key is the bits themselves, and a cell's number stands for the cell.
-use Prim.Native.Nat.{ℕ, zero, suc, _+_, _-_, _*_, _/_, _%_, _≤_, _<_}
+use Prim.Native.Nat.{ℕ, suc, _+_, _-_, _*_, _/_, _%_, _≤_, _<_}
 use mathlib.Core.Path.{_≡_, refl, sym, ap, ap₂, _∙_}
 use mathlib.Core.Bool.{Bool, _&&_, cond}
 use mathlib.Core.List.{List, [], _∷_, reverse, reverse-append}

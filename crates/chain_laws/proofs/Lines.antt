@@ -11,9 +11,9 @@ use lib.ListN.{length, getD}
 use Rattle.rules.specs.declared.Settings.{Settings}
 use Rattle.rules.specs.declared.Grid.the-variants.{Exact}
 use Rattle.rules.specs.Lists.{count, from, upto, total}
-use Rattle.rules.specs.Plane.{nought, exactKey, cellKey}
+use Rattle.rules.specs.Plane.{nought}
 use Rattle.rules.specs.Walking.{pieceOf, walks}
-use Rattle.rules.specs.Chaining.{cellsOf, Piece, Rule, nothing, pieceAt, merge, join, partner, Line, plain, alone, pieces, limitOf, roundOne, roundTwo, chains, ruleOf}
+use Rattle.rules.specs.Chaining.{cellsOf, Piece, Rule, nothing, pieceAt, merge, join, partner, Line, plain, alone, pieces, roundOne, roundTwo, chains, ruleOf}
 use Rattle.chain_laws.proofs.Counts.{zero-of, count-append, upto-in, upto-out, upto-once}
 use Rattle.chain_laws.proofs.Totals.{total-append, total-same}
 use Rattle.chain_laws.proofs.Walks.{walks-count}

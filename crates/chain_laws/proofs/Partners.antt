@@ -1,6 +1,6 @@
 -- Partners: joining is mutual, of two pieces, among the pieces' ends, and of ends with one key.
 -- It is true because the ends of one key have one node, and the pairs that a node joins have no end twice.
-use Prim.Native.Nat.{ℕ, zero, suc, _*_, _≤_, _<_, zero-le}
+use Prim.Native.Nat.{ℕ, _*_, _≤_, _<_, zero-le}
 use mathlib.Core.Path.{_≡_, refl, sym, ap, _∙_}
 use mathlib.Core.Logic.{_≢_}
 use mathlib.Core.Bool.{Bool, true, false, _&&_, and-eq-true-iff}
@@ -18,8 +18,8 @@ use Rattle.rules.specs.Plane.{Key, key, sameInt, sameKey}
 use Rattle.rules.specs.Walking.{pieceOf}
 use Rattle.rules.specs.Chaining.{Piece, Rule, keyAt, node, chosen, joined, partner}
 use Rattle.chain_laws.specs.Joins.{Joins}
-use Rattle.chain_laws.proofs.Counts.{Each, nil, cons, each-map, each-weak, one-le, one-same, one-other, zero-of, upto-in, upto-out}
-use Rattle.chain_laws.proofs.Kept.{keep-in, keep-all, Up, up-from, up-keep, up-once, up-unique}
+use Rattle.chain_laws.proofs.Counts.{Each, nil, cons, each-map, each-weak, one-le, one-same, one-other, upto-out}
+use Rattle.chain_laws.proofs.Kept.{keep-in}
 use Rattle.chain_laws.proofs.Mates.{names, mate-in, mate-mutual, mate-each}
 use Rattle.chain_laws.proofs.Selected.{ends, Good, names-in, select-good, select-once}
 

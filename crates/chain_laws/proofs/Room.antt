@@ -1,7 +1,7 @@
 -- Rooms: what a call writes fits the rooms that 01 names: at most n chains, n members, marks and numbers of the listing, and at most c merged points.
 -- Each chain has a line, each line stands in one chain, and merging drops points and adds none.
 use Prim.Native.Nat.{_*_, ℕ, suc, _+_, _≤_, zero-le}
-use mathlib.Core.Path.{_≡_, refl, sym, ap, _∙_}
+use mathlib.Core.Path.{_≡_, refl, ap, _∙_}
 use mathlib.Core.Bool.{Bool, true, false, cond, Bool·beq}
 use mathlib.Core.List.{List, [], _∷_, map, flatMap, reverse, map-append}
 use mathlib.Core.Option.{Option, none, some}
@@ -13,9 +13,9 @@ use lib.ListN.{drop, length-take, length, length-append, length-reverse}
 use Rattle.rules.specs.declared.Settings.{Settings}
 use Rattle.rules.specs.declared.Grid.the-variants.{Exact}
 use Rattle.rules.specs.Lists.{upto, total}
-use Rattle.rules.specs.Plane.{Point, points, equal, nought, exactKey, cellKey}
+use Rattle.rules.specs.Plane.{Point, points, equal, nought}
 use Rattle.rules.specs.Walking.{sideOf, walks}
-use Rattle.rules.specs.Chaining.{cellsOf, Piece, Rule, pieceAt, run, lay, merged, merge, join, partner, Line, plain, alone, pieces, limitOf, roundOne, roundTwo, chains, ruleOf}
+use Rattle.rules.specs.Chaining.{cellsOf, Piece, Rule, pieceAt, run, lay, merged, merge, join, partner, Line, plain, alone, pieces, roundOne, roundTwo, chains, ruleOf}
 use Rattle.rules.specs.Layout.{lines, copied, copy, Laid, laidOut, build, lent, six}
 use Rattle.rules.specs.Refusals.{recordSize}
 use Rattle.chain_laws.proofs.Counts.{upto-length, Each, nil, cons}

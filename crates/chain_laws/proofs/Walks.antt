@@ -2,7 +2,7 @@
 -- It is true because what earlier walks visited is shut: a later start's way back and forth never leads into it, so each walk adds pieces that
 -- were not visited, its start among them.
 use Prim.Native.Nat.{ℕ, zero, suc, _+_, _*_, _≤_, _<_, zero-le}
-use mathlib.Core.Path.{_≡_, refl, sym, ap, _∙_, subst}
+use mathlib.Core.Path.{_≡_, refl, sym, ap, _∙_}
 use mathlib.Core.Bool.{Bool, true, false}
 use mathlib.Core.List.{List, [], _∷_, _++_, map, flatten, map-append, head-eq-of-cons-eq}
 use mathlib.Core.Option.{Option}

@@ -1,6 +1,6 @@
 -- Widths: joining drops points and makes none, so that the points of what comes out have the width of those that went in.
 use Prim.Native.Nat.{ℕ, zero, suc, _<_}
-use mathlib.Core.Path.{_≡_, refl, sym, subst, _∙_}
+use mathlib.Core.Path.{sym, subst}
 use mathlib.Core.Bool.{Bool, true, false, cond}
 use mathlib.Core.List.{List, [], _∷_, _++_, flatMap, reverse, reverse-append}
 use mathlib.Core.Option.{Option, none, some}

@@ -7,7 +7,7 @@ use native.Mathlib.Omega.{arith}
 use lib.ListN.{length, getD, replicate}
 use Rattle.rules.specs.declared.Grid.the-variants.{Exact}
 use Rattle.rules.specs.Lists.{total}
-use Rattle.rules.specs.Plane.{point, exactKey, numbersOf, flat}
+use Rattle.rules.specs.Plane.{point, numbersOf, flat}
 use Rattle.rules.specs.Walking.{pieceOf}
 use Rattle.rules.specs.Chaining.{Piece, nothing, pieceAt, merge}
 use Rattle.rules.specs.Layout.{copied, copy, five, rows}

@@ -1,16 +1,16 @@
 -- The members, marks and listing of all walks, one piece after another: what stands at the front after k entries are those of their pieces. The pieces
 -- that went in stand beyond, and are read as they were; and the three blocks lie one behind another, so that writing in one leaves the others.
 use Prim.Native.Nat.{ℕ, _+_, _-_, _*_, _%_, _≤_, _<_}
-use mathlib.Core.Path.{_≡_, refl, sym, ap, ap₂, _∙_, subst}
+use mathlib.Core.Path.{_≡_, refl, sym, ap, _∙_, subst}
 use mathlib.Core.List.{List, [], _∷_, _++_, flatMap, append-nil}
 use native.Mathlib.Omega.{arith}
 use native.Mathlib.Numerals.{add-one}
 use lib.ListN.{length, take-append-drop, getD, take, drop, length-append}
 use lib.Seq.{slice, slice-empty, take-suc, take-all}
-use Rattle.rules.specs.Walking.{pieceOf, sideOf}
-use Rattle.rules.specs.Chaining.{Piece, nothing, pieceAt, passed, turned, merge}
+use Rattle.rules.specs.Walking.{pieceOf}
+use Rattle.rules.specs.Chaining.{Piece, pieceAt, passed, turned, merge}
 use Rattle.rules.specs.Refusals.{pieceSize}
-use Rattle.chain_laws.proofs.Counts.{Each, each-of}
+use Rattle.chain_laws.proofs.Counts.{each-of}
 use Rattle.chain_laws.proofs.Drawn.{Low, Drawn, listing-long, merge-drawn}
 use Rattle.chain_laws.proofs.Lines.{flatMap-append}
 use Rattle.point_slices.specs.Holds.{HoldsFrom}

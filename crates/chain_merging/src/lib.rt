@@ -5,7 +5,7 @@ use chain_pieces::MARKS;
 use chain_pieces::MEMBERS;
 use rules::PIECE;
 ghost use mathlib.Core.Path.{_≡_};
-ghost use mathlib.Core.List.{[], _∷_, map, flatMap};
+ghost use mathlib.Core.List.{map, flatMap};
 ghost use mathlib.Core.Option.{none};
 ghost use Prim.Native.Nat.{_+_, _*_, _≤_};
 ghost use lib.ListN.{length, take};

@@ -8,7 +8,6 @@ use chain_pieces::NODE;
 use chain_pieces::PAIRING;
 use chain_pieces::TAKEN;
 use pair_ends::PAIRS;
-ghost use mathlib.Core.Bool.{true};
 ghost use mathlib.Core.List.{flatMap};
 ghost use Prim.Native.Nat.{_+_, _*_, _<_};
 ghost use lib.ListN.{drop};

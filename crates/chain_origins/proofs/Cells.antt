@@ -1,10 +1,10 @@
 -- CELLS FROM AN ORIGIN. From an origin of zero, of either sign, a cell is the floor of coordinate / tolerance (`from-zero`). A coordinate and an origin
 -- that are both moved by one distance leave the cell as it is (`moved-cell`): a difference is rounded by what it is, and at zero by its sign alone, which
 -- no cell shows.
-use Prim.Native.Nat.{ℕ, zero, suc, _+_, _-_, _*_, _≤_, _<_}
-use mathlib.Core.Path.{_≡_, refl, sym, ap, ap₂, _∙_, subst}
+use Prim.Native.Nat.{ℕ, zero, suc, _+_, _-_, _*_, _<_}
+use mathlib.Core.Path.{_≡_, refl, sym, ap, ap₂, _∙_}
 use mathlib.Core.Bool.{Bool, true, false, not, _&&_, cond, Bool·beq}
-use mathlib.Core.Logic.{_⊎_, inl, inr}
+use mathlib.Core.Logic.{inl, inr}
 use native.Mathlib.Omega.{arith}
 use native.Mathlib.Nat.{zero-mul, mul-one, mul-pos}
 use borrow.Author.Tests.{lt-ltb, le-ltb}
@@ -16,7 +16,6 @@ use lib.Ieee.Bits.{ofBits-fits}
 use lib.Ieee.Fits.{up-pos, down-pos, neg-fits}
 use lib.Ieee.Scale.{finite}
 use Rattle.rules.specs.Cell.{floor64, cell}
-use Rattle.float_order.proofs.Order.{plus, less}
 use Rattle.float_order.proofs.Mono.{Rounds}
 use Rattle.float_order.proofs.Near.{unit, unit-pos, over, under, counts, add-units}
 use Rattle.chain_origins.specs.Moved.{Place, Moved}

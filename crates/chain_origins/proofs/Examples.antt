@@ -1,13 +1,10 @@
 -- A line of a tile whose corner is 1024, 0, moved to the corner 0, 0: that what `moved-cell` asks for is met, and the cells, computed.
-use Prim.Native.Nat.{ℕ}
 use mathlib.Core.Path.{_≡_, refl}
-use mathlib.Core.List.{[]}
 use lib.IntN.{pos}
 use lib.Ieee.{binary64, ofBits, sub, div, fits}
 use Rattle.rules.specs.Cell.{cell, floor64}
 use Rattle.float_order.proofs.Near.{unit, over, under}
-use Rattle.chain_origins.specs.Moved.{Place, Moved}
-use Rattle.chain_origins.proofs.Cells.{moved-cell}
+use Rattle.chain_origins.specs.Moved.{Moved}
 
 -- 1025.5 from 1024, and 1.5 from 0
 pub example : Moved (ofBits binary64 0x4090_0600_0000_0000) (ofBits binary64 0x4090_0000_0000_0000) (ofBits binary64 0x3ff8_0000_0000_0000) (ofBits binary64 0)

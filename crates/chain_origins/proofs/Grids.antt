@@ -12,7 +12,7 @@ use Rattle.rules.specs.declared.Grid.the-variants.{Cells}
 use Rattle.rules.specs.declared.Settings.{Settings}
 use Rattle.rules.specs.Lists.{keep, upto}
 use Rattle.rules.specs.Cell.{floor64}
-use Rattle.rules.specs.Plane.{Point, Key, key, sameKey, float, cellKey, keyOf, nought}
+use Rattle.rules.specs.Plane.{Point, key, sameKey, float, cellKey, keyOf, nought}
 use Rattle.rules.specs.Walking.{walks}
 use Rattle.rules.specs.Chaining.{Piece, Rule, mate, pieceAt, run, keyAt, node, endAt, chosen, joined, partner, merged, passed, turned, merge, join, Line, pieces, limitOf, cellsOf, roundOne, roundTwo, chains}
 use Rattle.chain_origins.proofs.Zeros.{zeroOf}

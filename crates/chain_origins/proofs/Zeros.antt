@@ -1,5 +1,5 @@
 -- The two zeros: nothing, rounded, is a zero, and a zero by any tolerance is in cell 0.
-use Prim.Native.Nat.{ℕ, zero, suc, _-_, _*_, _/_, _%_, _^_, _<_, compare, Ordering, Ordering·lt, compare·zero-suc}
+use Prim.Native.Nat.{ℕ, zero, suc, _-_, _*_, _/_, _%_, _^_, _<_, compare, Ordering·lt, compare·zero-suc}
 use mathlib.Core.Path.{_≡_, refl, sym, ap, ap₂, _∙_, subst}
 use mathlib.Core.Bool.{Bool, true, false, cond}
 use native.Mathlib.Omega.{arith}

@@ -19,7 +19,7 @@ use Rattle.chain_laws.proofs.Records.{five-length, rows-length, row-at, field-a
 use Rattle.chain_laws.proofs.Counts.{Each, each-of, each-getD}
 use Rattle.chain_laws.proofs.Drawn.{Drawn, listing-long, marks-all, listings-long}
 use Rattle.point_numbers.proofs.Points.{flat-length}
-use Rattle.chain_pieces.specs.Held.{linesOf, marksOf, listingOf, placeOf, Own}
+use Rattle.chain_pieces.specs.Held.{linesOf, placeOf, Own}
 use Rattle.chain_pieces.specs.Compact.{Compact}
 use Rattle.chain_pieces.proofs.Reading.{five-own, five-copied, five-common, copied-yes, copy-all, part-front}
 

@@ -1,11 +1,10 @@
 -- Pieces that stand one after another are held: each record names its piece. Only the layout asks for more than that.
 use Prim.Native.Nat.{ℕ, _+_, _*_, _≤_, _<_}
 use mathlib.Core.Path.{_≡_, refl, sym, ap, _∙_}
-use mathlib.Core.List.{List, [], flatMap}
+use mathlib.Core.List.{List, []}
 use native.Mathlib.Omega.{arith}
-use native.Mathlib.Nat.{mul-le-mul-left, mul-suc}
 use lib.ListN.{length, getD, take, drop}
-use lib.Seq.{slice, take-take, drop-drop}
+use lib.Seq.{slice, take-take}
 use Rattle.rules.specs.Chaining.{Piece, nothing}
 use Rattle.rules.specs.Layout.{Lines, lent}
 use Rattle.rules.specs.Refusals.{pieceSize}

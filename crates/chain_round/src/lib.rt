@@ -9,7 +9,6 @@ use chain_walks::ENTRIES;
 use chain_walks::LENGTHS;
 use rules::Grid;
 use rules::Settings;
-ghost use mathlib.Core.List.{map};
 ghost use Prim.Native.Nat.{_*_};
 ghost use Rattle.rules.specs.declared.Settings.{Settings};
 ghost use Rattle.rules.specs.Chaining.{ruleOf, join};

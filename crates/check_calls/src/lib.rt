@@ -11,7 +11,7 @@ ghost use lib.Dec.{ltb};
 ghost use lib.ListN.{length};
 ghost use Rattle.rules.specs.Lists.{upto, anyOf};
 ghost use Rattle.rules.specs.Layout.{lent, linesIn};
-ghost use Rattle.rules.specs.Refusals.{mostLines, lineRoom, firstOf, lineTests, originBad};
+ghost use Rattle.rules.specs.Refusals.{lineRoom, firstOf, lineTests, originBad};
 ghost use Rattle.rules.specs.Check.{acceptable as acceptable-all, delivery, Checked};
 ghost use Rattle.check_chains.specs.Chains.{MarkRooms};
 ghost use Rattle.check_fits.specs.Fits.{Lined, LinesTabled};

@@ -2,7 +2,7 @@
 -- places, stands in a chain, whose points may be anything, exactly where its values do.
 use Prim.Native.Nat.{ℕ, zero, suc, _-_, _≤_}
 use mathlib.Core.Path.{_≡_, refl, sym, ap, ap₂, _∙_, subst}
-use mathlib.Core.Bool.{Bool, true, false, not, _&&_, cond, and-eq-true-iff}
+use mathlib.Core.Bool.{Bool, true, false, not, _&&_, and-eq-true-iff}
 use mathlib.Core.Logic.{_⊎_, inl, inr}
 use mathlib.Core.List.{List, [], _∷_, map, reverse}
 use mathlib.Core.Option.{none}
@@ -115,15 +115,6 @@ pub run-numbers : (e : Bool) (l : List Point) → Each Number l → Each Number 
 unfolding run
 run-numbers true l n = each-reverse Number l n
 run-numbers false l n = n
-
--- its values in a direction, and those laid
-unfoldable pub valueRun : Bool → List (ℕ × ℕ) → List (ℕ × ℕ)
-valueRun e v = cond e (reverse v) v
-
-pub run-values : (e : Bool) (l : List Point) → values (run e l) ≡ valueRun e (values l)
-unfolding run valueRun
-run-values true l = map-turned value l []
-run-values false l = refl
 
 pub laid-values : (e : Bool) (l : List Point) → Each Number l → values (laidRun e l) ≡ laid same none (values (run e l))
 unfolding laidRun

@@ -1,7 +1,6 @@
 -- The answers of the WKB calls are proper, and one call has one number at the door and leaves each lent slice in one way.
 use Prim.Native.Nat.{ℕ}
 use mathlib.Core.Path.{_≡_, sym, subst, _∙_}
-use mathlib.Core.Bool.{Bool}
 use mathlib.Core.List.{List}
 use lib.ListN.{length}
 use Rattle.rules.specs.declared.Answer.{Answer}

@@ -4,12 +4,11 @@ use mathlib.Core.Path.{_≡_, refl, sym, ap, _∙_, subst}
 use mathlib.Core.Bool.{Bool, true, false, not, _&&_, cond}
 use native.Mathlib.Nat.{le-trans}
 use native.Mathlib.Omega.{arith}
-use borrow.Author.Tests.{lt-ltb, le-ltb, ltb-false, ne-eqb}
+use borrow.Author.Tests.{lt-ltb, le-ltb, ltb-false}
 use lib.Dec.{T, ltb}
 use lib.Ieee.{Float, nan, binary64, div, size, round, ofBits, toBits, fits, isNan, le}
 use lib.Ieee.Fits.{and-i, round-fits}
 use lib.Ieee.Bits.{toBits-ofBits, is-true}
-use Rattle.rules.specs.declared.Answer.{Answer}
 use Rattle.rules.specs.declared.Answer.the-variants.{Accepted, Refused}
 use Rattle.rules.specs.Root.{digits, floorRoot}
 use Rattle.rules.specs.Plane.{unity, minus-unity}

@@ -217,9 +217,6 @@ rank-eq-is f x y p q i j = eq-is x y ∙ ap₂ _&&_ (rank-le-is f x y p q i j) (
 strictly : (f : Format) → ones f * hid f < top f
 strictly f = let c = mul-comm (hid f) (suc (ones f)) in let d = suc-mul (ones f) (hid f) in let e = pow-pos (prec f - 1) in omega arith
 
-pub rank-lt : (f : Format) (x : Float) → T (fits f x) → rank f x < 2 * top f
-rank-lt f x p = omega (arith, rank-le f x p, strictly f)
-
 pub rank-at-most : (f : Format) (x : Float) → T (fits f x) → rank f x ≤ top f + ones f * hid f
 rank-at-most f x p = rank-le f x p
 

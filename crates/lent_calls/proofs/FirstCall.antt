@@ -1,8 +1,7 @@
 -- From what round one leaves to the book's record of the first call.
 use Prim.Native.Nat.{ℕ, _*_, _≤_}
-use mathlib.Core.Path.{_≡_, refl, sym, ap, subst, _∙_}
-use mathlib.Core.List.{List, flatMap}
-use native.Mathlib.Omega.{arith}
+use mathlib.Core.Path.{_≡_, sym, ap, subst, _∙_}
+use mathlib.Core.List.{List}
 use lib.Ieee.{Float}
 use lib.ListN.{length}
 use Rattle.rules.specs.declared.Settings.{Settings}
@@ -14,7 +13,6 @@ use Rattle.rules.specs.Types.{widthOf}
 use Rattle.rules.specs.Refusals.{lineRoom}
 use Rattle.rules.specs.Calls.{written, cleared}
 use Rattle.rules.specs.Pieces.{LentPieces, leaving, exactly, leftOf, FirstRooms, firstRooms, firstRefusalOf, leftIn, FirstLeft}
-use Rattle.chain_pieces.specs.Held.{linesOf}
 use Rattle.build_lines.specs.Taken.{Adds, plainOf}
 use Rattle.build_chains.specs.Building.{Buildable, partFrom, Left}
 use Rattle.build_chains.proofs.Parts.{cleared-same}

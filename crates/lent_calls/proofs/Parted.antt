@@ -1,32 +1,30 @@
 -- ONE CALL IS TWO: what building answers, and what it writes, is what the first call and then the second answer and write, with the same switch and limit, for
 -- every tolerance and origin. It is true because what the first leaves passes 19 and stands for what round one left, and the second goes on from there.
-use Prim.Native.Nat.{ℕ, zero, suc, _+_, _*_, _≤_, _<_}
+use Prim.Native.Nat.{ℕ, zero, suc, _+_, _*_, _≤_}
 use mathlib.Core.Path.{_≡_, refl, sym, ap, ap₂, _∙_, subst}
-use mathlib.Core.Bool.{Bool, true, false, not, _||_, true≢false}
+use mathlib.Core.Bool.{Bool, true, false, _||_, true≢false}
 use mathlib.Core.List.{List, [], _∷_, _++_, flatMap}
 use native.Mathlib.Omega.{arith}
 use lib.Dec.{ltb}
-use lib.Ieee.{Float}
 use lib.ListN.{length, take, drop}
 use lib.Seq.{take-at}
 use borrow.Author.Tests.{le-ltb}
 use Rattle.rules.specs.declared.Settings.{Settings}
 use Rattle.rules.specs.declared.Answer.{Answer}
 use Rattle.rules.specs.declared.Answer.the-variants.{Accepted, Refused}
-use Rattle.rules.specs.Plane.{points, flat}
+use Rattle.rules.specs.Plane.{flat}
 use Rattle.rules.specs.Boxes.{boxRoom}
 use Rattle.rules.specs.Chaining.{Piece, pieces, limitOf, roundOne}
-use Rattle.rules.specs.Layout.{Lines, linesIn, copy, five, pieceTable, Laid, build}
+use Rattle.rules.specs.Layout.{Lines, linesIn, copy, five, pieceTable, Laid}
 use Rattle.rules.specs.Types.{widthOf}
 use Rattle.rules.specs.Refusals.{Rooms, firstOf, short, originBad, lineTests, settingTests, refusalOf, recordSize, pieceSize, lineRoom}
 use Rattle.rules.specs.Calls.{unless, answerOf, written, cleared, builtOf, filled, Built}
-use Rattle.rules.specs.Pieces.{LentPieces, lentBad, leaving, exactly, leftOf, finishedOf, FirstRooms, firstRefusalOf, leftIn, FirstLeft, FinishRooms, finishRefusalOf, finishedIn, Finished}
+use Rattle.rules.specs.Pieces.{LentPieces, lentBad, leaving, exactly, finishedOf, FirstRooms, firstRefusalOf, leftIn, FirstLeft, FinishRooms, finishRefusalOf, finishedIn, Finished}
 use Rattle.chain_laws.proofs.Records.{five-length, rows-length}
 use Rattle.point_numbers.proofs.Points.{flat-length}
 use Rattle.chain_pieces.specs.Held.{linesOf, marksOf, listingOf}
 use Rattle.chain_pieces.specs.Compact.{Compact}
 use Rattle.build_lines.specs.Taken.{Adds}
-use Rattle.lent_laws.specs.Passes.{Passes}
 use Rattle.lent_laws.proofs.Clauses.{passes}
 use Rattle.lent_laws.proofs.Round.{round-passes, round-finished}
 use Rattle.lent_refusals.specs.Admitted.{FirstAdmitted}

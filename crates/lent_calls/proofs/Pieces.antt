@@ -1,20 +1,20 @@
 -- Good pieces beside the lines that pass through: they have the plain lines, so that together there are as many members as lines; and their numbers are small.
-use Prim.Native.Nat.{ℕ, _+_, _*_, _≤_, _<_}
-use mathlib.Core.Path.{_≡_, sym, ap, _∙_}
-use mathlib.Core.Bool.{true, false}
-use mathlib.Core.List.{List, map, flatMap}
+use Prim.Native.Nat.{ℕ, _+_, _*_, _≤_}
+use mathlib.Core.Path.{_≡_, _∙_}
+use mathlib.Core.Bool.{true}
+use mathlib.Core.List.{List, map}
 use native.Mathlib.Omega.{arith}
 use native.Mathlib.Nat.{mul-le-mul-right}
 use lib.ListN.{length}
-use Rattle.rules.specs.Lists.{count, total}
+use Rattle.rules.specs.Lists.{total}
 use Rattle.rules.specs.Plane.{points}
 use Rattle.rules.specs.Chaining.{Piece, pieces}
 use Rattle.rules.specs.Layout.{Lines, linesIn}
 use Rattle.rules.specs.Refusals.{mostLines, mostPoints}
 use Rattle.rules.specs.Pieces.{plainLines}
-use Rattle.chain_laws.proofs.Counts.{Each, each-weak, zero-of}
+use Rattle.chain_laws.proofs.Counts.{zero-of}
 use Rattle.chain_laws.proofs.Drawn.{Low}
-use Rattle.chain_laws.proofs.Room.{size, full-long, lines-length}
+use Rattle.chain_laws.proofs.Room.{full-long, lines-length}
 use Rattle.chain_laws.proofs.Totals.{same-length}
 use Rattle.chain_pieces.specs.Held.{linesOf, Packed}
 use Rattle.chain_keys.specs.Tells.{OneGroup}

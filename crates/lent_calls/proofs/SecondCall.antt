@@ -11,10 +11,10 @@ use Rattle.rules.specs.declared.Answer.{Answer}
 use Rattle.rules.specs.declared.Answer.the-variants.{Accepted, Refused}
 use Rattle.rules.specs.Plane.{flat}
 use Rattle.rules.specs.Boxes.{stacked, boxNumbers}
-use Rattle.rules.specs.Chaining.{Piece, pieces, roundTwo}
+use Rattle.rules.specs.Chaining.{Piece, roundTwo}
 use Rattle.rules.specs.Layout.{Lines, linesIn, copy, Laid, laidOut}
 use Rattle.rules.specs.Types.{widthOf}
-use Rattle.rules.specs.Refusals.{mostLines, lineRoom}
+use Rattle.rules.specs.Refusals.{lineRoom}
 use Rattle.rules.specs.Calls.{written, cleared}
 use Rattle.rules.specs.Pieces.{LentPieces, stoodFor, finishedOf, FinishRooms, finishRooms, finishRefusalOf, finishedIn, Finished}
 use Rattle.chain_laws.proofs.Totals.{same-length}

@@ -7,7 +7,7 @@ use mathlib.Core.List.{List, map, flatMap}
 use native.Mathlib.Decide.{ℕ-discrete}
 use native.Mathlib.Omega.{arith}
 use native.Mathlib.Numerals.{add-one}
-use lib.ListN.{length, getD, replicate, length-replicate, getD-replicate}
+use lib.ListN.{length, replicate, length-replicate, getD-replicate}
 use Rattle.rules.specs.Lists.{one, count, upto, total}
 use Rattle.rules.specs.Layout.{Lines}
 use Rattle.rules.specs.Refusals.{mostLines, pieceSize}
@@ -15,7 +15,6 @@ use Rattle.rules.specs.Pieces.{LentPieces, plainLines, pointCount, membersAt, l
 use Rattle.chain_laws.proofs.Counts.{pos-of}
 use Rattle.build_lines.specs.Taken.{Adds}
 use Rattle.build_lines.proofs.Passing.{plainAt}
-use Rattle.lent_laws.specs.Passes.{PieceFine, Passes}
 use Rattle.lent_laws.proofs.Tests.{flat-none, sum-suc, sum-none, sum-part}
 use Rattle.lent_laws.proofs.Plain.{plain-low, plain-once, plain-is}
 use Rattle.lent_laws.proofs.Clauses.{passes, refused}

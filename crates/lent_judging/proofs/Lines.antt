@@ -1,7 +1,7 @@
 -- A piece of more lines: its members are noted and then its listing. Where each number of the listing was a member not yet listed, and there are as many, the
 -- two have the same lines.
-use Prim.Native.Nat.{ℕ, _+_, _*_, _≤_, _<_}
-use mathlib.Core.Path.{_≡_, sym, _∙_}
+use Prim.Native.Nat.{ℕ, _≤_, _<_}
+use mathlib.Core.Path.{_≡_, sym}
 use mathlib.Core.Bool.{Bool, true, false, not, true≢false}
 use mathlib.Core.List.{List}
 use native.Mathlib.Decide.{ℕ-discrete}
@@ -9,7 +9,6 @@ use native.Mathlib.Omega.{arith}
 use lib.ListN.{length, getD}
 use borrow.Author.Tests.{not-true, not-false}
 use Rattle.rules.specs.Lists.{count}
-use Rattle.rules.specs.Refusals.{mostLines}
 use Rattle.chain_laws.proofs.Counts.{count-at, pos-of}
 use Rattle.lent_noting.specs.Noting.{Fit, Risen, MembersNoted, Awaited, ListingNoted}
 use Rattle.lent_judging.specs.Judging.{LinesLent, LinesFit, LinesJudged}

@@ -1,10 +1,10 @@
 -- One piece judged beside those before it. What is found of its lines is what 19 asks of them: each is plain, and no piece before has it, since the lines that
 -- those have are marked. So a piece that is refused can't pass, and one that isn't is counted with those before.
 use Prim.Native.Nat.{ℕ, zero, suc, _+_, _*_, _-_, _≤_, _<_}
-use mathlib.Core.Path.{_≡_, refl, sym, ap, ap₂, _∙_, subst}
+use mathlib.Core.Path.{_≡_, refl, sym, ap, _∙_, subst}
 use mathlib.Core.Logic.{_≢_}
 use mathlib.Core.Bool.{Bool, true, false, true≢false}
-use mathlib.Core.List.{[], List, _∷_, map, flatMap}
+use mathlib.Core.List.{[], List, _∷_, flatMap}
 use native.Mathlib.Decide.{ℕ-discrete}
 use native.Mathlib.Omega.{arith}
 use native.Mathlib.Numerals.{add-one}
@@ -12,13 +12,13 @@ use native.Mathlib.Nat.{add-mul}
 use lib.Dec.{eqb, ltb}
 use lib.ListN.{length, getD, set, take, drop, length-drop, length-set}
 use lib.Seq.{drop-cons, getD-set-same, getD-set-other}
-use borrow.Author.Tests.{eqb-true, eq-eqb, ne-eqb, le-ltb, ltb-false}
+use borrow.Author.Tests.{eq-eqb, ne-eqb, le-ltb, ltb-false}
 use Rattle.rules.specs.Lists.{one, count, upto, total}
 use Rattle.rules.specs.Plane.{points}
 use Rattle.rules.specs.Layout.{Lines}
-use Rattle.rules.specs.Refusals.{anyAbove, anyNowhere, sourceOf, mostLines, pieceSize}
-use Rattle.rules.specs.Pieces.{LentPieces, plainLines, firstMember, memberCount, source, firstPoint, pointCount, partOf, membersAt, marksAt, listingAt, named, numbersAt, leader}
-use Rattle.chain_laws.proofs.Counts.{one-same, one-other, pos-of, zero-of, count-at}
+use Rattle.rules.specs.Refusals.{anyAbove, anyNowhere, sourceOf, mostLines}
+use Rattle.rules.specs.Pieces.{LentPieces, plainLines, firstMember, memberCount, source, firstPoint, pointCount, partOf, membersAt, marksAt, listingAt, numbersAt, leader}
+use Rattle.chain_laws.proofs.Counts.{one-same, one-other, pos-of}
 use Rattle.point_numbers.proofs.Points.{points-drop, points-take, points-wide}
 use Rattle.build_lines.specs.Taken.{Adds}
 use Rattle.build_lines.proofs.Passing.{plainAt}
@@ -27,8 +27,7 @@ use Rattle.lent_laws.proofs.Tests.{flat-suc, flat-part}
 use Rattle.lent_laws.proofs.Plain.{plain-low, plain-once, plain-is}
 use Rattle.lent_laws.proofs.Places.{Place, all-places, places-none, each-take, each-drop}
 use Rattle.lent_laws.proofs.Fitting.{part-length}
-use Rattle.lent_noting.specs.Noting.{Fit}
-use Rattle.lent_judging.specs.Judging.{LinesSized, Framed, FrameJudged, OneFit, OneJudged, Even, LinesLent, LinesFit, LinesJudged, pointsBad, PointsCounted, Judgeable, PieceJudged}
+use Rattle.lent_judging.specs.Judging.{Framed, FrameJudged, OneFit, OneJudged, LinesLent, LinesFit, LinesJudged, pointsBad, PointsCounted, Judgeable, PieceJudged}
 
 -- ---- numbers
 

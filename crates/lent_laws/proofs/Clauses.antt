@@ -1,19 +1,18 @@
 -- Refusal 19 by its clauses: where none holds the facts of `Passes` do, and where these do nothing is refused. So what one of them contradicts is refused.
-use Prim.Native.Nat.{ℕ, _+_, _*_, _≤_, _<_}
-use mathlib.Core.Path.{_≡_, refl, sym, ap, _∙_}
+use Prim.Native.Nat.{ℕ, _+_, _*_}
+use mathlib.Core.Path.{_≡_, refl, sym, ap}
 use mathlib.Core.Logic.{_≢_}
 use mathlib.Core.Bool.{Bool, true, false, not, _&&_, _||_, true≢false}
-use mathlib.Core.List.{List, map, flatMap}
+use mathlib.Core.List.{flatMap}
 use native.Mathlib.Decide.{ℕ-discrete}
 use native.Mathlib.Omega.{arith}
 use lib.Dec.{eqb, ltb}
-use lib.ListN.{length, getD, take}
-use borrow.Author.Tests.{lt-ltb, le-ltb, eq-eqb, ne-eqb, eqb-true, eqb-false, not-false, ltb-false}
+use lib.ListN.{getD, take}
+use borrow.Author.Tests.{le-ltb, eq-eqb, ne-eqb, eqb-true, eqb-false, not-false, ltb-false}
 use Rattle.rules.specs.Lists.{count, upto, total, anyOf}
-use Rattle.rules.specs.Plane.{points}
 use Rattle.rules.specs.Layout.{Lines}
-use Rattle.rules.specs.Refusals.{short, anyAbove, anyNowhere, pieceSize}
-use Rattle.rules.specs.Pieces.{LentPieces, plainLines, firstMember, memberCount, source, firstPoint, pointCount, membersAt, marksAt, listingAt, named, numbersAt, leader, membersWrong, listingWrong, namesDiffer, noLine, noPoint, mixesGroups, membersLeave, pointsLeave, notFinite, ownPlace, notOwn, tooMany, markAbove, frameBad, contentBad, pieceBad, lentBad}
+use Rattle.rules.specs.Refusals.{short, pieceSize}
+use Rattle.rules.specs.Pieces.{LentPieces, plainLines, firstMember, memberCount, source, firstPoint, pointCount, membersAt, listingAt, leader, membersWrong, listingWrong, namesDiffer, noLine, noPoint, mixesGroups, membersLeave, pointsLeave, notFinite, ownPlace, notOwn, tooMany, markAbove, frameBad, contentBad, pieceBad, lentBad}
 use Rattle.chain_laws.proofs.Counts.{upto-in, upto-out, pos-of}
 use Rattle.lent_laws.specs.Passes.{OwnPlace, FrameFine, PieceFine, Passes}
 use Rattle.lent_laws.proofs.Tests.{or-none, or-off, any-none, any-off, differ-none, differ-off}

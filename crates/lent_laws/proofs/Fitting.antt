@@ -1,22 +1,21 @@
 -- What passes 19 stands for good pieces: each has lines of one group, a mark for each, the same lines in its listing, coordinates that are places, and a
 -- line's own where it has one line. This is what a round asks of its pieces, whoever made them.
 use Prim.Native.Nat.{ℕ, zero, suc, _+_, _*_, _≤_, _<_}
-use mathlib.Core.Path.{_≡_, refl, sym, ap, ap₂, _∙_, subst}
+use mathlib.Core.Path.{_≡_, refl, sym, ap, ap₂, _∙_}
 use mathlib.Core.Bool.{Bool, true, false, true≢false}
 use mathlib.Core.List.{[], List, _∷_, _++_, map, flatMap}
-use native.Mathlib.Decide.{ℕ-discrete}
 use native.Mathlib.Omega.{arith}
 use native.Mathlib.Nat.{add-mul}
 use lib.Dec.{ltb}
 use lib.ListN.{length, getD, take, drop, length-append, length-drop}
 use lib.Seq.{length-take-le}
-use borrow.Author.Tests.{ltb-false, lt-ltb}
+use borrow.Author.Tests.{ltb-false}
 use Rattle.rules.specs.Lists.{count, from, upto, total}
 use Rattle.rules.specs.Plane.{points}
 use Rattle.rules.specs.Chaining.{Piece, alone}
 use Rattle.rules.specs.Layout.{Lines, linesIn}
 use Rattle.rules.specs.Refusals.{anyAbove, anyNowhere, sourceOf}
-use Rattle.rules.specs.Pieces.{LentPieces, plainLines, firstMember, memberCount, source, firstPoint, pointCount, partOf, membersAt, marksAt, listingAt, named, numbersAt, leader, standing, stoodFor}
+use Rattle.rules.specs.Pieces.{LentPieces, firstMember, memberCount, firstPoint, pointCount, partOf, membersAt, marksAt, named, numbersAt, leader, standing, stoodFor}
 use Rattle.chain_laws.proofs.Counts.{Each, nil, cons, count-at, pigeon}
 use Rattle.chain_laws.proofs.Drawn.{Drawn}
 use Rattle.chain_laws.proofs.Room.{size}
@@ -26,9 +25,9 @@ use Rattle.point_numbers.proofs.Points.{points-exact, reads-length, points-wide
 use Rattle.build_lines.specs.Taken.{Adds}
 use Rattle.build_lines.proofs.Passing.{points-at}
 use Rattle.build_lines.proofs.Own.{alone-own, alone-wide}
-use Rattle.lent_laws.specs.Passes.{OwnPlace, FrameFine, PieceFine, Passes}
+use Rattle.lent_laws.specs.Passes.{PieceFine, Passes}
 use Rattle.lent_laws.specs.Good.{Good}
-use Rattle.lent_laws.proofs.Tests.{flat-within, sum-part}
+use Rattle.lent_laws.proofs.Tests.{flat-within}
 use Rattle.lent_laws.proofs.Plain.{plain-low, plain-once, group-at}
 
 -- ---- lists

@@ -8,12 +8,12 @@ use native.Mathlib.Nat.{add-zero}
 use lib.ListN.{length, getD, take, drop}
 use lib.Seq.{take-suc, take-length}
 use borrow.Author.Tests.{le-ltb}
-use Rattle.rules.specs.Lists.{count, from, upto, total}
+use Rattle.rules.specs.Lists.{count, upto, total}
 use Rattle.rules.specs.Plane.{Point, flat, points}
 use Rattle.rules.specs.Chaining.{Piece, nothing, alone}
 use Rattle.rules.specs.Layout.{Lines, lines, linesIn}
 use Rattle.rules.specs.Refusals.{anyAbove, anyNowhere}
-use Rattle.rules.specs.Pieces.{LentPieces, plainLines, pointCount, membersAt, marksAt, listingAt, numbersAt, leader, standing, stoodFor, lentBad}
+use Rattle.rules.specs.Pieces.{LentPieces, plainLines, pointCount, membersAt, listingAt, numbersAt, leader, standing, stoodFor}
 use Rattle.chain_laws.proofs.Counts.{Each, nil, cons, each-getD, each-weak, count-append, count-at, pigeon}
 use Rattle.chain_laws.proofs.Drawn.{Drawn}
 use Rattle.chain_laws.proofs.Lines.{flatMap-append, made-all}
@@ -28,9 +28,9 @@ use Rattle.chain_pieces.proofs.Compact.{records-inside, count-is, points-is, me
 use Rattle.build_lines.specs.Taken.{Adds}
 use Rattle.build_lines.proofs.Passing.{points-at}
 use Rattle.build_lines.proofs.Own.{alone-own}
-use Rattle.lent_laws.specs.Passes.{OwnPlace, FrameFine, PieceFine, Passes}
+use Rattle.lent_laws.specs.Passes.{FrameFine, PieceFine, Passes}
 use Rattle.lent_laws.specs.Good.{Good}
-use Rattle.lent_laws.proofs.Tests.{upto-suc, flat-suc, flat-none, sum-suc, sum-none}
+use Rattle.lent_laws.proofs.Tests.{flat-suc, flat-none, sum-suc, sum-none}
 use Rattle.lent_laws.proofs.Plain.{plain-low, plain-once, group-at}
 
 -- ---- lists

@@ -1,9 +1,9 @@
 -- Points through a round: joining drops points and makes none, so that what holds of each point that goes in holds of each that comes out; and a piece of
 -- pieces that have points has one.
-use Prim.Native.Nat.{ℕ, zero, suc, _+_, _≤_, _<_}
-use mathlib.Core.Path.{_≡_, refl, sym, ap, subst, _∙_}
+use Prim.Native.Nat.{ℕ, zero, suc, _<_}
+use mathlib.Core.Path.{_≡_, refl, sym, subst, _∙_}
 use mathlib.Core.Bool.{Bool, true, false, cond, true≢false}
-use mathlib.Core.List.{[], List, _∷_, _++_, map, flatMap, reverse, reverseAux}
+use mathlib.Core.List.{[], List, _∷_, map, flatMap, reverse, reverseAux}
 use mathlib.Core.Option.{Option, none, some}
 use native.Mathlib.Omega.{arith}
 use lib.Dec.{eqb}

@@ -1,5 +1,5 @@
 -- The lines that don't pass through: each stands once among them, and no other number does. By its kind and its coordinate count a line is one of them or not.
-use Prim.Native.Nat.{ℕ, zero, suc, _+_, _*_, _≤_, _<_}
+use Prim.Native.Nat.{ℕ, zero, suc, _+_, _≤_, _<_}
 use mathlib.Core.Path.{_≡_, refl, sym, ap, _∙_}
 use mathlib.Core.Bool.{Bool, true, false, Bool·beq}
 use mathlib.Core.List.{[], List, _∷_, flatMap}
@@ -11,7 +11,7 @@ use lib.Seq.{getD-drop}
 use borrow.Author.Tests.{ltb-true, ltb-false}
 use Rattle.rules.specs.Lists.{one, count}
 use Rattle.rules.specs.Plane.{Point, points}
-use Rattle.rules.specs.Chaining.{Piece, Line, plain, alone, pieces}
+use Rattle.rules.specs.Chaining.{Line, plain, alone, pieces}
 use Rattle.rules.specs.Layout.{Lines, lines, linesIn}
 use Rattle.rules.specs.Pieces.{plainLines}
 use Rattle.chain_laws.proofs.Counts.{one-le, one-same, one-other}

@@ -8,7 +8,7 @@ use native.Mathlib.Nat.{zero-add}
 use native.Mathlib.Decide.{ℕ-discrete}
 use lib.Dec.{eqb}
 use borrow.Author.Tests.{eq-eqb, ne-eqb}
-use Rattle.rules.specs.Lists.{one, count, from, upto, total, anyOf}
+use Rattle.rules.specs.Lists.{count, from, upto, total, anyOf}
 use Rattle.rules.specs.Pieces.{differ}
 use Rattle.chain_laws.proofs.Counts.{one-le, one-same, one-other, count-append, pos-of}
 use Rattle.chain_laws.proofs.Lines.{flatMap-append}

@@ -3,7 +3,7 @@ use Prim.Native.Nat.{ℕ, _+_, _*_, _≤_, _<_}
 use mathlib.Core.Path.{_≡_}
 use mathlib.Core.Logic.{_≢_}
 use mathlib.Core.Bool.{false}
-use mathlib.Core.List.{List, map, flatMap}
+use mathlib.Core.List.{map, flatMap}
 use lib.ListN.{length, getD, take}
 use Rattle.rules.specs.Lists.{count, upto, total}
 use Rattle.rules.specs.Plane.{points}

@@ -1,7 +1,7 @@
 -- The refusals of the two calls in their order, and what a call has that none meets.
 use Prim.Native.Nat.{ℕ, _*_, _≤_, _<_}
-use mathlib.Core.Path.{_≡_, refl, sym, ap, ap₂, subst, _∙_}
-use mathlib.Core.Bool.{Bool, true, false, _||_}
+use mathlib.Core.Path.{_≡_, refl, sym, ap₂, subst, _∙_}
+use mathlib.Core.Bool.{Bool, true, false}
 use mathlib.Core.List.{List, [], _∷_, _++_}
 use native.Mathlib.Omega.{arith}
 use native.Mathlib.Nat.{mul-le-mul-left}
@@ -13,11 +13,11 @@ use Rattle.rules.specs.declared.Settings.{Settings}
 use Rattle.rules.specs.Boxes.{boxRoom}
 use Rattle.rules.specs.Layout.{Lines}
 use Rattle.rules.specs.Types.{widthOf}
-use Rattle.rules.specs.Refusals.{originBad, firstOf, lineTests, mostLines, pieceSize, recordSize, lineRoom}
+use Rattle.rules.specs.Refusals.{originBad, firstOf, lineTests, pieceSize, recordSize, lineRoom}
 use Rattle.rules.specs.Pieces.{LentPieces, lentBad, FirstRooms, firstRefusalOf, FinishRooms, finishRefusalOf}
 use Rattle.build_refusals.specs.Tests.{switchBad}
 use Rattle.build_refusals.specs.Admitted.{LinesAdmitted}
-use Rattle.build_refusals.proofs.Laws.{Left, Numbered, lines-numbered, parted, climbed, rung, off, or-off, lines-admitted}
+use Rattle.build_refusals.proofs.Laws.{Left, Numbered, lines-numbered, parted, off, or-off, lines-admitted}
 use Rattle.lent_laws.proofs.Clauses.{passed}
 use Rattle.lent_judging.specs.Judging.{LinesSized}
 use Rattle.lent_refusals.specs.Tests.{callTests, roomsShort, restShort}

@@ -1,16 +1,16 @@
 -- What leaving the pieces asks of the words that are copied, and that the copies are the book's.
-use Prim.Native.Nat.{ℕ, _+_, _*_, _^_, _≤_, _<_}
-use mathlib.Core.Path.{_≡_, refl, sym, ap, _∙_}
+use Prim.Native.Nat.{ℕ, _+_, _*_, _^_, _≤_}
+use mathlib.Core.Path.{_≡_, ap, _∙_}
 use mathlib.Core.List.{List, _++_}
 use native.Mathlib.Omega.{arith}
 use native.Mathlib.Nat.{zero-add}
-use lib.ListN.{length, getD, drop}
+use lib.ListN.{drop}
 use lib.Seq.{slice}
 use Rattle.rules.specs.Refusals.{pieceSize}
 use Rattle.rules.specs.Calls.{written}
 use Rattle.chain_pieces.specs.Map.{listingBlock, markBlock, memberBlock}
 use Rattle.point_slices.specs.Holds.{HoldsFrom}
-use Rattle.build_layout.specs.Laying.{Narrow, SmallPieces}
+use Rattle.build_layout.specs.Laying.{Narrow}
 use Rattle.build_layout.proofs.Numbers.{records-are, members-are, marks-are, listing-is, records-small, members-small, marks-small, listing-small, records-in, members-in, marks-in, listing-in}
 use Rattle.lent_taking.specs.Leaving.{Leavable, PiecesLeft}
 

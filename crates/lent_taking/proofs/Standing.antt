@@ -6,24 +6,22 @@ use mathlib.Core.List.{[], List, _∷_, _++_, map, flatMap}
 use native.Mathlib.Omega.{arith}
 use lib.ListN.{length, getD, take, drop}
 use lib.Seq.{slice, getD-take, getD-drop}
-use Rattle.rules.specs.Lists.{count, upto, total}
-use Rattle.rules.specs.Plane.{points, flat}
+use Rattle.rules.specs.Lists.{count, upto}
+use Rattle.rules.specs.Plane.{points}
 use Rattle.rules.specs.Chaining.{Piece, nothing}
 use Rattle.rules.specs.Layout.{Lines, lent, linesIn}
 use Rattle.rules.specs.Refusals.{mostLines, pieceSize, sourceOf}
-use Rattle.rules.specs.Pieces.{LentPieces, plainLines, firstMember, memberCount, source, firstPoint, pointCount, partOf, membersAt, marksAt, listingAt, named, numbersAt, standing, stoodFor}
-use Rattle.chain_laws.proofs.Counts.{Each, each-getD, upto-length}
-use Rattle.chain_laws.proofs.Drawn.{Drawn}
+use Rattle.rules.specs.Pieces.{LentPieces, memberCount, pointCount, partOf, named, numbersAt, standing, stoodFor}
+use Rattle.chain_laws.proofs.Counts.{each-getD, upto-length}
 use Rattle.chain_laws.proofs.Sound.{Sound}
-use Rattle.chain_laws.proofs.Totals.{same-length as same-many}
 use Rattle.point_numbers.specs.Width.{AllWide}
 use Rattle.point_numbers.proofs.Points.{points-back}
 use Rattle.point_slices.proofs.Laws.{slice-part}
-use Rattle.chain_pieces.specs.Held.{linesOf, Own, blockPieces, PieceStands, Held}
+use Rattle.chain_pieces.specs.Held.{linesOf, blockPieces, PieceStands, Held}
 use Rattle.chain_pieces.specs.Map.{joinBlock, listingBlock, markBlock, memberBlock, nodeBlock, takenBlock, takenListing, takenMarks, takenMembers}
 use Rattle.chain_pieces.proofs.Reading.{blockAt, block-part, getD-part, part-part}
 use Rattle.build_lines.specs.Taken.{Adds}
-use Rattle.lent_laws.specs.Passes.{OwnPlace, FrameFine, PieceFine, Passes}
+use Rattle.lent_laws.specs.Passes.{Passes}
 use Rattle.lent_laws.specs.Good.{Good}
 use Rattle.lent_laws.proofs.Fitting.{members-long, numbers-long, points-long, stood-good, stood-few}
 use Rattle.lent_laws.proofs.Passing.{good-own, good-lines}
@@ -120,9 +118,6 @@ module _ (w : ℕ) (l : Lines) (adds : Adds w (l .counts) (l .coordinates)) (p :
 
       first : getD b₀ (q * pieceSize) 0 ≡ length (partsTo (p .records) (p .members) q)
       first = let e : q * pieceSize ≡ q * pieceSize + 0 = omega arith in ap (λ (i : ℕ). getD b₀ i 0) e ∙ word 0 (omega arith)
-
-      abbrev count-of : ℕ
-      count-of = memberCount w l p q
 
       count-is : getD b₀ (q * pieceSize + 1) 0 ≡ memberCount w l p q
       count-is = word 1 (omega arith)

@@ -6,11 +6,11 @@ use native.Mathlib.Omega.{arith}
 use lib.ListN.{length, getD, take, drop, length-append, length-drop}
 use lib.Seq.{slice, slice-empty, length-take-le}
 use Rattle.rules.specs.Lists.{upto}
-use Rattle.rules.specs.Refusals.{mostLines, pieceSize}
+use Rattle.rules.specs.Refusals.{pieceSize}
 use Rattle.chain_pieces.specs.Map.{nodeBlock, takenBlock, takenListing, takenMarks, takenMembers}
 use Rattle.point_slices.specs.Holds.{HoldsFrom}
 use Rattle.point_slices.proofs.Laws.{from-length, slice-below, slice-beyond, slice-more, drop-past}
-use Rattle.lent_taking.specs.Taking.{partAt, partsTo, takenRow, Inside, PiecesTakable, Took, PieceTakable, PieceTook}
+use Rattle.lent_taking.specs.Taking.{partAt, partsTo, takenRow, PiecesTakable, Took, PieceTakable, PieceTook}
 use Rattle.lent_taking.proofs.Parts.{flat-next, flat-start, part-fits}
 
 empty : (a : ℕ) (w : List ℕ) → slice a (a + 0) w ≡ []

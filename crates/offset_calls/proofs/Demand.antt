@@ -4,9 +4,7 @@ use mathlib.Core.Path.{_≡_, refl, sym, ap, _∙_}
 use mathlib.Core.Bool.{Bool, true}
 use mathlib.Core.List.{List}
 use native.Mathlib.Omega.{arith}
-use native.Mathlib.Nat.{le-trans}
 use borrow.Author.Tests.{ltb-false}
-use lib.Dec.{ltb}
 use lib.ListN.{length}
 use lib.Ieee.{Float, le}
 use lib.Ieee.Bits.{is-true}
@@ -19,7 +17,6 @@ use Rattle.float_offset.proofs.Limits.{limit-bad, limit-for-grows}
 use Rattle.pair_laws.specs.Demand.{Begins}
 use Rattle.pair_laws.proofs.Refusals.{admitted}
 use Rattle.pair_laws.proofs.Calls.{demand-three}
-use Rattle.offset_calls.specs.Renumbered.{renumber}
 use Rattle.offset_calls.proofs.Numbers.{accepted-before}
 use Rattle.offset_calls.proofs.Ladders.{pair-renumbered}
 use Rattle.offset_calls.proofs.Calls.{paired-limited}

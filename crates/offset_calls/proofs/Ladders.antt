@@ -1,6 +1,6 @@
 -- The refusals of a call with an offset, which the book lists in their order, are those of the call with the offset's limit, renumbered; and up to 1,000
 -- they are the same.
-use Prim.Native.Nat.{ℕ, _≤_, _<_}
+use Prim.Native.Nat.{ℕ, _≤_}
 use mathlib.Core.Path.{_≡_, refl, sym, ap, _∙_}
 use mathlib.Core.Bool.{Bool, true, false, _&&_, _||_, true≢false}
 use mathlib.Core.List.{List, [], _∷_, _++_}

@@ -1,7 +1,6 @@
 -- A search that passes over a node whose bound is at or above the best so far finds the least of the best and of all the leaves: what it
 -- passes over is not below the best. And a place is in order as its key and then its index.
 use mathlib.Core.Path.{_≡_, refl}
-use mathlib.Core.Bool.{not}
 use Prim.Native.Nat.{ℕ, zero, suc, _+_, _*_, _-_, _^_, _≤_, _<_, min}
 use native.Mathlib.Nat.{lt-irrefl}
 use native.Mathlib.Omega.{arith}

@@ -1,12 +1,12 @@
 -- A call that isn't refused leaves in its workspace what the routes ask for.
-use Prim.Native.Nat.{ℕ, _+_, _*_, _≤_, _<_}
+use Prim.Native.Nat.{ℕ, _<_}
 use mathlib.Core.Path.{_≡_, refl, sym, _∙_, ap, subst}
 use mathlib.Core.Bool.{Bool, true, false, _&&_}
-use mathlib.Core.Logic.{_⊎_, inl, inr, ⊎-elim}
+use mathlib.Core.Logic.{_⊎_, ⊎-elim}
 use mathlib.Core.List.{List}
 use native.Mathlib.Omega.{arith}
 use lib.Dec.{T, eqb, ltb}
-use lib.Ieee.{Float, nan}
+use lib.Ieee.{Float}
 use lib.Ieee.Scale.{finite}
 use lib.ListN.{length, getD, List·getD-eq-default}
 use borrow.Author.Tests.{eqb-true, ltb-true, ltb-false}
@@ -20,7 +20,6 @@ use Rattle.pair_laws.specs.Owners.{AtMostTwice}
 use Rattle.pair_laws.proofs.Order.{two, tf}
 use Rattle.pair_laws.proofs.Ends.{ends-length, ends-at}
 use Rattle.pair_laws.proofs.Refusals.{admitted, at-most-twice, all-finite}
-use Rattle.pair_ends.specs.Ends.{endsIn}
 use Rattle.pair_index.specs.Index.{Finite}
 use Rattle.pair_lending.specs.Lent.{Put}
 use Rattle.pair_lending.proofs.Answers.{matched, put-room}

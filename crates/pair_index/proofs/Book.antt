@@ -1,7 +1,7 @@
 -- The search compares keys, and the book measures: where the ends are named by their places, an end's first pair by keys is its first pair in the book, since the
 -- same pairs qualify in both, and measures that are numbers are in the order of their keys.
-use Prim.Native.Nat.{ℕ, _<_}
-use mathlib.Core.Path.{_≡_, sym, _∙_, ap, subst}
+use Prim.Native.Nat.{ℕ}
+use mathlib.Core.Path.{_≡_, sym, _∙_, subst}
 use mathlib.Core.Bool.{Bool, false}
 use mathlib.Core.List.{List, map}
 use lib.Ieee.{Float}
@@ -15,7 +15,7 @@ use Rattle.pair_laws.proofs.Qualifying.{qualifying-measured}
 use Rattle.pair_laws.proofs.Keyed.{before-keyed}
 use Rattle.pair_laws.proofs.Bridge.{candidate, candidate-qualifies}
 use Rattle.pair_index.specs.declared.Best.{Best}
-use Rattle.pair_index.specs.Index.{pairOf, FreeOf, FirstPair, RankedFirst, KeyOf}
+use Rattle.pair_index.specs.Index.{pairOf, FirstPair, RankedFirst, KeyOf}
 
 module _ {limit : Float} {k : ℕ} (y : KeyOf limit k) {l : List End} (placed : ByPlace l) where
   -- a qualifying pair is a candidate, by its key, and each candidate is one

@@ -2,7 +2,7 @@
 -- first index is at most each end's, since a union holds what either box holds; so its low key is at most the key of each pair (`key-bound`).
 -- And the first index is that of an end below the node, so that the first pair below is at or before the pair with that end.
 use Prim.Native.Nat.{ℕ, zero, suc, _+_, _*_, _≤_, _<_, min}
-use mathlib.Core.Path.{_≡_, refl, sym, ap, _∙_, subst}
+use mathlib.Core.Path.{_≡_, sym, ap, _∙_, subst}
 use mathlib.Core.Bool.{Bool, true, false, cond}
 use mathlib.Core.Logic.{_⊎_, inl, inr, ⊎-elim}
 use native.Mathlib.Nat.{le-trans, le-of-eq}
@@ -16,14 +16,14 @@ use Rattle.rules.specs.declared.Direction.the-variants.{Toward}
 use Rattle.rules.specs.Plane.{measure}
 use Rattle.float_order.specs.Key.{key, low-key}
 use Rattle.pair_bounds.specs.declared.Bounds.{Bounds}
-use Rattle.pair_bounds.specs.Box.{empty-of, point-of, union-of, round-way, lower-of, Sound, BoxHolds}
+use Rattle.pair_bounds.specs.Box.{round-way, lower-of, Sound, BoxHolds}
 use Rattle.pair_bounds.specs.Search.{place, least, Bounded}
 use Rattle.pair_bounds.proofs.Bound.{low-key-lower, key-bound}
 use Rattle.pair_bounds.proofs.Union.{empty-sound, point-sound, point-holds, union-sound, union-left, union-right}
 use Rattle.pair_laws.specs.Ends.{keyOf}
 use Rattle.pair_tree.specs.Places.{gone, none}
 use Rattle.pair_tree.proofs.Flat.{below-or}
-use Rattle.pair_index.specs.Search.{Seat, Built, bound-of, pair-at, leaf-at, least-of}
+use Rattle.pair_index.specs.Search.{Seat, Built, bound-of, pair-at, leaf-at}
 
 -- ---- places
 

@@ -8,7 +8,7 @@ use native.Mathlib.Omega.{arith}
 use lib.Dec.{leb}
 use borrow.Author.Tests.{leb-true, eqb-false, not-true}
 use Rattle.rules.specs.Selecting.{End}
-use Rattle.pair_bounds.specs.Search.{place, least}
+use Rattle.pair_bounds.specs.Search.{place}
 use Rattle.pair_laws.specs.Ranked.{RankedPair, candidates, busy, before, qualifies}
 use Rattle.pair_laws.specs.Sets.{In, EndOf}
 use Rattle.pair_laws.specs.Ends.{endAt, there, keyOf, nodeOf}

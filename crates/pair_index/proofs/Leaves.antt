@@ -13,7 +13,6 @@ use Rattle.rules.specs.declared.Direction.the-variants.{Absent, Toward}
 use Rattle.rules.specs.Selecting.{End}
 use Rattle.pair_bounds.specs.Box.{empty-of}
 use Rattle.pair_bounds.specs.Search.{least}
-use Rattle.pair_laws.specs.Sets.{In}
 use Rattle.pair_laws.specs.Ends.{endAt, there}
 use Rattle.pair_ends.specs.Blocks.{pairsFrom}
 use Rattle.pair_ends.specs.Ends.{EndsRoom, directionAt, pieceAt, endsIn}

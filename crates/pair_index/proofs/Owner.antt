@@ -2,7 +2,7 @@
 -- order of an owner's pairs is that of the keys and then of the other ends.
 use Prim.Native.Nat.{ℕ, _+_, _-_, _*_, _^_, _≤_, _<_, min}
 use mathlib.Core.Path.{_≡_, refl, sym, ap, ap₂, _∙_, subst}
-use mathlib.Core.Bool.{Bool, true, false, not, cond, _&&_, _||_}
+use mathlib.Core.Bool.{Bool, true, false, cond, _&&_, _||_}
 use mathlib.Core.List.{List}
 use mathlib.Core.Logic.{_⊎_, inl, inr, ⊎-elim}
 use native.Mathlib.Omega.{arith}
@@ -18,7 +18,7 @@ use Rattle.pair_bounds.specs.declared.Bounds.{Bounds}
 use Rattle.pair_bounds.specs.Box.{empty-of, point-of}
 use Rattle.pair_bounds.specs.Search.{place, least}
 use Rattle.pair_bounds.proofs.Search.{place-same}
-use Rattle.pair_laws.specs.Ranked.{RankedPair, candidates, busy, before, qualifies}
+use Rattle.pair_laws.specs.Ranked.{RankedPair, candidates, busy, qualifies}
 use Rattle.pair_laws.specs.Sets.{In, EndOf}
 use Rattle.pair_laws.specs.Ends.{endAt, there, keyOf, nodeOf}
 use Rattle.pair_laws.proofs.Order.{and-left, and-right}

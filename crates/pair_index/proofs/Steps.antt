@@ -2,14 +2,14 @@
 -- over; where the pair with a node's first end has the place of the node's bound, no other pair below is before it; and otherwise both children are searched,
 -- in either order.
 use Prim.Native.Nat.{ℕ, zero, suc, _+_, _-_, _*_, _^_, _≤_, _<_, min}
-use mathlib.Core.Path.{_≡_, refl, sym, ap, _∙_, subst}
+use mathlib.Core.Path.{_≡_, sym, ap, _∙_}
 use mathlib.Core.Bool.{Bool, true, false, cond, _&&_}
 use mathlib.Core.List.{List}
 use mathlib.Core.Logic.{_⊎_, inl, inr, ⊎-elim}
-use native.Mathlib.Nat.{le-trans, le-of-eq, lt-of-lt-of-le, lt-irrefl, mul-assoc, add-mul, le-mul-of-pos-right, pow-succ'}
+use native.Mathlib.Nat.{le-trans, le-of-eq, lt-irrefl, mul-assoc, add-mul, le-mul-of-pos-right, pow-succ'}
 use native.Mathlib.Omega.{arith}
-use lib.Dec.{T, ltb, eqb}
-use lib.ListN.{length, getD}
+use lib.Dec.{ltb, eqb}
+use lib.ListN.{getD}
 use lib.Pow.{pow-pos}
 use lib.Ieee.{Float}
 use borrow.Author.Tests.{ltb-true, ltb-false, eqb-true, eq-eqb, ne-eqb}
@@ -17,16 +17,14 @@ use Rattle.rules.specs.declared.Direction.{Direction}
 use Rattle.rules.specs.declared.Direction.the-variants.{Toward}
 use Rattle.pair_laws.specs.Ends.{keyOf}
 use Rattle.pair_bounds.specs.declared.Bounds.{Bounds}
-use Rattle.pair_bounds.specs.Box.{union-of, lower-of}
-use Rattle.pair_bounds.specs.Search.{place, least, Bounded}
+use Rattle.pair_bounds.specs.Box.{lower-of}
+use Rattle.pair_bounds.specs.Search.{place, least}
 use Rattle.pair_bounds.proofs.Search.{place-same, at-leaf, at-node, bounded as bounded-by}
 use Rattle.float_order.specs.Key.{low-key}
 use Rattle.pair_ends.specs.Ends.{directionAt, pieceAt}
-use Rattle.pair_tree.specs.declared.Place.{Place}
-use Rattle.pair_tree.specs.Places.{worth, gone, none}
-use Rattle.pair_tree.proofs.Flat.{same-or}
+use Rattle.pair_tree.specs.Places.{gone, none}
 use Rattle.pair_index.specs.Nodes.{node-at, Has}
-use Rattle.pair_index.specs.Search.{Built, pointed, settled-at, bound-of, round-at, pair-at, leaf-at, least-of, Searchable}
+use Rattle.pair_index.specs.Search.{Built, pointed, settled-at, bound-of, round-at, pair-at, leaf-at, Searchable}
 use Rattle.pair_index.proofs.Bounding.{under-none, chosen, left-out, sound, first-in, first-le, bound-some, leaf-some, bounded, first-under}
 
 -- ---- room for the nodes

@@ -17,7 +17,7 @@ use Rattle.pair_bounds.specs.Box.{empty-of, point-of, round-way}
 use Rattle.pair_laws.specs.Ranked.{RankedPair, Node, candidates, busy}
 use Rattle.pair_laws.specs.Ranked as ranked
 use Rattle.pair_laws.specs.Sets.{In, EndOf}
-use Rattle.pair_laws.specs.Ends.{endAt, nodeOf, keyed}
+use Rattle.pair_laws.specs.Ends.{endAt, keyed}
 use Rattle.pair_ends.specs.Ends.{EndsRoom, endsIn}
 use Rattle.pair_tree.specs.Places.{gone}
 use Rattle.pair_index.specs.declared.Best.{Best}

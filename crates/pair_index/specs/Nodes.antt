@@ -1,6 +1,5 @@
 -- The index as a row of nodes in a list of words, from t on, five for each: the bits of its box's four ends, and its first index.
 use Prim.Native.Nat.{ℕ, _+_, _*_, _≤_, _<_}
-use mathlib.Core.Path.{_≡_}
 use mathlib.Core.List.{List}
 use lib.ListN.{getD, length}
 use lib.Ieee.{binary64, ofBits}

@@ -5,7 +5,7 @@ use pair_ends::NOTE;
 use pair_tree::Place;
 use rules::Direction;
 ghost use mathlib.Core.Path.{_≡_};
-ghost use Prim.Native.Nat.{_+_, _*_, _<_, _≤_, min};
+ghost use Prim.Native.Nat.{_+_, _*_, _<_};
 ghost use lib.ListN.{length};
 ghost use Rattle.pair_bounds.specs.Box.{Sound};
 ghost use Rattle.pair_tree.specs.Places.{worth, gone};

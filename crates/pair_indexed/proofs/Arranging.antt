@@ -17,7 +17,6 @@ use Rattle.pair_sorting.proofs.Tables.{Ordered, sorted-permuted, ordered-tables
 use Rattle.pair_ends.specs.Blocks.{piecesFrom, marksFrom, orderFrom, positionsFrom, sortKeysFrom, groupsFrom, cursorsFrom, slotsFrom, heapFrom}
 use Rattle.pair_ends.specs.Ends.{EndsRoom, endsIn}
 use Rattle.pair_tree.specs.Words.{Changes}
-use Rattle.pair_tree.proofs.Words.{changes-then, changes-wider}
 use Rattle.pair_owners.specs.Tables.{order-at, position-at, group-at, cursor-at, slot-at, OneDirection, Together, TablesSorted, GroupRuns, GroupOfDirection, Started, Groups}
 use Rattle.pair_owners.specs.Angles.{Keys}
 use Rattle.pair_owners.proofs.Turns.{room-kept, ends-kept, sorted-kept, same-words}

@@ -1,12 +1,12 @@
 -- How the route begins: what is asked is asked again where words behind the ends are written, and so each step finds what it asks.
 use Prim.Native.Nat.{ℕ, _+_, _-_, _*_, _^_, _≤_, _<_}
-use mathlib.Core.Path.{_≡_, refl, sym, _∙_, ap, subst}
-use mathlib.Core.List.{List, [], _∷_}
+use mathlib.Core.Path.{_≡_, sym, _∙_, ap, subst}
+use mathlib.Core.List.{List}
 use mathlib.Core.Bool.{Bool, true, false, cond}
 use mathlib.Core.Logic.{⊎-elim}
 use native.Mathlib.Omega.{arith}
 use lib.Dec.{ltb, eqb}
-use lib.ListN.{length, getD, set, take, drop, replicate}
+use lib.ListN.{length, set, replicate}
 use lib.Seq.{slice, getD-set-same}
 use mir.Val.{boolByte}
 use Rattle.rules.specs.Selecting.{End}
@@ -34,7 +34,7 @@ use Rattle.pair_owners.specs.Tables.{order-at}
 use Rattle.pair_owners.proofs.Seats.{seated}
 use Rattle.pair_owners.proofs.Turns.{room-kept, take-kept, ends-kept}
 use Rattle.pair_indexed.specs.declared.Size.{Size}
-use Rattle.pair_indexed.specs.Route.{Sized, marks-in, RouteReady}
+use Rattle.pair_indexed.specs.Route.{marks-in}
 use Rattle.pair_indexed.specs.Start.{Asks, notedFrom, Notes, Fits, Arranged, Plants, Planted, Clears, Cleared, Startable, Fills}
 use Rattle.pair_indexed.proofs.Sizes.{sized}
 use Rattle.pair_indexed.proofs.Parts.{same-below, same-beyond, drop-kept, marks-kept, indexes-kept}

@@ -1,12 +1,12 @@
 -- The heap's first pair is the next one, if it is free, and where the heap holds none, none is left. Each owner's pair in the heap is at or before all that the
 -- owner still has, and the owners are enough; so this is the lazy law of selection.
-use Prim.Native.Nat.{ℕ, _+_, _*_, _^_, _≤_, _<_}
+use Prim.Native.Nat.{ℕ, _+_, _*_, _<_}
 use mathlib.Core.Path.{_≡_, refl, sym, _∙_, ap, subst}
 use mathlib.Core.Bool.{Bool, true, false}
 use mathlib.Core.List.{List}
 use mathlib.Core.Logic.{_⊎_, inl, inr, ⊎-elim}
 use native.Mathlib.Omega.{arith}
-use lib.Dec.{eqb, ltb, leb}
+use lib.Dec.{ltb}
 use lib.ListN.{length, getD}
 use borrow.Author.Tests.{ltb-true, leb-true}
 use Rattle.rules.specs.Selecting.{End}
@@ -21,7 +21,6 @@ use Rattle.pair_laws.proofs.Lazy.{lazy-least, lazy-done, taken-end}
 use Rattle.pair_laws.proofs.Laws.{in-candidates}
 use Rattle.pair_ends.specs.Blocks.{heapFrom}
 use Rattle.pair_ends.proofs.Reading.{ends-in-length}
-use Rattle.pair_tree.specs.Places.{gone}
 use Rattle.pair_tree.specs.Flat.{own}
 use Rattle.pair_tree.proofs.Flat.{same-or, kept-same}
 use Rattle.pair_heap.specs.declared.Entry as heap

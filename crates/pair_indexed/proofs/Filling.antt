@@ -1,34 +1,30 @@
 -- What the route keeps where a slot gets its pair, and where a taken end hands its slot on. In between the pair of that slot is still to come, and all else is said
 -- as before; so it is the same whether the slot is its owner's still, or another end's, or nobody's.
-use Prim.Native.Nat.{ℕ, _+_, _-_, _*_, _^_, _≤_, _<_}
+use Prim.Native.Nat.{ℕ, _+_, _-_, _*_, _^_, _<_}
 use mathlib.Core.Path.{_≡_, refl, sym, _∙_, ap, subst}
-use mathlib.Core.Bool.{Bool, true, false}
+use mathlib.Core.Bool.{Bool, false}
 use mathlib.Core.List.{List}
-use mathlib.Core.Logic.{_⊎_, inl, inr, ⊎-elim}
+use mathlib.Core.Logic.{_⊎_, ⊎-elim}
 use native.Mathlib.Omega.{arith}
-use lib.ListN.{length, getD, set}
-use lib.Seq.{getD-set-same, getD-set-other}
+use lib.ListN.{set}
 use Rattle.rules.specs.Selecting.{End}
 use Rattle.pair_laws.specs.Ranked.{RankedPair}
 use Rattle.pair_laws.specs.Ends.{nodeOf}
 use Rattle.pair_laws.specs.Taking.{usedOf}
-use Rattle.pair_laws.proofs.Order.{two, tf}
 use Rattle.pair_tree.specs.Flat.{changed}
 use Rattle.pair_tree.specs.Places.{none}
 use Rattle.pair_tree.specs.Words.{Changes}
 use Rattle.pair_tree.proofs.Flat.{same-or}
-use Rattle.pair_tree.proofs.Words.{changes-set, changes-then}
 use Rattle.pair_index.specs.Index.{pairOf, leaf-of, Indexed}
 use Rattle.pair_heap.specs.Heap.{coded, Sets}
 use Rattle.pair_heap.proofs.Top.{coded-none}
-use Rattle.pair_owners.specs.Tables.{mark-at, order-at, group-at, cursor-at, slot-at, Due}
-use Rattle.pair_owners.specs.Owners.{Owners, without}
-use Rattle.pair_owners.proofs.Next.{same-at, same-past, without-not, is-without, no-slot, no-next, next}
+use Rattle.pair_owners.specs.Owners.{Owners}
+use Rattle.pair_owners.proofs.Next.{same-at, same-past}
 use Rattle.pair_owners.proofs.Seats.{seated}
 use Rattle.pair_ends.specs.Blocks.{pairsFrom, marksFrom, orderFrom, sortKeysFrom, groupsFrom, cursorsFrom, heapFrom, indexFrom, noteFrom}
-use Rattle.pair_indexed.specs.Route.{marks-in, taken-in, Moving, Bound, Ground, Filled, Heaped, Owning, Refreshed}
-use Rattle.pair_indexed.proofs.Parts.{Same, same-below, same-beyond, marks-kept, is-taken, is-free, indexes-kept, heaped-kept, heaped-set}
-use Rattle.pair_indexed.proofs.Keeping.{bound-of, ground-kept, moving-kept, there-in, heap-in, slot-here, answered}
+use Rattle.pair_indexed.specs.Route.{marks-in, taken-in, Bound, Filled, Owning, Refreshed}
+use Rattle.pair_indexed.proofs.Parts.{same-below, same-beyond, marks-kept, indexes-kept, heaped-set}
+use Rattle.pair_indexed.proofs.Keeping.{bound-of, ground-kept, moving-kept, heap-in, slot-here, answered}
 
 -- ---- a slot gets its pair
 

@@ -9,7 +9,6 @@ use native.Mathlib.Omega.{arith}
 use lib.ListN.{length, getD, set, length-set}
 use lib.Seq.{getD-set-same, getD-set-other}
 use Rattle.rules.specs.Selecting.{End}
-use Rattle.pair_laws.specs.Ranked.{RankedPair}
 use Rattle.pair_laws.specs.Ends.{nodeOf}
 use Rattle.pair_laws.specs.Taking.{usedOf}
 use Rattle.pair_laws.proofs.Order.{two, tf}
@@ -20,14 +19,14 @@ use Rattle.pair_tree.proofs.Flat.{same-or, below-or}
 use Rattle.pair_tree.proofs.Words.{changes-none, changes-set, changes-then, changes-wider}
 use Rattle.pair_index.specs.Index.{leaf-of, Indexed}
 use Rattle.pair_heap.specs.Heap.{coded, Sets}
-use Rattle.pair_owners.specs.Tables.{mark-at, order-at, position-at, group-at, cursor-at, slot-at, Ordered, TablesSorted, Due}
+use Rattle.pair_owners.specs.Tables.{mark-at, order-at, position-at, group-at, cursor-at, slot-at, TablesSorted, Due}
 use Rattle.pair_owners.specs.Owners.{Owners, without}
 use Rattle.pair_owners.proofs.Next.{same-at, same-past, without-not, is-without, no-slot, no-next, next}
 use Rattle.pair_owners.proofs.Seats.{seated}
 use Rattle.pair_ends.specs.Blocks.{pairsFrom, marksFrom, orderFrom, sortKeysFrom, groupsFrom, cursorsFrom, slotsFrom, heapFrom, indexFrom, noteFrom}
 use Rattle.rules.specs.Refusals.{endRoom}
-use Rattle.pair_indexed.specs.Route.{marks-in, taken-in, Moving, Bound, Ground, Filled, Heaped, Owning, Stale, Refreshed, Replaces, Replaced}
-use Rattle.pair_indexed.proofs.Parts.{Same, same-below, same-beyond, marks-kept, is-taken, is-free, indexes-kept, heaped-kept}
+use Rattle.pair_indexed.specs.Route.{marks-in, taken-in, Moving, Bound, Ground, Filled, Owning, Stale, Refreshed, Replaces, Replaced}
+use Rattle.pair_indexed.proofs.Parts.{same-below, same-beyond, marks-kept, is-taken, is-free, indexes-kept, heaped-kept}
 use Rattle.pair_indexed.proofs.Keeping.{ground-kept, there-in, heap-in, slot-here, slots-apart, query, heap-whole}
 use Rattle.pair_indexed.proofs.Filling.{owning-cleared, owning-refreshed, sets-changes}
 

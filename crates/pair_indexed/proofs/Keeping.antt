@@ -1,20 +1,17 @@
 -- What the route keeps where a pair is written, and where an end is marked and leaves the index. Each step writes one part of the workspace, so that what is
 -- said of the others stays; and more ends taken leave a bound a bound.
 use Prim.Native.Nat.{ℕ, _+_, _-_, _*_, _^_, _≤_, _<_}
-use mathlib.Core.Path.{_≡_, refl, sym, _∙_, ap, subst}
+use mathlib.Core.Path.{_≡_, sym, _∙_, ap, subst}
 use mathlib.Core.Bool.{Bool, true, false, cond, _||_}
 use mathlib.Core.List.{List}
 use mathlib.Core.Logic.{_⊎_, inl, inr, ⊎-elim}
 use native.Mathlib.Omega.{arith}
 use lib.Dec.{eqb}
-use lib.ListN.{length, getD, set, length-set}
+use lib.ListN.{length, getD, set}
 use lib.Seq.{getD-set-same, getD-set-other}
-use borrow.Author.Tests.{eq-eqb, ne-eqb}
 use Rattle.rules.specs.Selecting.{End}
-use Rattle.pair_bounds.specs.declared.Bounds.{Bounds}
 use Rattle.pair_bounds.specs.Box.{empty-of, union-of, Sound}
-use Rattle.pair_laws.specs.Ranked.{RankedPair, Node, candidates, busy}
-use Rattle.pair_laws.specs.Sets.{In}
+use Rattle.pair_laws.specs.Ranked.{RankedPair, Node, busy}
 use Rattle.pair_laws.specs.Ends.{endAt, nodeOf}
 use Rattle.pair_laws.specs.Taking.{usedOf}
 use Rattle.pair_laws.proofs.Greedy.{or-false-left, or-false-right}
@@ -22,7 +19,7 @@ use Rattle.pair_laws.proofs.Order.{two, tf}
 use Rattle.pair_laws.proofs.Owners.{There}
 use Rattle.pair_ends.specs.Blocks.{pairsFrom, marksFrom, orderFrom, positionsFrom, sortKeysFrom, groupsFrom, cursorsFrom, slotsFrom, heapFrom, indexFrom, noteFrom}
 use Rattle.rules.specs.Refusals.{endRoom}
-use Rattle.pair_ends.specs.Ends.{EndsRoom, endsIn}
+use Rattle.pair_ends.specs.Ends.{endsIn}
 use Rattle.pair_tree.specs.Flat.{changed, own}
 use Rattle.pair_tree.specs.Words.{Changes}
 use Rattle.pair_tree.proofs.Flat.{same-or, below-or, kept-same}
@@ -35,14 +32,13 @@ use Rattle.pair_index.specs.Index.{pairOf, box-of, leaf-of, LeavesPlaced, Index
 use Rattle.pair_ends.proofs.Reading.{ends-in-placed}
 use Rattle.pair_index.proofs.Leaves.{there-below}
 use Rattle.pair_index.proofs.Book.{from-book}
-use Rattle.pair_heap.specs.Heap.{coded, Heaps, Sets}
 use Rattle.pair_heap.specs.Heap as heap
-use Rattle.pair_owners.specs.Tables.{order-at, position-at, group-at, cursor-at, slot-at, Ordered}
+use Rattle.pair_owners.specs.Tables.{position-at, slot-at}
 use Rattle.pair_owners.specs.Owners.{Owners}
 use Rattle.pair_owners.proofs.Next.{more-used, same-at, same-past}
 use Rattle.pair_owners.proofs.Seats.{seated, seated-in, seated-out, placed}
 use Rattle.pair_owners.proofs.Turns.{room-kept, same-words}
-use Rattle.pair_indexed.specs.Route.{Sized, marks-in, taken-in, Fixed, Moving, Bound, Ground, Filled, Owning, Refreshed, marked}
+use Rattle.pair_indexed.specs.Route.{marks-in, taken-in, Moving, Bound, Ground, Filled, Owning, marked}
 use Rattle.pair_indexed.proofs.Parts.{Same, same-below, same-beyond, slice-set, marks-kept, marks-length, indexes-kept, heaped-kept, indexes-own, ends-same}
 
 -- ---- bounds

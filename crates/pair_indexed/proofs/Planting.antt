@@ -1,12 +1,12 @@
 -- The leaves of the index and of the heap, written one after another: of an end with a direction its point, and for each slot no pair.
 use Prim.Native.Nat.{ℕ, _+_, _*_, _≤_, _<_}
 use mathlib.Core.Path.{_≡_, refl, sym, _∙_, ap, subst}
-use mathlib.Core.Bool.{Bool, true, false, cond}
+use mathlib.Core.Bool.{true, false, cond}
 use mathlib.Core.List.{List}
-use mathlib.Core.Logic.{_⊎_, inl, inr, ⊎-elim}
+use mathlib.Core.Logic.{_⊎_, ⊎-elim}
 use native.Mathlib.Omega.{arith}
 use lib.Dec.{ltb}
-use lib.ListN.{length, getD}
+use lib.ListN.{length}
 use Rattle.rules.specs.declared.Direction.{Direction}
 use Rattle.rules.specs.declared.Direction.the-variants.{Absent, Toward}
 use Rattle.rules.specs.Selecting.{End}
@@ -22,7 +22,7 @@ use Rattle.pair_ends.specs.Ends.{EndsRoom, directionAt, endsIn}
 use Rattle.pair_tree.specs.Flat.{own}
 use Rattle.pair_tree.specs.Places.{none}
 use Rattle.pair_tree.specs.Words.{Changes}
-use Rattle.pair_tree.proofs.Flat.{same-or, below-or, kept-same}
+use Rattle.pair_tree.proofs.Flat.{same-or, kept-same}
 use Rattle.pair_tree.proofs.Words.{changes-none, changes-then, changes-wider}
 use Rattle.pair_index.specs.Nodes.{node-at, IndexPut, Leaves, IndexJoined}
 use Rattle.pair_index.specs.Index.{box-of, leaf-of, Finite}
@@ -30,7 +30,7 @@ use Rattle.pair_index.proofs.Leaves.{direction-is, there-below}
 use Rattle.pair_heap.specs.Heap as heap
 use Rattle.pair_owners.specs.Tables.{order-at, TablesSorted}
 use Rattle.pair_owners.proofs.Seats.{seated, seated-in, seated-out}
-use Rattle.pair_owners.proofs.Turns.{room-kept, ends-kept, sorted-kept}
+use Rattle.pair_owners.proofs.Turns.{ends-kept, sorted-kept}
 use Rattle.pair_indexed.specs.Start.{Plants, Planted, Clears, Cleared}
 
 -- ---- one leaf

@@ -1,11 +1,11 @@
 -- The first owners' pairs, one position after another; where all are in the heap and it is joined, the route is ready for its turns.
 use Prim.Native.Nat.{ℕ, _+_, _*_, _^_, _≤_, _<_, min}
 use mathlib.Core.Path.{_≡_, refl, sym, _∙_, ap, subst}
-use mathlib.Core.Bool.{Bool, true, false}
+use mathlib.Core.Bool.{Bool}
 use mathlib.Core.List.{List}
-use mathlib.Core.Logic.{_⊎_, inl, inr, ⊎-elim}
+use mathlib.Core.Logic.{_⊎_, ⊎-elim}
 use native.Mathlib.Omega.{arith}
-use lib.ListN.{length, getD, replicate}
+use lib.ListN.{length, replicate}
 use Rattle.rules.specs.Selecting.{End}
 use Rattle.pair_laws.specs.Ranked.{RankedPair, none as nobody}
 use Rattle.pair_laws.specs.Ends.{nodeOf}
@@ -13,7 +13,7 @@ use Rattle.pair_laws.specs.Taking.{usedOf}
 use Rattle.pair_laws.proofs.Taking.{used-none}
 use Rattle.pair_ends.specs.Blocks.{pairsFrom, marksFrom, orderFrom, sortKeysFrom, groupsFrom, cursorsFrom, slotsFrom, heapFrom, indexFrom, noteFrom}
 use Rattle.rules.specs.Refusals.{endRoom}
-use Rattle.pair_ends.specs.Ends.{EndsRoom, endsIn}
+use Rattle.pair_ends.specs.Ends.{endsIn}
 use Rattle.pair_tree.specs.declared.Place.{Place}
 use Rattle.pair_tree.specs.Flat.{changed, own}
 use Rattle.pair_tree.specs.Places.{worth, none}
@@ -29,8 +29,8 @@ use Rattle.pair_owners.proofs.Next.{same-at, same-past}
 use Rattle.pair_owners.proofs.Grouping.{owners-start}
 use Rattle.pair_owners.proofs.Seats.{seated}
 use Rattle.pair_owners.proofs.Turns.{ends-kept}
-use Rattle.pair_indexed.specs.Route.{marks-in, taken-in, Moving, Bound, Ground, Filled, Heaped, Owning, Offers, RouteReady}
-use Rattle.pair_indexed.specs.Start.{Startable, Fills}
+use Rattle.pair_indexed.specs.Route.{marks-in, taken-in, Bound, Ground, Filled, Owning, Offers, RouteReady}
+use Rattle.pair_indexed.specs.Start.{Fills}
 use Rattle.pair_indexed.proofs.Parts.{same-below, same-beyond, marks-kept, indexes-kept}
 use Rattle.pair_indexed.proofs.Third.{no-third}
 use Rattle.pair_indexed.proofs.Keeping.{bound-of, ground-kept, moving-kept, there-in, query, answered}

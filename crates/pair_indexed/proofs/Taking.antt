@@ -1,12 +1,12 @@
 -- What the route keeps where a pair is taken: it is written, both ends leave the index, and then both hand on their slots. So the ends that have handed on their
 -- slots are again all that are taken.
-use Prim.Native.Nat.{ℕ, _+_, _-_, _*_, _^_, _≤_, _<_}
+use Prim.Native.Nat.{ℕ, _+_, _-_, _*_, _^_, _<_}
 use mathlib.Core.Path.{_≡_, refl, sym, _∙_, ap, subst, fun-ext}
 use mathlib.Core.Bool.{Bool, true, false, _||_}
 use mathlib.Core.List.{List}
 use native.Mathlib.Omega.{arith}
 use lib.Dec.{eqb}
-use lib.ListN.{length, getD, set}
+use lib.ListN.{length, set}
 use borrow.Author.Tests.{eq-eqb}
 use Rattle.rules.specs.Selecting.{End}
 use Rattle.pair_laws.specs.Ranked.{RankedPair, mark}
@@ -21,7 +21,7 @@ use Rattle.pair_owners.proofs.Next.{is-without}
 use Rattle.pair_ends.specs.Blocks.{pairsFrom, marksFrom, orderFrom, indexFrom, noteFrom}
 use Rattle.pair_indexed.specs.Route.{pairs-in, marks-in, taken-in, Owning, Retires, marked, Replaces, Replaced, Takes, Takings}
 use Rattle.pair_indexed.proofs.Third.{no-third}
-use Rattle.pair_indexed.proofs.Parts.{Same, same-below, same-beyond, slice-kept, slice-set, marks-kept, marks-length}
+use Rattle.pair_indexed.proofs.Parts.{same-below, same-beyond, slice-kept, slice-set, marks-kept, marks-length}
 use Rattle.pair_indexed.proofs.Keeping.{index-whole, owning-written, owning-retired, marks-retired, retired-changes}
 
 module _ {l : List End} {w : List ℕ} {d height slots limit n i j : ℕ} (t : Takes w d height slots limit n i j)

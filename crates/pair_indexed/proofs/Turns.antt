@@ -2,24 +2,23 @@
 -- in the heap less has an end that is taken.
 use Prim.Native.Nat.{ℕ, zero, suc, _+_, _-_, _*_, _/_, _%_, _^_, _≤_, _<_}
 use mathlib.Core.Path.{_≡_, refl, sym, _∙_, ap, subst}
-use mathlib.Core.Bool.{Bool, true, false, cond, not, _&&_, _||_}
-use mathlib.Core.List.{List, _++_}
-use mathlib.Core.Logic.{_⊎_, inl, inr, ⊎-elim}
+use mathlib.Core.Bool.{Bool, true, false, cond, not, _||_}
+use mathlib.Core.List.{List}
+use mathlib.Core.Logic.{_⊎_, ⊎-elim}
 use native.Mathlib.Omega.{arith}
 use native.Mathlib.Nat.{mul-le-mul-right}
 use lib.Dec.{eqb}
 use lib.ListN.{length, getD, set, take, drop, replicate}
-use lib.Seq.{slice, take-at, getD-take, getD-drop, length-slice, length-take-le, ext-getD}
+use lib.Seq.{slice, take-at, getD-take, length-slice, length-take-le, ext-getD}
 use borrow.Author.Tests.{ne-eqb, not-true, not-false}
 use Rattle.rules.specs.Lists.{one}
 use Rattle.rules.specs.Selecting.{End}
 use Rattle.pair_bounds.specs.Search.{place}
-use Rattle.pair_laws.specs.Ranked.{RankedPair, candidates, busy, select}
+use Rattle.pair_laws.specs.Ranked.{RankedPair, busy, select}
 use Rattle.pair_laws.specs.Ends.{nodeOf}
 use Rattle.pair_laws.specs.Taking.{usedOf, listed, IsLeast}
 use Rattle.pair_laws.proofs.Greedy.{or-false-left, or-false-right}
 use Rattle.pair_laws.proofs.Taking.{Taken, taken-start, taken-step, taken-all, turn-room, turn-falls, zeros, length-listed}
-use Rattle.pair_laws.proofs.Laws.{in-candidates}
 use Rattle.pair_ends.specs.Blocks.{pairsFrom, marksFrom, orderFrom, heapFrom, indexFrom, noteFrom}
 use Rattle.rules.specs.Refusals.{endRoom}
 use Rattle.pair_ends.specs.Ends.{EndsRoom, Selected, endsIn}
@@ -33,16 +32,16 @@ use Rattle.pair_index.specs.Index.{pairOf}
 use Rattle.pair_heap.specs.declared.Entry.{Entry}
 use Rattle.pair_heap.specs.Heap.{node-at, code-of, coded, Decoded}
 use Rattle.pair_heap.proofs.Top.{AtSlot, coded-none, coded-some, code-at, code-small}
-use Rattle.pair_owners.specs.Tables.{mark-at, slot-at}
+use Rattle.pair_owners.specs.Tables.{slot-at}
 use Rattle.pair_owners.specs.Owners.{tally}
 use Rattle.pair_owners.proofs.Next.{same-at, same-past}
 use Rattle.pair_owners.proofs.Turns.{take-kept}
 use Rattle.pair_indexed.specs.Route.{pairs-in, marks-in, taken-in, NoThird, Owning, Stale, Refreshed, Takes, Takings, RouteReady}
-use Rattle.pair_indexed.proofs.Parts.{same-below, slice-kept, drop-kept, marks-kept, pairs-length, is-free, is-taken}
+use Rattle.pair_indexed.proofs.Parts.{same-below, slice-kept, drop-kept, marks-kept, pairs-length}
 use Rattle.pair_indexed.proofs.Third.{no-third}
 use Rattle.pair_indexed.proofs.Keeping.{query, heap-whole, answered, slot-here}
 use Rattle.pair_indexed.proofs.Filling.{owning-again, sets-changes}
-use Rattle.pair_indexed.proofs.Choosing.{many, member, none-left, at-slot, owner-in, owner-slot, owner-free, slot-in, pair-lower, pair-below, next-pair}
+use Rattle.pair_indexed.proofs.Choosing.{many, none-left, at-slot, owner-in, owner-slot, owner-free, slot-in, pair-lower, pair-below, next-pair}
 
 -- ---- what falls
 

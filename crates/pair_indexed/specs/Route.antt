@@ -4,11 +4,10 @@ use Prim.Native.Nat.{ℕ, _+_, _*_, _^_, _≤_, _<_}
 use mathlib.Core.Path.{_≡_}
 use mathlib.Core.Bool.{Bool, true, false}
 use mathlib.Core.List.{List}
-use lib.ListN.{length, getD, set, replicate}
+use lib.ListN.{set, replicate}
 use lib.Seq.{slice}
 use lib.Ieee.{Float}
 use Rattle.rules.specs.Selecting.{End}
-use Rattle.pair_bounds.specs.declared.Bounds.{Bounds}
 use Rattle.pair_laws.specs.Ranked.{RankedPair, Node, candidates, busy, before}
 use Rattle.pair_laws.specs.Sets.{In, EndOf}
 use Rattle.pair_laws.specs.Ends.{endAt, nodeOf}
@@ -21,12 +20,12 @@ use Rattle.pair_tree.specs.Places.{worth, gone}
 use Rattle.pair_tree.specs.Flat.{own}
 use Rattle.pair_tree.specs.Words.{Changes}
 use Rattle.pair_index.specs.declared.Best.{Best}
-use Rattle.pair_index.specs.Nodes.{node-at, Removes}
+use Rattle.pair_index.specs.Nodes.{node-at}
 use Rattle.pair_index.specs.Nodes as index
-use Rattle.pair_index.specs.Index.{pairOf, leaf-of, Indexed, Finite, Noted, Query, KeyOf, Answers}
+use Rattle.pair_index.specs.Index.{pairOf, Indexed, Finite, Noted, Query, KeyOf, Answers}
 use Rattle.pair_heap.specs.Heap.{Heaps, coded, Enters, Sets}
 use Rattle.pair_heap.specs.Heap as heap
-use Rattle.pair_owners.specs.Tables.{mark-at, order-at, position-at, group-at, cursor-at, slot-at, OneDirection, Ordered, GroupRuns, GroupOfDirection}
+use Rattle.pair_owners.specs.Tables.{order-at, position-at, group-at, cursor-at, slot-at, OneDirection, Ordered, GroupRuns, GroupOfDirection}
 use Rattle.pair_owners.specs.Owners.{Owners, without}
 use Rattle.pair_owners.proofs.Seats.{seated}
 

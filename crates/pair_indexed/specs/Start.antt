@@ -4,7 +4,7 @@ use mathlib.Core.Path.{_≡_}
 use mathlib.Core.Bool.{false}
 use mathlib.Core.List.{List}
 use mathlib.Core.Logic.{_⊎_}
-use lib.ListN.{length, replicate}
+use lib.ListN.{replicate}
 use Rattle.pair_ends.specs.Blocks.{heapFrom, indexFrom, noteFrom, noteEnd}
 use lib.Ieee.{Float}
 use Rattle.pair_ends.specs.Ends.{EndsRoom, directionAt, endsIn}

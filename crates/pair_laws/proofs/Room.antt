@@ -9,7 +9,6 @@ use lib.ListN.{length}
 use lib.Dec.{eqb}
 use borrow.Author.Tests.{eq-eqb, ne-eqb}
 use Rattle.rules.specs.Lists.{one}
-use Rattle.rules.specs.Selecting as book
 use Rattle.pair_laws.specs.Ranked.{RankedPair, Node, candidates, before, sort, mark, busy, greedy, none, selectFrom, select}
 use Rattle.pair_laws.specs.Sets.{In}
 use Rattle.pair_laws.proofs.Order.{two, Three, three}

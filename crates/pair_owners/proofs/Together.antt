@@ -6,12 +6,11 @@ use mathlib.Core.Bool.{Bool, true, false, cond}
 use mathlib.Core.List.{List, [], _∷_}
 use mathlib.Core.Logic.{⊎-elim}
 use native.Mathlib.Omega.{arith}
-use lib.Dec.{T}
 use lib.Ieee.{Float, binary64, add, sub, lt, fits}
 use lib.Ieee.Fits.{add-fits, sub-fits}
 use lib.ListN.{getD}
 use Rattle.rules.specs.declared.Direction.{Direction}
-use Rattle.rules.specs.declared.Direction.the-variants.{Absent, Toward}
+use Rattle.rules.specs.declared.Direction.the-variants.{Toward}
 use Rattle.rules.specs.Plane.{float, nought, unity}
 use Rattle.float_order.specs.Key.{key-nan, key}
 use Rattle.float_order.proofs.Keys.{key-most}

@@ -1,6 +1,6 @@
 -- A settled set, listed without repeats in whatever order, is the selection once it is sorted. Of two qualifying pairs that differ one comes before the other,
 -- so that sorting puts them strictly in order; it keeps the pairs, and so what is settled stays settled.
-use mathlib.Core.Path.{_≡_, refl, sym, subst, _∙_}
+use mathlib.Core.Path.{_≡_, refl, sym, _∙_}
 use mathlib.Core.Bool.{Bool, true, false}
 use mathlib.Core.Logic.{_⊎_, inl, inr, ⊎-elim}
 use mathlib.Core.List.{List, [], _∷_}

@@ -3,7 +3,7 @@ use rules::END_ROOM;
 use rules::MOST_ENDS;
 ghost use mathlib.Core.Path.{_≡_};
 ghost use mathlib.Core.Bool.{not, _&&_, _||_};
-ghost use Prim.Native.Nat.{ℕ, _*_, _≤_, _<_};
+ghost use Prim.Native.Nat.{_*_, _≤_, _<_};
 ghost use lib.Dec.{eqb, ltb};
 ghost use lib.Ieee.Scale.{finite};
 ghost use lib.ListN.{length, take};

@@ -2,7 +2,7 @@
 -- one that does not leaves the rest to search. x and y are all that it looks at.
 use mathlib.Core.Path.{_≡_, refl, sym, ap, ap₂, _∙_}
 use mathlib.Core.Bool.{Bool, true, false, not, true≢false}
-use mathlib.Core.List.{[], List, _∷_, reverse}
+use mathlib.Core.List.{List, _∷_, reverse}
 use mathlib.Core.Option.{some}
 use Prim.Native.Nat.{ℕ, _+_, _-_, _≤_, _<_}
 use native.Mathlib.Omega.{arith}

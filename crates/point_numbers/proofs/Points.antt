@@ -5,7 +5,7 @@ use mathlib.Core.Path.{_≡_, refl, sym, ap, ap₂, subst, _∙_}
 use mathlib.Core.List.{List, [], _∷_, _++_, reverse, append-assoc, append-nil, reverse-append}
 use native.Mathlib.Omega.{arith}
 use native.Mathlib.Decide.{decLt}
-use native.Mathlib.Nat.{zero-add, zero-mul, suc-mul, add-mul, not-suc-le-zero, le-of-suc-le-suc, div-eq-of-lt, add-div-left, mul-add-div-right, le-div-iff-mul-le, div-mul-le-self}
+use native.Mathlib.Nat.{zero-add, zero-mul, suc-mul, not-suc-le-zero, le-of-suc-le-suc, div-eq-of-lt, add-div-left, mul-add-div-right, le-div-iff-mul-le, div-mul-le-self}
 use lib.Arith.{digits-div}
 use lib.ListN.{length, take, drop, getD, replicate, length-append, length-drop, length-replicate, take-append-drop, drop-of-length-le, List·getD-append}
 use lib.Seq.{length-take-le, take-at, drop-at, drop-drop, take-append-le, drop-append-le, getD-take, getD-drop, take-length, take-add, drop-cons}

@@ -7,7 +7,7 @@ use native.Mathlib.Omega.{arith}
 use native.Mathlib.Nat.{add-zero}
 use native.Mathlib.Numerals.{add-one}
 use lib.ListN.{length, take, drop, getD, set, replicate, length-append, length-reverse, List·getD-append, take-append-drop, length-drop, drop-of-length-le, replicate-append-replicate}
-use lib.Seq.{length-slice, drop-append-le, length-take-le, getD-take, take-at, take-suc, take-all, take-take, drop-append-add, drop-drop, drop-cons, drop-at, getD-drop, getD-append-seam, set-at, slice}
+use lib.Seq.{length-slice, drop-append-le, length-take-le, getD-take, take-at, take-add, take-suc, take-all, take-take, drop-append-add, drop-drop, drop-cons, drop-at, getD-drop, getD-append-seam, set-at, slice}
 use borrow.Rule.Slice.PartMut.{midOf, putMid}
 use Rattle.point_slices.specs.Holds.{Holds, HoldsFrom}
 
@@ -19,10 +19,6 @@ drop-beyond out l w r e h =
     let s : r ≡ length out + (r - w) = omega arith in
     let t : w + (r - w) ≡ r = omega arith in
     ap (λ (n : ℕ). drop n (out ++ drop w l)) s ∙ drop-append-add out (drop w l) (r - w) ∙ drop-drop (r - w) w l ∙ ap (λ (n : ℕ). drop n l) t
-
--- a slice that holds a new beginning is as long as it was
-pub holds-length : {l′ l : List ℕ} {r : ℕ} {out : List ℕ} → Holds l′ l r out → r ≤ length l → length l′ ≡ length l
-holds-length {l′} {l} {r} {out} h k = ap length (h .list) ∙ simp (length-append, length-drop) (omega (arith, h .count))
 
 -- two steps, one after the other: the second starts where the first ended
 pub holds-then : {l″ l′ l : List ℕ} {w r : ℕ} {out more : List ℕ} → Holds l′ l w out → Holds l″ l′ r more → w ≤ r → Holds l″ l r more
@@ -291,3 +287,10 @@ module _ (l src : List ℕ) (at j : ℕ) where
   pub four-put : at + 4 ≤ length l → j + 4 ≤ length src
       → HoldsFrom (set (set (set (set l at (getD src j 0)) (at + 1) (getD src (j + 1) 0)) (at + 2) (getD src (j + 2) 0)) (at + 3) (getD src (j + 3) 0)) l at 4 (take 4 (drop j src))
   four-put h k = part-more src j (three-put (omega arith) (omega arith)) (omega arith) (omega arith)
+
+-- a part of another slice, and more of it behind that
+pub part-then : {d′ d l : List ℕ} {at i n : ℕ} (src : List ℕ) (j w : ℕ) → HoldsFrom d l at i (take i (drop j src)) → at + i ≤ length l
+    → HoldsFrom d′ d (at + i) n (take n (drop (j + i) src)) → i + n ≡ w → HoldsFrom d′ l at w (take w (drop j src))
+part-then {d′} {d} {l} {at} {i} {n} src j w a h b e =
+    subst (λ (m : ℕ). HoldsFrom d′ l at m (take m (drop j src))) e
+    (subst (HoldsFrom d′ l at (i + n)) (sym (take-add i n (drop j src) ∙ ap (λ (t : List ℕ). take i (drop j src) ++ take n t) (drop-drop i j src))) (from-then a h b))

@@ -6,9 +6,9 @@ use mathlib.Core.Bool.{Bool, true, false}
 use mathlib.Core.List.{List, [], _∷_, _++_, reverse, append-assoc, append-nil, reverse-append}
 use mathlib.Core.Option.{Option, none, some}
 use native.Mathlib.Omega.{arith}
-use native.Mathlib.Nat.{suc-mul, div-mul-le-self, not-suc-le-zero}
+use native.Mathlib.Nat.{suc-mul, not-suc-le-zero}
 use native.Mathlib.Decide.{decLt}
-use lib.ListN.{length, take, drop, getD, set, length-append, length-drop, length-reverse, length-take, take-append-drop, List·getD-append}
+use lib.ListN.{length, take, drop, getD, set, length-append, length-drop, length-take, take-append-drop, List·getD-append}
 use lib.Seq.{length-take-le, getD-take, getD-append-add, take-all, take-suc}
 use borrow.Author.Tests.{le-leb, lt-leb, eqb-true, eqb-false}
 use lib.Dec.{eqb}
@@ -18,7 +18,7 @@ use Rattle.rules.specs.Chaining.{lay}
 use Rattle.point_numbers.specs.Width.{pointAt}
 use Rattle.point_numbers.proofs.Points.{numbers-length, numbers-x, numbers-y, part-back, at-x, equal-at, at-two, points-length, points-from, points-at}
 use Rattle.point_slices.specs.Holds.{Holds, HoldsFrom}
-use Rattle.point_slices.specs.Run.{lastOf, laid, walked, Near, Pushed}
+use Rattle.point_slices.specs.Run.{lastOf, laid, Near, Pushed}
 use Rattle.point_slices.proofs.Laws.{holds-start, holds-then, holds-take, two-put}
 
 -- ---- one point
@@ -288,12 +288,6 @@ module _ {w : ℕ} (two : 2 ≤ w) where
         let more′ : Holds l₂ l₁ k (laid w (laid w (take h l) (p ∷ [])) left) = rw (holds-take push) at b in
         subst (λ (o : List ℕ). Holds l₂ l k o) (sym (laid-cons w two (take h l) p left))
         (holds-then push more′ (omega (arith, push .count, more′ .count, laid-length w two (laid w (take h l) (p ∷ [])) left)))
-
--- a run is no longer than its numbers
-pub walked-length : (w : ℕ) (turned : Bool) (l : List ℕ) → length (walked w turned l) * w ≤ length l
-unfolding walked
-walked-length w true l = rw (length-reverse (points w l), points-length w l) (div-mul-le-self (length l) w)
-walked-length w false l = rw (points-length w l) (div-mul-le-self (length l) w)
 
 -- ---- points of no extras, which have loops of their own
 

@@ -90,52 +90,9 @@ fn backward_two(rest: &mut [u64], have: usize, src: &[u64]) -> usize
     w
 }
 
-// The point at j of `src` behind the first `have` numbers, unless it is equal to the last one there. Returns how many numbers there are.
-fn push_wide(rest: &mut [u64], have: usize, width: usize, src: &[u64], j: usize) -> usize
-    requires { ⌜ (2 ≤ width) × (have + width ≤ length (now rest)) × (j + width ≤ length (now src)) ⌝ }
-    ensures { λ r. ⌜ Holds (now (rest .exit)) (now (rest .entry)) r (laid width (take have (now (rest .entry))) (pointAt width (now (src .entry)) j ∷ [])) ⌝ }
-{
-    if width <= have {
-        let at = have - width;
-        if point_numbers::equal(rest[at], rest[at + 1], src[j], src[j + 1]) {
-            return have;
-        }
-    }
-    copy_into(rest, have, &src[j..j + width]);
-    have + width
-}
-
-// Each point of `src` behind the first `have` numbers, in turn.
-fn forward_wide(rest: &mut [u64], have: usize, width: usize, src: &[u64]) -> usize
-    requires { ⌜ (2 ≤ width) × Whole width (now src) × (have + length (now src) ≤ length (now rest)) ⌝ }
-    ensures { λ r. ⌜ Holds (now (rest .exit)) (now (rest .entry)) r (laid width (take have (now (rest .entry))) (walked width false (now (src .entry)))) ⌝ }
-{
-    let mut h = have;
-    let mut i: usize = 0;
-    while i < src.len() {
-        h = push_wide(rest, h, width, src, i);
-        i += width;
-    }
-    h
-}
-
-// Each point of `src` behind the first `have` numbers, the last point first.
-fn backward_wide(rest: &mut [u64], have: usize, width: usize, src: &[u64]) -> usize
-    requires { ⌜ (2 ≤ width) × Whole width (now src) × (have + length (now src) ≤ length (now rest)) ⌝ }
-    ensures { λ r. ⌜ Holds (now (rest .exit)) (now (rest .entry)) r (laid width (take have (now (rest .entry))) (walked width true (now (src .entry)))) ⌝ }
-{
-    let mut h = have;
-    let mut i = src.len();
-    while 0 < i {
-        i -= width;
-        h = push_wide(rest, h, width, src, i);
-    }
-    h
-}
-
-// The point at j of `src`, of three numbers or four, from `at` on.
+// The point at j of `src`, which has extras, from `at` on. One or two of them are stored without a loop.
 fn put_high(rest: &mut [u64], at: usize, width: usize, src: &[u64], j: usize)
-    requires { ⌜ (3 ≤ width) × (width ≤ 4) × (at + width ≤ length (now rest)) × (j + width ≤ length (now src)) ⌝ }
+    requires { ⌜ (3 ≤ width) × (at + width ≤ length (now rest)) × (j + width ≤ length (now src)) ⌝ }
     ensures { λ _. ⌜ HoldsFrom (now (rest .exit)) (now (rest .entry)) at width (take width (drop j (now (src .entry)))) ⌝ }
 {
     rest[at] = src[j];
@@ -145,12 +102,16 @@ fn put_high(rest: &mut [u64], at: usize, width: usize, src: &[u64], j: usize)
         return;
     }
     rest[at + 3] = src[j + 3];
+    if width == 4 {
+        return;
+    }
+    copy_into(rest, at + 4, &src[j + 4..j + width]);
 }
 
-// The point at j of `src`, of three numbers or four, behind the first `have` numbers, unless it is equal to the last one there, whose x is `last` but for its
+// The point at j of `src`, which has extras, behind the first `have` numbers, unless it is equal to the last one there, whose x is `last` but for its
 // sign: a point whose x has other bits is not equal to it. Returns how many numbers there are.
 fn next_high(rest: &mut [u64], have: usize, width: usize, last: u64, src: &[u64], j: usize) -> usize
-    requires { ⌜ (3 ≤ width) × (width ≤ 4) × (width ≤ have) × (have + width ≤ length (now rest)) × (j + width ≤ length (now src))
+    requires { ⌜ (3 ≤ width) × (width ≤ have) × (have + width ≤ length (now rest)) × (j + width ≤ length (now src))
         × Near width (now rest) have last ⌝ }
     ensures { λ r. ⌜ Pushed width (now (rest .exit)) (now (rest .entry)) have r (pointAt width (now (src .entry)) j) ⌝ }
 {
@@ -166,7 +127,7 @@ fn next_high(rest: &mut [u64], have: usize, width: usize, last: u64, src: &[u64]
 
 // As `next_high`, where there may be no last point.
 fn push_high(rest: &mut [u64], have: usize, width: usize, src: &[u64], j: usize) -> usize
-    requires { ⌜ (3 ≤ width) × (width ≤ 4) × (have + width ≤ length (now rest)) × (j + width ≤ length (now src)) ⌝ }
+    requires { ⌜ (3 ≤ width) × (have + width ≤ length (now rest)) × (j + width ≤ length (now src)) ⌝ }
     ensures { λ r. ⌜ Pushed width (now (rest .exit)) (now (rest .entry)) have r (pointAt width (now (src .entry)) j) ⌝ }
 {
     if width <= have {
@@ -177,9 +138,9 @@ fn push_high(rest: &mut [u64], have: usize, width: usize, src: &[u64], j: usize)
     have + width
 }
 
-// Each point of `src`, of three numbers or four, behind the first `have` numbers, in turn.
+// Each point of `src`, which have extras, behind the first `have` numbers, in turn.
 fn forward_high(rest: &mut [u64], have: usize, width: usize, src: &[u64]) -> usize
-    requires { ⌜ (3 ≤ width) × (width ≤ 4) × Whole width (now src) × (have + length (now src) ≤ length (now rest)) ⌝ }
+    requires { ⌜ (3 ≤ width) × Whole width (now src) × (have + length (now src) ≤ length (now rest)) ⌝ }
     ensures { λ r. ⌜ Holds (now (rest .exit)) (now (rest .entry)) r (laid width (take have (now (rest .entry))) (walked width false (now (src .entry)))) ⌝ }
 {
     if src.len() < width {
@@ -197,9 +158,9 @@ fn forward_high(rest: &mut [u64], have: usize, width: usize, src: &[u64]) -> usi
     h
 }
 
-// Each point of `src`, of three numbers or four, behind the first `have` numbers, the last point first.
+// Each point of `src`, which have extras, behind the first `have` numbers, the last point first.
 fn backward_high(rest: &mut [u64], have: usize, width: usize, src: &[u64]) -> usize
-    requires { ⌜ (3 ≤ width) × (width ≤ 4) × Whole width (now src) × (have + length (now src) ≤ length (now rest)) ⌝ }
+    requires { ⌜ (3 ≤ width) × Whole width (now src) × (have + length (now src) ≤ length (now rest)) ⌝ }
     ensures { λ r. ⌜ Holds (now (rest .exit)) (now (rest .entry)) r (laid width (take have (now (rest .entry))) (walked width true (now (src .entry)))) ⌝ }
 {
     if src.len() < width {
@@ -218,7 +179,7 @@ fn backward_high(rest: &mut [u64], have: usize, width: usize, src: &[u64]) -> us
 }
 
 // A run of points behind the first `have` numbers of the rest of a merged slice, in its own direction or turned. A point equal to the
-// last written is dropped, with its extras. Returns how many numbers there are. Points of two numbers, and of three or four, have loops of their own.
+// last written is dropped, with its extras. Returns how many numbers there are. Points of two numbers have loops of their own.
 pub fn append_run(rest: &mut [u64], have: usize, width: usize, src: &[u64], turned: bool) -> usize
     requires { ⌜ (2 ≤ width) × Whole width (now src) × (have + length (now src) ≤ length (now rest)) ⌝ }
     ensures { λ r. ⌜ Holds (now (rest .exit)) (now (rest .entry)) r (laid width (take have (now (rest .entry))) (walked width turned (now (src .entry)))) ⌝ }
@@ -229,16 +190,10 @@ pub fn append_run(rest: &mut [u64], have: usize, width: usize, src: &[u64], turn
         }
         return forward_two(rest, have, src);
     }
-    if width < 5 {
-        if turned {
-            return backward_high(rest, have, width, src);
-        }
-        return forward_high(rest, have, width, src);
-    }
     if turned {
-        return backward_wide(rest, have, width, src);
+        return backward_high(rest, have, width, src);
     }
-    forward_wide(rest, have, width, src)
+    forward_high(rest, have, width, src)
 }
 
 // `src` into `dst` from `at` on.

@@ -1,10 +1,10 @@
 -- Boxes, their levels and window questions, computed on the book: both sides of each edge.
 use mathlib.Core.Path.{refl}
 use lib.Ieee.{lt, le, eq, ofBits}
-use Rattle.rules.specs.Library.{ℕ, _*_, _≡_, Bool, true, false, List, [], _∷_, _++_, map, length, replicate, Settings, Box, Window}
+use Rattle.rules.specs.Library.{ℕ, _*_, _≡_, true, false, List, [], _∷_, _++_, map, length, replicate, Settings, Box, Window}
 use Rattle.rules.specs.Lists.{from, upto, keep}
 use Rattle.rules.specs.Plane.{Point, point, float}
-use Rattle.rules.specs.Boxes.{lesser, greater, union, empty, spot, grown, boxOf, inPairs, levels, stacked, four, boxNumbers, boxAt}
+use Rattle.rules.specs.Boxes.{lesser, greater, union, spot, grown, boxOf, inPairs, levels, stacked, four, boxNumbers, boxAt}
 use Rattle.rules.specs.Layout.{Lines, lent}
 use Rattle.rules.specs.Refusals.{firstOf, rooms, refusalOf}
 use Rattle.rules.specs.Calls.{builtOf}

@@ -3,15 +3,15 @@
 -- Lines lie along the x axis and are given by their x. Tolerance 1 puts 0.25 and 0.75 into one cell.
 use Prim.Native.Nat.{ℕ}
 use mathlib.Core.Bool.{Bool, true, false, _&&_, not}
-use mathlib.Core.List.{List, [], _∷_, map, flatMap}
+use mathlib.Core.List.{List, [], _∷_, map}
 use mathlib.Core.Option.{none}
-use lib.Dec.{T, eqb}
+use lib.Dec.{T}
 use lib.ListN.{replicate}
-use lib.Ieee.{lt, eq, le, sub, div, ofBits}
+use lib.Ieee.{lt, eq, sub, div}
 use Rattle.rules.specs.Library.{Meeting}
 use Rattle.rules.specs.Lists.{anyOf, allOf}
 use Rattle.rules.specs.Plane.{Point, point, float}
-use Rattle.rules.specs.Chaining.{Line, lay}
+use Rattle.rules.specs.Chaining.{Line}
 use Rattle.rules.specs.Layout.{Lines, lent}
 use Rattle.rules.specs.Refusals.{noChain, chainRefusalOf, sourceOf}
 use Rattle.rules.specs.Calls.{unless, viewed}

@@ -1,7 +1,7 @@
 -- 02 [9], computed on the book: lent pieces that pass 19 and such as fail one clause, the places of 19 and 7 among the refusals, and that finishing what
 -- the first call leaves is building. Three lines: `0,0 1,0`, `1,0 2,0`, which round one joins, and `2,0 3.5,0`, which passes through.
 use Prim.Native.Nat.{ℕ}
-use mathlib.Core.Bool.{Bool, _&&_, true, false}
+use mathlib.Core.Bool.{Bool, _&&_}
 use mathlib.Core.List.{List, [], _∷_}
 use lib.Dec.{T, eqb}
 use lib.ListN.{replicate}

@@ -1,7 +1,7 @@
 -- Small records, computed on the book: both byte orders, each refusal, what is read and what is written.
 use mathlib.Core.Path.{refl}
 use mathlib.Core.List.{flatMap}
-use Rattle.rules.specs.Library.{ℕ, _*_, _≡_, true, false, List, [], _∷_, _++_, replicate}
+use Rattle.rules.specs.Library.{ℕ, _*_, _≡_, List, [], _∷_, _++_, replicate}
 use Rattle.rules.specs.Lists.{total, from}
 use Rattle.rules.specs.Refusals.{firstOf, sourceOf, noChain, chainRefusalOf}
 use Rattle.rules.specs.Types.{widthOf}

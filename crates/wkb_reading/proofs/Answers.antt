@@ -1,12 +1,12 @@
 -- What a reading call answers: refused for the run, refused for a room, or accepted with everything stored.
-use Prim.Native.Nat.{ℕ, zero, suc, _-_, _*_, _/_, _≤_, _<_}
+use Prim.Native.Nat.{ℕ, zero, suc, _-_, _*_, _/_, _≤_}
 use mathlib.Core.Path.{_≡_, refl, sym, ap, _∙_, subst}
-use mathlib.Core.Bool.{Bool, true, false, not, _||_, true≢false}
+use mathlib.Core.Bool.{Bool, true, false, _||_, true≢false}
 use mathlib.Core.List.{List, [], _∷_}
 use native.Mathlib.Omega.{arith}
 use lib.ListN.{length, set}
 use lib.Dec.{eqb, ltb}
-use borrow.Author.Tests.{eqb-true, ne-eqb, ltb-false, lt-ltb, le-ltb}
+use borrow.Author.Tests.{eqb-true, ne-eqb, ltb-false}
 use Rattle.rules.specs.Lists.{total}
 use Rattle.rules.specs.Refusals.{firstOf}
 use Rattle.rules.specs.declared.Answer.the-variants.{Accepted, Refused}
@@ -101,9 +101,6 @@ module _ (i : LentRun) where
 
 pub short-first : (a b : Bool) → a ≡ true → a || b ≡ true
 short-first a b e = rw e
-
-pub short-second : (a b : Bool) → a ≡ false → b ≡ true → a || b ≡ true
-short-second a b e f = rw (e, f)
 
 pub short-neither : (a b : Bool) → a ≡ false → b ≡ false → a || b ≡ false
 short-neither a b e f = rw (e, f)

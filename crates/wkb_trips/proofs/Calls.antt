@@ -1,14 +1,14 @@
 -- The two calls, one after the other, by what each determines.
 use Prim.Native.Nat.{ℕ, zero, suc, _+_, _-_, _*_, _/_, _≤_}
 use mathlib.Core.Path.{_≡_, refl, sym, ap, ap₂, _∙_, subst}
-use mathlib.Core.Bool.{Bool, true, false, _||_}
-use mathlib.Core.List.{List, [], _∷_, _++_, map, flatMap}
+use mathlib.Core.Bool.{Bool, true, false}
+use mathlib.Core.List.{List, [], _∷_, _++_, map}
 use native.Mathlib.Omega.{arith}
 use lib.ListN.{length, take, drop, length-map}
-use lib.Seq.{take-at}
+use lib.Seq.{take-at, drop-at}
 use lib.Dec.{eqb, ltb}
 use borrow.Author.Tests.{eqb-true, eqb-false, ne-eqb, le-ltb}
-use Rattle.rules.specs.Lists.{from}
+use Rattle.rules.specs.Lists.{total, from}
 use Rattle.rules.specs.declared.Answer.{Answer}
 use Rattle.rules.specs.declared.Answer.the-variants.{Accepted}
 use Rattle.rules.specs.Calls.{unless, answerOf, written}
@@ -18,9 +18,9 @@ use Rattle.build_refusals.proofs.Laws.{rung, top}
 use Rattle.wkb_records.proofs.Records.{first-good, counts-length}
 use Rattle.wkb_reading.proofs.Answers.{accepted, refused-run, sound, needed, short-neither}
 use Rattle.wkb_writing.proofs.Answers.{opened}
-use Rattle.wkb_trips.specs.Trips.{Below, Fitting, numbersAt, allNumbers, allCounts, RoomToRead, Returned, Ordered, linesTable, Rewritten}
+use Rattle.wkb_trips.specs.Trips.{Below, Fitting, allNumbers, RoomToRead, Returned, Kept, linesTable, Rewritten}
 use Rattle.wkb_trips.proofs.Lines.{lines-named}
-use Rattle.wkb_trips.proofs.Runs.{ReadBack, read-back, write-back}
+use Rattle.wkb_trips.proofs.Runs.{read-back, records-are, sums-are, write-each, write-back}
 
 -- an accepted call is not refused, and its result is the second number
 accepted-is : (refusal result r : ℕ) → Accepted r ≡ answerOf refusal result → (refusal ≡ 0) × (r ≡ result)
@@ -137,26 +137,32 @@ unfolding recordsOf
 records-many [] run = refl
 records-many (n ∷ l) run = ap suc (records-many l (drop n run))
 
--- Writing the lines that an accepted call read, in the byte order that all its records have and with room enough, is accepted and gives back the run and
--- its lengths. The lines are those of source 0, one chain a record, in a table that may go on.
-pub read-then-written : (j : LentRun) (merged rows : List ℕ) (order : ℕ) (run₀ lengths₀ : List ℕ) → Below 256 (j .run) → Ordered order (lentRecords j) → order ≤ 1
+-- Writing the lines that an accepted call read, in either byte order and with room enough, is accepted. It gives back each record that was in that order, and
+-- the run where all were. The lines are those of source 0, one chain a record, in a table that may go on.
+pub read-then-written : (j : LentRun) (merged rows : List ℕ) (order : ℕ) (run₀ lengths₀ : List ℕ) → Below 256 (j .run) → order ≤ 1
     → length (j .run) ≤ length run₀ → length (j .lengths) ≤ length lengths₀ → {n : ℕ} {coordinates′ counts′ type′ : List ℕ} → Read j (Accepted n) coordinates′ counts′ type′
     → {a : Answer} {run′ lengths′ : List ℕ} → Wrote (chainsAs (runType (lentRecords j)) coordinates′ merged (linesTable 0 0 (take n counts′) ++ rows) n order run₀ lengths₀) a run′ lengths′
-    → Rewritten (j .run) (j .lengths) a run′ run₀ lengths′ lengths₀
-unfolding answerOf unless lentRecords
-read-then-written j merged rows order run₀ lengths₀ b o h room many {n} {coordinates′} {counts′} {type′} d {a} {run′} {lengths′} w =
+    → Rewritten order j a run′ run₀ lengths′ lengths₀
+unfolding answerOf unless written lentRecords
+read-then-written j merged rows order run₀ lengths₀ b h room many {n} {coordinates′} {counts′} {type′} d {a} {run′} {lengths′} w =
     let q = taken-in j n coordinates′ counts′ type′ d in
     let l : List (List ℕ) = recordsOf (j .lengths) (j .run) in
     let i : LentChains = chainsAs (runType l) coordinates′ merged (linesTable 0 0 (take n counts′) ++ rows) n order run₀ lengths₀ in
     let s = sound (j .run) (j .lengths) (q .passed) in
     let known = type-known l (s .passed) in
     let named = lines-named i l [] [] (drop (length (coordinatesOf l)) (j .coordinates)) rows 0 0 (s .passed) (q .coordinates) (ap (λ (c : List ℕ). linesTable 0 0 c ++ rows) (q .counts)) refl (omega arith) in
-    let back = write-back i (j .run) (j .lengths) b (q .passed) refl (q .many) o (named .0) in
+    let each = write-each i (j .run) (j .lengths) b (q .passed) refl (q .many) (named .0) in
+    let long : length (runOf i) ≡ length (j .run) = sym (sums-are i) ∙ ap total (each .1) ∙ s .adds in
     let there : anyMissing (widthOf (runType l)) coordinates′ merged (linesTable 0 0 (take n counts′) ++ rows) 0 n ≡ false =
     ap (anyMissing (widthOf (runType l)) coordinates′ merged (linesTable 0 0 (take n counts′) ++ rows) 0) (q .many ∙ sym (records-many (j .lengths) (j .run))) ∙ named .1 in
-    let ok = writes i known h there (subst (λ (t : List ℕ). length t ≤ length run₀) (sym (back .0)) room) (subst (λ (m : ℕ). m ≤ length lengths₀) (sym (q .many)) many) in
+    let ok = writes i known h there (subst (λ (m : ℕ). m ≤ length run₀) (sym long) room) (subst (λ (m : ℕ). m ≤ length lengths₀) (sym (q .many)) many) in
+    let bytes : run′ ≡ runOf i ++ drop (length (runOf i)) run₀ = w .run ∙ rw ok in
+    let back : recordsOf (j .lengths) (take (length (j .run)) run′) ≡ map (chainRecord i) (from 0 n) =
+    ap₂ recordsOf (sym (each .1)) (ap (take (length (j .run))) bytes ∙ take-at (runOf i) (drop (length (runOf i)) run₀) (length (j .run)) long) ∙ records-are i in
     record {
-      answer = w .answer ∙ rw ok (ap (λ (t : List ℕ). Accepted (length t)) (back .0));
-      bytes = w .run ∙ rw ok (ap (λ (t : List ℕ). written t run₀) (back .0));
-      sizes = w .lengths ∙ rw ok (ap (λ (t : List ℕ). written t lengths₀) (back .1));
+      answer = w .answer ∙ rw ok (ap Accepted long);
+      sizes = w .lengths ∙ rw ok (ap (λ (t : List ℕ). t ++ drop (length t) lengths₀) (each .1));
+      records = subst (λ (t : List (List ℕ)). Kept order l t) (sym back) (each .0);
+      whole = λ o. bytes ∙ ap (λ (t : List ℕ). t ++ drop (length t) run₀) (write-back i (j .run) (j .lengths) (q .passed) o (each .0));
+      beyond = ap (drop (length (j .run))) bytes ∙ drop-at (runOf i) (drop (length (runOf i)) run₀) (length (j .run)) long ∙ ap (λ (m : ℕ). drop m run₀) long;
     }

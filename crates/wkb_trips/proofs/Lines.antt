@@ -1,7 +1,7 @@
 -- The lines that were read, named by a table: every chain is there, and is the record's line. Rooms may be longer than what stands in them.
 use Prim.Native.Nat.{ℕ, suc, _+_, _-_, _*_, _≤_}
 use mathlib.Core.Path.{_≡_, refl, sym, ap, ap₂, _∙_}
-use mathlib.Core.Bool.{Bool, true, false}
+use mathlib.Core.Bool.{false}
 use mathlib.Core.List.{List, [], _∷_, _++_, append-assoc}
 use native.Mathlib.Omega.{arith}
 use native.Mathlib.Nat.{add-mul}
@@ -22,7 +22,7 @@ entry-at : (table p l : List ℕ) (k n : ℕ) → table ≡ p ++ l → length p 
 entry-at table p l k n e h =
     ap₂ (λ (t : List ℕ) (m : ℕ). getD t (m + n) 0) e (sym h) ∙ getD-append-add p l n 0
 
-doubles-long : (t : ℕ) (r : List ℕ) → Good t r → length (doublesOf r) ≡ countOf r * widthOf t
+pub doubles-long : (t : ℕ) (r : List ℕ) → Good t r → length (doublesOf r) ≡ countOf r * widthOf t
 doubles-long t r g = let l = g .long in omega (arith, record-numbers r)
 
 -- chain k, by the numbers of its row: the part of the input behind p that has so many coordinates

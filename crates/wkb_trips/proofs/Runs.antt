@@ -1,7 +1,7 @@
 -- Runs of records. Reading what was written gives the chains' numbers and counts, and writing what was read gives back the run.
 use Prim.Native.Nat.{ℕ, zero, suc, _+_, _-_, _*_, _≤_, _<_}
-use mathlib.Core.Path.{_≡_, refl, sym, ap, ap₂, _∙_}
-use mathlib.Core.Bool.{Bool, true, false, not}
+use mathlib.Core.Path.{_≡_, refl, sym, ap, ap₂, _∙_, subst}
+use mathlib.Core.Bool.{Bool, true, false}
 use mathlib.Core.List.{List, [], _∷_, _++_, map, flatMap}
 use native.Mathlib.Omega.{arith}
 use lib.ListN.{length, take, drop, length-append, length-drop, take-append-drop}
@@ -14,9 +14,11 @@ use Rattle.rules.specs.Types.{widthOf}
 use Rattle.rules.specs.Wkb.{byteOrder, countOf, doublesOf, recordsOf, runType, recordsRefusal, runRefusal, coordinatesOf, countsOf, recordBy, anyMissing, chainRecord, LentChains, runOf, lengthsOf, writeRefusalOf}
 use Rattle.wkb_records.proofs.Records.{Good, first-good, refusal-pass}
 use Rattle.wkb_reading.proofs.Answers.{run-adds, sound}
+use Rattle.wkb_writing.proofs.Laws.{record-length}
 use Rattle.wkb_writing.proofs.Chains.{view-long}
 use Rattle.wkb_writing.proofs.Answers.{first-there}
-use Rattle.wkb_trips.specs.Trips.{Below, Fitting, Ordered, Named, numbersAt, allNumbers, allCounts}
+use Rattle.wkb_trips.specs.Trips.{Below, Fitting, Kept, Ordered, Named, numbersAt, allNumbers, allCounts}
+use Rattle.wkb_trips.proofs.Lines.{doubles-long}
 use Rattle.wkb_trips.proofs.Numbers.{below-take, below-drop}
 use Rattle.wkb_trips.proofs.Records.{passes, count-read, numbers-back, record-read, record-back}
 
@@ -112,11 +114,11 @@ pub record ReadBack (i : LentChains) : Type 0 where
   pub coordinates : coordinatesOf (recordsOf (lengthsOf i) (runOf i)) ≡ allNumbers i
   pub counts : countsOf (recordsOf (lengthsOf i) (runOf i)) ≡ allCounts i
 
-records-are : (i : LentChains) → recordsOf (lengthsOf i) (runOf i) ≡ map (chainRecord i) (from 0 (i .number))
+pub records-are : (i : LentChains) → recordsOf (lengthsOf i) (runOf i) ≡ map (chainRecord i) (from 0 (i .number))
 unfolding lengthsOf runOf
 records-are i = cut-back (chainRecord i) (from 0 (i .number))
 
-sums-are : (i : LentChains) → total (lengthsOf i) ≡ length (runOf i)
+pub sums-are : (i : LentChains) → total (lengthsOf i) ≡ length (runOf i)
 unfolding lengthsOf runOf
 sums-are i = sum-back (chainRecord i) (from 0 (i .number))
 
@@ -154,26 +156,52 @@ one-back i t r j e b g o c n =
     ap (λ (x : ℕ). recordBy (i .order) x (entry (i .table) j 4) (numbersAt i j)) e ∙ ap₂ (λ (x : ℕ) (y : List ℕ). recordBy (i .order) t x y) c n
     ∙ record-back (i .order) t r b g o
 
-back-run : (i : LentChains) (t : ℕ) (lengths run : List ℕ) (j : ℕ) → i .type ≡ t → total lengths ≡ length run → Below 256 run
-    → recordsRefusal t (recordsOf lengths run) ≡ 0 → Ordered (i .order) (recordsOf lengths run) → Named i j (recordsOf lengths run)
-    → (flatMap (chainRecord i) (from j (length lengths)) ≡ run) × (map (λ k. length (chainRecord i k)) (from j (length lengths)) ≡ lengths)
-unfolding recordsOf Ordered Named total flatMap from
-back-run i t [] [] j e s b r o n = (refl, refl)
-back-run i t [] (x ∷ run) j e s b r o n = absurd (omega arith)
-back-run i t (m ∷ lengths) run j e s b r o n =
+-- a record that is written is as long as the one that was read, in either order
+one-long : (i : LentChains) (t : ℕ) (r : List ℕ) (j : ℕ) → Good t r → numbersAt i j ≡ doublesOf r → length (chainRecord i j) ≡ length r
+unfolding chainRecord
+one-long i t r j g n =
+    record-length (i .order) (i .type) (entry (i .table) j 4) (numbersAt i j)
+    ∙ ap (λ (l : List ℕ). 9 + length l * 8) n ∙ ap (λ (m : ℕ). 9 + m * 8) (doubles-long t r g) ∙ sym (g .long)
+
+back-each : (i : LentChains) (t : ℕ) (lengths run : List ℕ) (j : ℕ) → i .type ≡ t → total lengths ≡ length run → Below 256 run
+    → recordsRefusal t (recordsOf lengths run) ≡ 0 → Named i j (recordsOf lengths run)
+    → Kept (i .order) (recordsOf lengths run) (map (chainRecord i) (from j (length lengths))) × (map (λ k. length (chainRecord i k)) (from j (length lengths)) ≡ lengths)
+unfolding recordsOf Kept Named total from
+back-each i t [] run j e s b r n = (tt, refl)
+back-each i t (m ∷ lengths) run j e s b r n =
     let g = first-good t (take m run) (recordsOf lengths (drop m run)) r in
     let k : length (take m run) ≡ m = length-take-le m run (omega arith) in
     let d : length (drop m run) ≡ length run - m = length-drop m run in
-    let here : chainRecord i j ≡ take m run = one-back i t (take m run) j e (below-take 256 m run b) (g .0) (o .0) (n .0) (n .1) in
-    let more = back-run i t lengths (drop m run) (suc j) e (omega arith) (below-drop 256 m run b) (g .1) (o .1) (n .2) in
-    (ap₂ (λ (x y : List ℕ). x ++ y) here (more .0) ∙ take-append-drop m run, ap₂ (λ (x : ℕ) (y : List ℕ). x ∷ y) (ap length here ∙ k) (more .1))
+    let more = back-each i t lengths (drop m run) (suc j) e (omega arith) (below-drop 256 m run b) (g .1) (n .2) in (
+      (λ o. one-back i t (take m run) j e (below-take 256 m run b) (g .0) o (n .0) (n .1), more .0),
+      ap₂ (λ (x : ℕ) (y : List ℕ). x ∷ y) (one-long i t (take m run) j (g .0) (n .1) ∙ k) (more .1),
+    )
 
--- Writing what was read, in the order that all its records have, gives back the run and its lengths.
-pub write-back : (i : LentChains) (run lengths : List ℕ) → Below 256 run → runRefusal run lengths ≡ 0
-    → i .type ≡ runType (recordsOf lengths run) → i .number ≡ length lengths → Ordered (i .order) (recordsOf lengths run) → Named i 0 (recordsOf lengths run)
-    → (runOf i ≡ run) × (lengthsOf i ≡ lengths)
-unfolding runOf lengthsOf
-write-back i run lengths b z t k o n =
+-- Writing what was read gives back each record that was in the order that is written, and the lengths.
+pub write-each : (i : LentChains) (run lengths : List ℕ) → Below 256 run → runRefusal run lengths ≡ 0
+    → i .type ≡ runType (recordsOf lengths run) → i .number ≡ length lengths → Named i 0 (recordsOf lengths run)
+    → Kept (i .order) (recordsOf lengths run) (map (chainRecord i) (from 0 (i .number))) × (lengthsOf i ≡ lengths)
+unfolding lengthsOf
+write-each i run lengths b z t k n =
     let s = sound run lengths z in
-    let q = back-run i (runType (recordsOf lengths run)) lengths run 0 t (s .adds) b (s .passed) o n in
-    (ap (λ (m : ℕ). flatMap (chainRecord i) (from 0 m)) k ∙ q .0, ap (λ (m : ℕ). map (λ (j : ℕ). length (chainRecord i j)) (from 0 m)) k ∙ q .1)
+    let q = back-each i (runType (recordsOf lengths run)) lengths run 0 t (s .adds) b (s .passed) n in (
+      subst (λ (m : ℕ). Kept (i .order) (recordsOf lengths run) (map (chainRecord i) (from 0 m))) (sym k) (q .0),
+      ap (λ (m : ℕ). map (λ (j : ℕ). length (chainRecord i j)) (from 0 m)) k ∙ q .1,
+    )
+
+-- and the run, where all of them were
+back-run : (i : LentChains) (lengths run : List ℕ) (ks : List ℕ) → total lengths ≡ length run → Ordered (i .order) (recordsOf lengths run)
+    → Kept (i .order) (recordsOf lengths run) (map (chainRecord i) ks) → flatMap (chainRecord i) ks ≡ run
+unfolding recordsOf Ordered Kept total flatMap
+back-run i [] [] [] s o n = refl
+back-run i [] (x ∷ run) ks s o n = absurd (omega arith)
+back-run i [] [] (k ∷ ks) s o n = absurd n
+back-run i (m ∷ lengths) run [] s o n = absurd n
+back-run i (m ∷ lengths) run (k ∷ ks) s o n =
+    let d : length (drop m run) ≡ length run - m = length-drop m run in
+    ap₂ (λ (x y : List ℕ). x ++ y) (n .0 (o .0)) (back-run i lengths (drop m run) ks (omega arith) (o .1) (n .1)) ∙ take-append-drop m run
+
+pub write-back : (i : LentChains) (run lengths : List ℕ) → runRefusal run lengths ≡ 0 → Ordered (i .order) (recordsOf lengths run)
+    → Kept (i .order) (recordsOf lengths run) (map (chainRecord i) (from 0 (i .number))) → runOf i ≡ run
+unfolding runOf
+write-back i run lengths z o n = back-run i lengths run (from 0 (i .number)) (sound run lengths z .adds) o n

@@ -1,14 +1,14 @@
 -- What the two round trips speak of: numbers that fit their types, a table that names the records of a run, and what each trip gives back.
-use Prim.Native.Nat.{ℕ, zero, suc, _+_, _≤_, _<_}
+use Prim.Native.Nat.{ℕ, suc, _+_, _≤_, _<_}
 use mathlib.Core.Path.{_≡_}
 use mathlib.Core.List.{List, [], _∷_, map, flatMap}
-use lib.ListN.{length, getD}
+use lib.ListN.{length, take, drop, getD}
 use Rattle.rules.specs.declared.Answer.{Answer}
 use Rattle.rules.specs.declared.Answer.the-variants.{Accepted}
 use Rattle.rules.specs.Lists.{from}
 use Rattle.rules.specs.Refusals.{entry}
 use Rattle.rules.specs.Calls.{viewed, written}
-use Rattle.rules.specs.Wkb.{byteOrder, countOf, doublesOf, LentRun, LentChains}
+use Rattle.rules.specs.Wkb.{byteOrder, countOf, doublesOf, recordsOf, LentRun, lentRecords, LentChains}
 
 -- every number of a list is below b
 unfoldable pub Below : ℕ → List ℕ → Type 0
@@ -49,6 +49,13 @@ pub record Returned (i : LentChains) (j : LentRun) (a : Answer) (coordinates′ 
 
 -- ---- what was read is written
 
+-- of two lists of records, as many in one as in the other, each of the second is that of the first where that one has the byte order o
+unfoldable pub Kept : ℕ → List (List ℕ) → List (List ℕ) → Type 0
+Kept o [] [] = Unit {0}
+Kept o [] (s ∷ m) = ⊥
+Kept o (r ∷ l) [] = ⊥
+Kept o (r ∷ l) (s ∷ m) = (byteOrder r ≡ o → s ≡ r) × Kept o l m
+
 -- every record has the byte order o
 unfoldable pub Ordered : ℕ → List (List ℕ) → Type 0
 Ordered o [] = Unit {0}
@@ -64,8 +71,11 @@ unfoldable pub linesTable : ℕ → ℕ → List ℕ → List ℕ
 linesTable k first [] = []
 linesTable k first (c ∷ l) = k ∷ 1 ∷ 0 ∷ first ∷ c ∷ 0 ∷ linesTable (suc k) (first + c) l
 
--- the call is accepted, with the run and its lengths
-pub record Rewritten (run lengths : List ℕ) (a : Answer) (run′ run₀ lengths′ lengths₀ : List ℕ) : Type 0 where
-  pub answer : a ≡ Accepted (length run)
-  pub bytes : run′ ≡ written run run₀
-  pub sizes : lengths′ ≡ written lengths lengths₀
+-- the call is accepted, with the lengths that were read; each record comes back that was in the order that is written, and the run where all were. Beyond it
+-- the room is as before
+pub record Rewritten (order : ℕ) (j : LentRun) (a : Answer) (run′ run₀ lengths′ lengths₀ : List ℕ) : Type 0 where
+  pub answer : a ≡ Accepted (length (j .run))
+  pub sizes : lengths′ ≡ written (j .lengths) lengths₀
+  pub records : Kept order (lentRecords j) (recordsOf (j .lengths) (take (length (j .run)) run′))
+  pub whole : Ordered order (lentRecords j) → run′ ≡ written (j .run) run₀
+  pub beyond : drop (length (j .run)) run′ ≡ drop (length (j .run)) run₀

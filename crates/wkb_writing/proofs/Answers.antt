@@ -9,7 +9,7 @@ use lib.Dec.{eqb, ltb}
 use Rattle.rules.specs.Lists.{from}
 use Rattle.rules.specs.Refusals.{noChain, entry, recordSize}
 use Rattle.rules.specs.declared.Answer.the-variants.{Accepted, Refused}
-use Rattle.rules.specs.Calls.{viewed, unless, answerOf, written}
+use Rattle.rules.specs.Calls.{viewed, unless, answerOf}
 use Rattle.build_refusals.proofs.Laws.{Left}
 use Rattle.build_question.proofs.Laws.{stands}
 use Rattle.rules.specs.Types.{widthOf}

@@ -1,12 +1,12 @@
 -- Chains of a table: how long the view of a chain that is there is, its record, and chains one after another.
 use Prim.Native.Nat.{ℕ, suc, _+_, _-_, _*_, _≤_, _<_}
-use mathlib.Core.Path.{_≡_, refl, sym, ap, ap₂, _∙_, subst}
-use mathlib.Core.Bool.{Bool, true, false}
+use mathlib.Core.Path.{_≡_, sym, ap, _∙_, subst}
+use mathlib.Core.Bool.{true, false}
 use mathlib.Core.List.{List}
 use native.Mathlib.Omega.{arith}
 use native.Mathlib.Nat.{add-mul}
 use native.Mathlib.Numerals.{add-one}
-use lib.ListN.{length, take, drop, length-drop}
+use lib.ListN.{length, drop, length-drop}
 use lib.Seq.{length-take-le}
 use lib.Dec.{ltb}
 use borrow.Author.Tests.{lt-ltb, le-ltb}
@@ -17,7 +17,6 @@ use Rattle.rules.specs.Wkb.{recordBy, anyMissing, sizeOf}
 use Rattle.build_question.specs.Parts.{partOf}
 use Rattle.build_question.proofs.Laws.{stands, part-there, viewed-part}
 use Rattle.wkb_writing.specs.Writing.{bytesFrom, RecordPut, chainBytes, Chain}
-use Rattle.wkb_writing.proofs.Laws.{record-length}
 
 -- ---- a chain that is there
 

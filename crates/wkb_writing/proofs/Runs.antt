@@ -11,7 +11,6 @@ use Rattle.rules.specs.Refusals.{noChain, entry}
 use Rattle.point_slices.specs.Holds.{Holds}
 use Rattle.point_slices.proofs.Laws.{from-length}
 use Rattle.rules.specs.Calls.{viewed}
-use Rattle.rules.specs.Types.{widthOf}
 use Rattle.rules.specs.Wkb.{sizeOf, anyMissing, chainRecord, LentChains, runOf, lengthsOf}
 use Rattle.point_slices.proofs.Beginnings.{holds-more, holds-set, whole}
 use Rattle.wkb_writing.specs.Writing.{bytesFrom, RecordPut, chainBytes, Chain, Writable, Written}

@@ -1,7 +1,7 @@
 -- What writing chains asks for, and what it leaves.
 use Prim.Native.Nat.{ℕ, zero, suc, _+_, _*_, _/_, _≤_}
 use mathlib.Core.Path.{_≡_}
-use mathlib.Core.Bool.{true, false}
+use mathlib.Core.Bool.{false}
 use mathlib.Core.List.{List, flatMap}
 use lib.ListN.{length, take}
 use Rattle.rules.specs.Refusals.{entry, noChain}

@@ -5,8 +5,6 @@ use Rattle.box_levels.proofs.extent_at.Tie as tie
 use mathlib.Core.Path.{refl}
 use Prim.Native.Nat.{_+_, _*_}
 use native.Mathlib.Omega.{arith}
-use lib.ListN.{getD}
-use denote.Ref.{now}
 use Rattle.rules.specs.Boxes.{boxAt}
 use Rattle.box_levels.proofs.Extents.{bits-real}
 

@@ -1,5 +1,4 @@
 -- The bits of the infinities are no NaN's.
-use borrow.Author.Needs.{needs}
 use Rattle.box_levels.proofs.nothing.Statement.{statement}
 use Rattle.box_levels.proofs.nothing.Tie as tie
 use mathlib.Core.Path.{refl}

@@ -2,7 +2,6 @@
 use borrow.Author.Needs.{needs}
 use Rattle.box_levels.proofs.of_four.Statement.{statement}
 use Rattle.box_levels.proofs.of_four.Tie as tie
-use native.Mathlib.Omega.{arith}
 use Rattle.box_levels.proofs.Points.{first-real, second-real, third-real, fourth-real, four-boxed}
 
 add-j : tie.Need-add-j

@@ -1,5 +1,4 @@
 -- The two values are read from their bits, which are no NaN's.
-use borrow.Author.Needs.{needs}
 use Rattle.box_levels.proofs.spot.Statement.{statement}
 use Rattle.box_levels.proofs.spot.Tie as tie
 use mathlib.Core.Path.{refl}

@@ -1,12 +1,10 @@
 -- After j turns the boxes of the first j chains stand, and then come the levels above them.
 use Rattle.build_boxes.proofs.lay_boxes.Statement.{statement}
 use Rattle.build_boxes.proofs.lay_boxes.Tie as tie
-use borrow.Author.Needs.{needs}
 use Prim.Native.Nat.{_≤_, _-_}
 use mathlib.Core.Path.{_∙_, subst}
 use native.Mathlib.Nat.{le-antisymm}
 use native.Mathlib.Omega.{arith}
-use denote.Ref.{now}
 use Rattle.build_boxes.proofs.Laying.{part-lying, own-real, own-back, Laid, laid-start, laid-more, laid-raisable, laid-done}
 
 abbrev Inv-loop : tie.InvT-loop

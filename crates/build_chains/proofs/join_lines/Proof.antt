@@ -3,7 +3,7 @@ use borrow.Author.Needs.{needs}
 use Rattle.build_chains.proofs.join_lines.Statement.{statement}
 use Rattle.build_chains.proofs.join_lines.Tie as tie
 use lib.Ieee.{ofBits}
-use Rattle.build_chains.proofs.Rounds.{into, once-left, second-asks, twice-left}
+use Rattle.build_chains.proofs.Rounds.{once-left, second-asks, twice-left}
 
 round-one-requires : tie.Need-round-one-requires
 round-one-requires c κs = search needs

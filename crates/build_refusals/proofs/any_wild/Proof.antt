@@ -6,7 +6,6 @@ use Prim.Native.Nat.{_+_, _-_, _/_, _^_, _≤_, _<_}
 use mathlib.Core.Path.{_≡_, ap, _∙_}
 use native.Mathlib.Nat.{zero-add}
 use native.Mathlib.Omega.{arith}
-use borrow.Author.Needs.{needs}
 use lib.Bits.{bitOr, or-lt}
 use lib.Dec.{ltb}
 use lib.ListN.{length, drop}

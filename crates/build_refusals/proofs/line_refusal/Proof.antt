@@ -2,7 +2,7 @@
 use borrow.Author.Needs.{needs}
 use Rattle.build_refusals.proofs.line_refusal.Statement.{statement}
 use Rattle.build_refusals.proofs.line_refusal.Tie as tie
-use Prim.Native.Nat.{ℕ, _*_}
+use Prim.Native.Nat.{ℕ}
 use mathlib.Core.Path.{refl, sym, _∙_}
 use denote.Ref.{now}
 use lib.ListN.{drop}

@@ -2,11 +2,7 @@
 use borrow.Author.Needs.{needs}
 use Rattle.chain_junctions.proofs.side_direction.Statement.{statement}
 use Rattle.chain_junctions.proofs.side_direction.Tie as tie
-use Rattle.chain_junctions.proofs.side_direction.Reads as reads
-use Rattle.chain_junctions.proofs.side_direction.Lts as lts
-use Rattle.point_direction.proofs.piece_direction.Reads as piece-direction-reads
-use Rattle.chain_pieces.proofs.coordinates_of.Reads as coordinates-of-reads
-use mathlib.Core.Path.{_≡_, sym, ap, subst, _∙_}
+use mathlib.Core.Path.{sym, ap, subst, _∙_}
 use mathlib.Core.List.{List}
 use Prim.Native.Nat.{ℕ}
 use Rattle.rules.specs.Plane.{points, directionOf}

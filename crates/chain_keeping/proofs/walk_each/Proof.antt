@@ -2,12 +2,12 @@
 use Rattle.chain_keeping.proofs.walk_each.Statement.{statement}
 use Rattle.chain_keeping.proofs.walk_each.Tie as tie
 use Prim.Native.Nat.{_≤_, _-_, _+_, _*_}
-use mathlib.Core.Path.{_≡_, refl, sym, _∙_}
+use mathlib.Core.Path.{_≡_, refl}
 use native.Mathlib.Omega.{arith}
 use borrow.Author.Needs.{needs}
 use lib.ListN.{length, length-set}
 use Rattle.point_slices.specs.Holds.{HoldsFrom}
-use Rattle.point_slices.proofs.Laws.{from-start, from-set, from-length}
+use Rattle.point_slices.proofs.Laws.{from-start, from-set}
 use Rattle.rules.specs.Lists.{from, upto}
 use Rattle.chain_keeping.specs.Keeping.{entriesOf}
 use Rattle.chain_keeping.proofs.Alone.{entries-next}

@@ -1,11 +1,8 @@
 use borrow.Author.Needs.{needs}
 use Rattle.chain_keys.proofs.number_at.Statement.{statement}
 use Rattle.chain_keys.proofs.number_at.Tie as tie
-use Rattle.chain_keys.proofs.number_at.Reads as reads
-use Rattle.chain_keys.proofs.number_at.Lts as lts
-use Rattle.chain_pieces.proofs.coordinates_of.Reads as coordinates-of-reads
 use native.Mathlib.Omega.{arith}
-use mathlib.Core.Path.{ap, sym, _∙_}
+use mathlib.Core.Path.{ap, _∙_}
 use mathlib.Core.List.{List}
 use Prim.Native.Nat.{ℕ, _+_, _-_, _≤_}
 use lib.ListN.{length, getD}

@@ -2,7 +2,7 @@
 use borrow.Author.Needs.{needs}
 use Rattle.lent_taking.proofs.row_end.Statement.{statement}
 use Rattle.lent_taking.proofs.row_end.Tie as tie
-use Prim.Native.Nat.{ℕ, _-_, _*_, _+_}
+use Prim.Native.Nat.{_-_, _*_, _+_}
 use mathlib.Core.Path.{_≡_, sym, ap, _∙_}
 use denote.Ref.{now}
 use native.Mathlib.Omega.{arith}

@@ -2,11 +2,9 @@
 use borrow.Author.Needs.{needs}
 use Rattle.lent_taking.proofs.take_row.Statement.{statement}
 use Rattle.lent_taking.proofs.take_row.Tie as tie
-use Prim.Native.Nat.{ℕ, _*_}
-use mathlib.Core.Path.{_≡_, _∙_, subst}
+use mathlib.Core.Path.{_∙_}
 use denote.Ref.{now}
 use native.Mathlib.Omega.{arith}
-use Rattle.rules.specs.Refusals.{pieceSize}
 use Rattle.lent_taking.proofs.Row.{front-long, members-fit, marks-fit, listing-fit, row-few, took-row}
 
 row-end-requires : tie.Need-row-end-requires

@@ -1,7 +1,6 @@
 -- A call by one of the routes. Refused, nothing is touched. Accepted, the ends are put into the workspace, the route leaves the selected pairs behind them,
 -- they are taken out, and the workspace is cleared: the laws of `lending` make the book's record of these four.
 use borrow.Author.Needs.{needs}
-use Prim.Native.Nat.{ℕ, _*_, _≤_}
 use mathlib.Core.Path.{_≡_, sym, _∙_, ap}
 use mathlib.Core.Bool.{Bool}
 use native.Mathlib.Omega.{arith}
@@ -9,7 +8,6 @@ use denote.Ref.{now}
 use lib.ListN.{length}
 use Rattle.rules.specs.Refusals.{LentEnds, pairRefusalOf}
 use Rattle.pair_laws.proofs.Refusals.{admitted}
-use Rattle.pair_ends.specs.Ends.{EndsRoom}
 use Rattle.pair_refusals.specs.Ladder.{pairRefusalBy}
 use Rattle.pair_refusals.proofs.Ladder.{refusal-by}
 use Rattle.pair_lending.specs.Lent.{Matched}

@@ -1,7 +1,7 @@
 -- The route is asked what its own contract asks, and each leaves the selected pairs. The index takes the limit by its key.
 use borrow.Author.Needs.{needs}
 use Prim.Native.Nat.{ℕ, _<_}
-use mathlib.Core.Path.{_≡_, sym, ap, subst}
+use mathlib.Core.Path.{sym, ap, subst}
 use denote.Ref.{now}
 use lib.Dec.{T}
 use lib.Ieee.{binary64, fits}
@@ -9,7 +9,6 @@ use Rattle.float_order.specs.Key.{key}
 use Rattle.pair_tree.specs.Places.{gone}
 use Rattle.pair_laws.proofs.Refusals.{limit-number, limit-under}
 use Rattle.pair_ends.specs.Ends.{Selected}
-use Rattle.pair_indexed.specs.Start.{Asks}
 use Rattle.pair_calls.specs.Routed.{aloneBy}
 use Rattle.pair_calls.proofs.selected_by.Statement.{statement}
 use Rattle.pair_calls.proofs.selected_by.Tie as tie

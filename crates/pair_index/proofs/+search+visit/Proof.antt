@@ -3,7 +3,6 @@
 use Prim.Native.Nat.{_+_, _*_, _≤_}
 use native.Mathlib.Nat.{pos-of-ne-zero}
 use native.Mathlib.Omega.{arith}
-use borrow.Author.Needs.{needs}
 use mathlib.Core.Path.{ap}
 use Prim.Native.Nat.{min}
 use mathlib.Core.Path.{_∙_}

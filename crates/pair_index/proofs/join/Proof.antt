@@ -1,8 +1,6 @@
 use Rattle.pair_index.proofs.join.Statement.{statement}
 use Rattle.pair_index.proofs.join.Tie as tie
-use Prim.Native.Nat.{_≤_, _<_}
 use native.Mathlib.Omega.{arith}
-use borrow.Author.Needs.{needs}
 use Rattle.pair_index.proofs.Nodes.{Joining, joining-start, joining-children, joining-next, joining-stop}
 
 abbrev Inv-loop : tie.InvT-loop

@@ -2,7 +2,6 @@
 use Rattle.pair_index.specs.Nodes.{node-at}
 use Rattle.pair_index.specs.Search.{round-at}
 use Rattle.pair_index.proofs.Steps.{bound-none, bound-is}
-use native.Mathlib.Omega.{arith}
 use borrow.Author.Needs.{needs}
 use Rattle.pair_index.proofs.reach.Statement.{statement}
 use Rattle.pair_index.proofs.reach.Tie as tie

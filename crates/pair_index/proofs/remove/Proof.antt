@@ -7,7 +7,6 @@ use Rattle.pair_index.proofs.remove.Statement.{statement}
 use Rattle.pair_index.proofs.remove.Tie as tie
 use Prim.Native.Nat.{_+_}
 use native.Mathlib.Omega.{arith}
-use borrow.Author.Needs.{needs}
 use Rattle.pair_index.proofs.Nodes.{Climbing, climbing-start, climbing-children, climbing-next, climbing-stop}
 
 abbrev Inv-loop : tie.InvT-loop

@@ -1,7 +1,4 @@
-use mathlib.Core.Path.{_≡_, refl, sym, _∙_, ap}
-use native.Mathlib.Omega.{arith}
 use Rattle.pair_indexed.proofs.Beginning.{begins-plants, begins-clears, begins-fills, begins-changes}
-use borrow.Author.Needs.{needs}
 use Rattle.pair_indexed.proofs.begin.Statement.{statement}
 use Rattle.pair_indexed.proofs.begin.Tie as tie
 

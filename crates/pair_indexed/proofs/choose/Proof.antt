@@ -1,6 +1,4 @@
-use Prim.Native.Nat.{ℕ, _+_, _-_, _*_, _^_, _≤_, _<_}
-use mathlib.Core.Path.{_≡_, refl, sym, _∙_, ap}
-use mathlib.Core.Bool.{true, false, not, _||_}
+use Prim.Native.Nat.{_-_}
 use native.Mathlib.Omega.{arith}
 use Rattle.pair_indexed.proofs.Turns.{Going, remaining, going-start, first-in, few-pairs, both-free, one-taken, going-stop, i-in, j-in, going-stale, going-again, again-falls, going-takes, going-took, took-falls}
 use Rattle.pair_indexed.proofs.choose.Statement.{statement}

@@ -1,5 +1,4 @@
-use Prim.Native.Nat.{ℕ, _+_, _-_, _*_, _^_, _≤_, _<_}
-use mathlib.Core.Path.{_≡_, refl, sym, _∙_, ap}
+use Prim.Native.Nat.{_-_}
 use native.Mathlib.Omega.{arith}
 use Rattle.pair_indexed.proofs.Planting.{Clearing, clearing-start, clearing-room, clearing-next, clearing-stop}
 use Rattle.pair_indexed.proofs.clear.Statement.{statement}

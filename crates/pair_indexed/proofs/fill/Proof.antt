@@ -1,5 +1,4 @@
-use Prim.Native.Nat.{ℕ, _+_, _-_, _*_, _^_, _≤_, _<_}
-use mathlib.Core.Path.{_≡_, refl, sym, _∙_, ap}
+use Prim.Native.Nat.{_-_}
 use native.Mathlib.Omega.{arith}
 use Rattle.pair_indexed.proofs.Starting.{Pairing, pairing-start, pairing-long, pairing-in, pairing-idle, pairing-query, pairing-slot, pairing-next, pairing-wide, pairing-changes, pairing-stop}
 use Rattle.pair_indexed.proofs.fill.Statement.{statement}

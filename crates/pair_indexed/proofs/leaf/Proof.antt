@@ -1,5 +1,4 @@
-use mathlib.Core.Path.{_≡_, refl, sym, _∙_, ap}
-use native.Mathlib.Omega.{arith}
+use mathlib.Core.Path.{sym, _∙_}
 use Rattle.pair_indexed.proofs.Planting.{leaf-out, leaf-in}
 use Rattle.pair_owners.specs.Tables.{order-at}
 use borrow.Author.Needs.{needs}

@@ -1,6 +1,3 @@
-use mathlib.Core.Path.{_≡_, refl, sym, _∙_, ap}
-use mathlib.Core.Bool.{not}
-use native.Mathlib.Omega.{arith}
 use Rattle.pair_indexed.proofs.Parts.{is-taken, free-both}
 use borrow.Author.Needs.{needs}
 use Rattle.pair_indexed.proofs.live.Statement.{statement}

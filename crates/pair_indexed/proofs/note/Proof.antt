@@ -1,5 +1,4 @@
 -- `note` meets its contract: the word is 1 where the scan has found all directions in the disk, and 0 among few ends.
-use native.Mathlib.Omega.{arith}
 use Rattle.pair_indexed.proofs.Beginning.{notes, notes-few}
 use borrow.Author.Needs.{needs}
 use Rattle.pair_indexed.proofs.note.Statement.{statement}

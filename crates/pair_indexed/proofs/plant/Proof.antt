@@ -1,5 +1,5 @@
-use Prim.Native.Nat.{ℕ, _+_, _-_, _*_, _^_, _≤_, _<_}
-use mathlib.Core.Path.{_≡_, refl, sym, _∙_, ap}
+use Prim.Native.Nat.{_-_, _*_}
+use mathlib.Core.Path.{_≡_, refl}
 use native.Mathlib.Omega.{arith}
 use Rattle.pair_ends.specs.Blocks.{indexFrom}
 use Rattle.pair_indexed.proofs.Planting.{Planting, planting-start, planting-sorted, planting-room, planting-sound, planting-next, planting-leaves, planting-stop}

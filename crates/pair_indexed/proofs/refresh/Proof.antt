@@ -1,6 +1,4 @@
 use Rattle.pair_indexed.proofs.Parts.{refreshed}
-use mathlib.Core.Path.{_≡_, refl, sym, _∙_, ap, subst}
-use native.Mathlib.Omega.{arith}
 use borrow.Author.Needs.{needs}
 use Rattle.pair_indexed.proofs.refresh.Statement.{statement}
 use Rattle.pair_indexed.proofs.refresh.Tie as tie

@@ -1,12 +1,10 @@
 use Rattle.pair_owners.specs.Tables.{group-at}
-use Prim.Native.Nat.{ℕ, _+_, _-_, _*_, _^_, _≤_, _<_}
-use mathlib.Core.Path.{_≡_, refl, sym, _∙_, ap}
+use Prim.Native.Nat.{_+_, _-_, _*_}
 use native.Mathlib.Omega.{arith}
 use lib.ListN.{length, set, length-set}
 use Rattle.pair_ends.specs.Blocks.{cursorsFrom}
 use Rattle.pair_indexed.proofs.Keeping.{heap-whole, slot-here}
 use Rattle.pair_indexed.proofs.Handing.{ground-sorted, group-in, due-below, due-end, stale-next, replaces-idle, replaces-none, replaces-next}
-use borrow.Author.Needs.{needs}
 use Rattle.pair_indexed.proofs.replace.Statement.{statement}
 use Rattle.pair_indexed.proofs.replace.Tie as tie
 

@@ -2,8 +2,7 @@ use Prim.Native.Nat.{_+_, _*_}
 use lib.ListN.{length-set}
 use Rattle.pair_ends.specs.Blocks.{marksFrom}
 use Rattle.pair_indexed.proofs.Parts.{retires-whole}
-use mathlib.Core.Path.{_≡_, refl, sym, _∙_, ap, subst}
-use native.Mathlib.Omega.{arith}
+use mathlib.Core.Path.{_∙_}
 use borrow.Author.Needs.{needs}
 use Rattle.pair_indexed.proofs.retire.Statement.{statement}
 use Rattle.pair_indexed.proofs.retire.Tie as tie

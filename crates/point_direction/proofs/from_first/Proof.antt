@@ -1,16 +1,12 @@
 -- `direction::from_first` meets its contract. What is still to be searched, the points from the i-th number on, gives the direction that is sought; the measure is what is left of the length.
 use Rattle.point_direction.proofs.from_first.Statement.{statement}
 use Rattle.point_direction.proofs.from_first.Tie as tie
-use Rattle.point_direction.proofs.from_first.Reads as reads
-use Rattle.point_direction.proofs.from_first.Lts as lts
-use Rattle.point_direction.proofs.between.Reads as between-reads
-use Rattle.point_numbers.proofs.equal.Reads as equal-reads
 use mathlib.Core.Path.{_≡_, sym, ap, _∙_}
 use mathlib.Core.Bool.{not}
-use Prim.Native.Nat.{_+_, _-_, _≤_, _<_}
+use Prim.Native.Nat.{_-_, _≤_, _<_}
 use native.Mathlib.Omega.{arith}
 use borrow.Author.Needs.{needs}
-use lib.ListN.{length, drop, getD}
+use lib.ListN.{length, drop}
 use Rattle.rules.specs.Plane.{point, points, directionOf}
 use Rattle.point_numbers.specs.Width.{Multiple}
 use Rattle.point_numbers.proofs.Points.{multiple-less, multiple-next}

@@ -1,17 +1,13 @@
 -- `direction::from_last` meets its contract. What is still to be searched, the points of the first i numbers in reverse, gives the direction that is sought; the measure is i.
 use Rattle.point_direction.proofs.from_last.Statement.{statement}
 use Rattle.point_direction.proofs.from_last.Tie as tie
-use Rattle.point_direction.proofs.from_last.Reads as reads
-use Rattle.point_direction.proofs.from_last.Lts as lts
-use Rattle.point_direction.proofs.between.Reads as between-reads
-use Rattle.point_numbers.proofs.equal.Reads as equal-reads
 use mathlib.Core.Path.{_≡_, sym, ap, _∙_}
 use mathlib.Core.Bool.{not}
 use mathlib.Core.List.{reverse}
 use Prim.Native.Nat.{_+_, _-_, _≤_, _<_}
 use native.Mathlib.Omega.{arith}
 use borrow.Author.Needs.{needs}
-use lib.ListN.{length, take, getD}
+use lib.ListN.{length, take}
 use Rattle.rules.specs.Plane.{point, points, directionOf}
 use Rattle.point_numbers.specs.Width.{Multiple}
 use Rattle.point_numbers.proofs.Points.{multiple-less}

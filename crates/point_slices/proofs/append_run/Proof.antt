@@ -28,7 +28,7 @@ same-length-3 : tie.Need-same-length-3
 same-length-3 c = search needs
 
 returns-3 : tie.Need-returns-3
-returns-3 c = rw (c .before .before .before .before .if4 .taken) (c .before .before .backward-high .ensures)
+returns-3 c = rw (c .before .before .before .before .if3 .taken) (c .before .before .backward-high .ensures)
 
 forward-high-requires : tie.Need-forward-high-requires
 forward-high-requires c κs = search needs
@@ -37,25 +37,7 @@ same-length-4 : tie.Need-same-length-4
 same-length-4 c = search needs
 
 returns-4 : tie.Need-returns-4
-returns-4 c = rw (c .before .before .before .before .if4 .left) (c .before .before .forward-high .ensures)
-
-backward-wide-requires : tie.Need-backward-wide-requires
-backward-wide-requires c κs = search needs
-
-same-length-5 : tie.Need-same-length-5
-same-length-5 c = search needs
-
-returns-5 : tie.Need-returns-5
-returns-5 c = rw (c .before .before .before .before .if5 .taken) (c .before .before .backward-wide .ensures)
-
-forward-wide-requires : tie.Need-forward-wide-requires
-forward-wide-requires c κs = search needs
-
-same-length-6 : tie.Need-same-length-6
-same-length-6 c = search needs
-
-returns-6 : tie.Need-returns-6
-returns-6 c = rw (c .before .before .before .before .if5 .left) (c .before .before .forward-wide .ensures)
+returns-4 c = rw (c .before .before .before .before .if3 .left) (c .before .before .forward-high .ensures)
 
 pub append-run-spec : {M : Type 1} → statement M
 append-run-spec =
@@ -72,10 +54,4 @@ append-run-spec =
     returns-3
     forward-high-requires
     same-length-4
-    returns-4
-    backward-wide-requires
-    same-length-5
-    returns-5
-    forward-wide-requires
-    same-length-6
-    returns-6)
+    returns-4)

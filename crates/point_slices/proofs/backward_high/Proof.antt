@@ -1,6 +1,6 @@
 -- The loop is on the way to the whole run: the points of the first i numbers are left, from the last on, each turn lays one of them, and the x of the last point
 -- laid is at hand.
-use Prim.Native.Nat.{_+_, _-_, _≤_, _<_}
+use Prim.Native.Nat.{_+_, _-_, _≤_}
 use mathlib.Core.Path.{_≡_, refl, sym, _∙_}
 use mathlib.Core.List.{[], reverse}
 use native.Mathlib.Omega.{arith}
@@ -25,7 +25,7 @@ unfolding walked
 returns c =
     let s = c .before .before .before in
     let a = s .args in
-    rw (points-few (a .width) (a .src .now) (c .if1 .taken)) (way-done (way-start (a .width) (a .rest .now) (a .have) [] (omega (arith, s .pre .3))))
+    rw (points-few (a .width) (a .src .now) (c .if1 .taken)) (way-done (way-start (a .width) (a .rest .now) (a .have) [] (omega (arith, s .pre .2))))
 
 sub-i : tie.Need-sub-i Inv-loop μ-loop
 sub-i c = omega (arith, c .if1 .left)
@@ -39,7 +39,7 @@ shared-slice-read-last c = omega (arith, c .before .if1 .left, c .before .before
 push-high-requires : tie.Need-push-high-requires Inv-loop μ-loop
 push-high-requires c κs =
     let s = c .before .before .before .before .before in
-    (s .pre .0, s .pre .1, omega (arith, c .before .before .if1 .left, s .pre .3), omega (arith, c .before .before .if1 .left))
+    (s .pre .0, omega (arith, c .before .before .if1 .left, s .pre .2), omega (arith, c .before .before .if1 .left))
 
 loop-holds : tie.Need-loop-holds Inv-loop μ-loop
 loop-holds c =
@@ -49,13 +49,13 @@ loop-holds c =
     let long = c .before .before .before .before .before .if1 .left in
     let two = high-two (s .pre .0) in
     let push = call .push-high .ensures in
-    let n = push-length two (a .have) _ _ (omega (arith, s .pre .3)) (push .holds) in (
+    let n = push-length two (a .have) _ _ (omega (arith, s .pre .2)) (push .holds) in (
       omega (arith, long),
       push .there,
-      omega (arith, n, long, call .push-high .kept .0, s .pre .3),
+      omega (arith, n, long, call .push-high .kept .0, s .pre .2),
       refl,
-      way-start (a .width) _ _ (reverse (points (a .width) (take (length (a .src .now) - a .width) (a .src .now)))) (omega (arith, n, long, call .push-high .kept .0, s .pre .3)),
-      multiple-less (s .pre .2) (omega (arith, s .pre .0, long)) .1,
+      way-start (a .width) _ _ (reverse (points (a .width) (take (length (a .src .now) - a .width) (a .src .now)))) (omega (arith, n, long, call .push-high .kept .0, s .pre .2)),
+      multiple-less (s .pre .1) (omega (arith, s .pre .0, long)) .1,
       near-at two (a .src .now) (length (a .src .now) - a .width) push,
     )
 
@@ -73,7 +73,7 @@ next-high-requires c κs =
     let s = c .before .before .before .before .before .before .before .before .before .before .before .before in
     let l = c .before .before .before .loop in
     let next = multiple-less (l .inv .5) (c .before .before .loop-test .taken) .0 in
-    (s .pre .0, s .pre .1, l .inv .1, omega (arith, l .inv .2, l .inv .3, next), omega (arith, l .inv .0, next), l .inv .6)
+    (s .pre .0, l .inv .1, omega (arith, l .inv .2, l .inv .3, next), omega (arith, l .inv .0, next), l .inv .6)
 
 loop-less : tie.Need-loop-less Inv-loop μ-loop
 loop-less c = omega (arith, multiple-less (c .before .before .before .before .before .before .loop .inv .5) (c .before .before .before .before .before .loop-test .taken) .0, c .before .before .before .before .before .before .before .before .before .before .before .before .before .before .before .pre .0)
@@ -109,9 +109,9 @@ returns-2 c =
     let l = c .before .loop in
     let src = a .src .now in
     let one = high-one (s .pre .0) in
-    let first = turned-one (a .width) src one (length src) (s .pre .2) (omega (arith, s .pre .0, c .before .before .before .before .before .before .before .if1 .left)) (omega arith) in
+    let first = turned-one (a .width) src one (length src) (s .pre .1) (omega (arith, s .pre .0, c .before .before .before .before .before .before .before .if1 .left)) (omega arith) in
     rw (sym (turned-all (a .width) src one) ∙ first)
-    (push-then (high-two (s .pre .0)) (a .have) _ _ (omega (arith, s .pre .3)) (c .before .before .before .before .push-high .ensures .holds) (reverse (points (a .width) (take (length src - a .width) src)))
+    (push-then (high-two (s .pre .0)) (a .have) _ _ (omega (arith, s .pre .2)) (c .before .before .before .before .push-high .ensures .holds) (reverse (points (a .width) (take (length src - a .width) src)))
     (way-done (rw (turned-none (a .width) src one (l .i) (c .loop-test .left)) at (l .inv .4))))
 
 pub backward-high-spec : {M : Type 1} → statement M

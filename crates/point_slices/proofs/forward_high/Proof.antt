@@ -1,5 +1,5 @@
 -- The loop is on the way to the whole run: the points from i on are left, each turn lays one of them, and the x of the last point laid is at hand.
-use Prim.Native.Nat.{_+_, _-_, _≤_, _<_}
+use Prim.Native.Nat.{_+_, _-_, _≤_}
 use mathlib.Core.Path.{_≡_, refl, _∙_}
 use mathlib.Core.List.{[]}
 use native.Mathlib.Omega.{arith}
@@ -24,7 +24,7 @@ unfolding walked
 returns c =
     let s = c .before .before .before in
     let a = s .args in
-    rw (points-few (a .width) (a .src .now) (c .if1 .taken)) (way-done (way-start (a .width) (a .rest .now) (a .have) [] (omega (arith, s .pre .3))))
+    rw (points-few (a .width) (a .src .now) (c .if1 .taken)) (way-done (way-start (a .width) (a .rest .now) (a .have) [] (omega (arith, s .pre .2))))
 
 shared-slice-read-last : tie.Need-shared-slice-read-last Inv-loop μ-loop
 shared-slice-read-last c = omega (arith, c .before .if1 .left, c .before .before .before .before .pre .0)
@@ -32,7 +32,7 @@ shared-slice-read-last c = omega (arith, c .before .if1 .left, c .before .before
 push-high-requires : tie.Need-push-high-requires Inv-loop μ-loop
 push-high-requires c κs =
     let s = c .before .before .before .before .before in
-    (s .pre .0, s .pre .1, omega (arith, c .before .before .if1 .left, s .pre .3), omega (arith, c .before .before .if1 .left))
+    (s .pre .0, omega (arith, c .before .before .if1 .left, s .pre .2), omega (arith, c .before .before .if1 .left))
 
 loop-holds : tie.Need-loop-holds Inv-loop μ-loop
 loop-holds c =
@@ -42,13 +42,13 @@ loop-holds c =
     let long = c .before .before .before .before .before .if1 .left in
     let two = high-two (s .pre .0) in
     let push = call .push-high .ensures in
-    let n = push-length two (a .have) _ _ (omega (arith, s .pre .3)) (push .holds) in (
+    let n = push-length two (a .have) _ _ (omega (arith, s .pre .2)) (push .holds) in (
       long,
       push .there,
-      omega (arith, n, call .push-high .kept .0, s .pre .3),
+      omega (arith, n, call .push-high .kept .0, s .pre .2),
       refl,
-      way-start (a .width) _ _ (points (a .width) (drop (a .width) (a .src .now))) (omega (arith, n, long, call .push-high .kept .0, s .pre .3)),
-      multiple-less (s .pre .2) (omega (arith, s .pre .0, long)) .1,
+      way-start (a .width) _ _ (points (a .width) (drop (a .width) (a .src .now))) (omega (arith, n, long, call .push-high .kept .0, s .pre .2)),
+      multiple-less (s .pre .1) (omega (arith, s .pre .0, long)) .1,
       near-at two (a .src .now) 0 push,
     )
 
@@ -63,7 +63,7 @@ next-high-requires c κs =
     let s = c .before .before .before .before .before .before .before .before .before .before .before .before in
     let l = c .before .before .before .loop in
     let next = multiple-next (l .inv .5) (c .before .before .loop-test .taken) .0 in
-    (s .pre .0, s .pre .1, l .inv .1, omega (arith, l .inv .2, l .inv .3, next), next, l .inv .6)
+    (s .pre .0, l .inv .1, omega (arith, l .inv .2, l .inv .3, next), next, l .inv .6)
 
 add-i : tie.Need-add-i Inv-loop μ-loop
 add-i c = omega (arith, multiple-next (c .before .before .before .before .before .before .loop .inv .5) (c .before .before .before .before .before .loop-test .taken) .0)
@@ -94,7 +94,7 @@ returns-2 c =
     let one = high-one (s .pre .0) in
     let none = points-past (a .width) (a .src .now) (l .i) one (omega (arith, c .loop-test .left, s .pre .0)) in
     rw (points-next (a .width) (a .src .now) one (c .before .before .before .before .before .before .before .if1 .left))
-    (push-then (high-two (s .pre .0)) (a .have) _ _ (omega (arith, s .pre .3)) (c .before .before .before .before .push-high .ensures .holds) (points (a .width) (drop (a .width) (a .src .now)))
+    (push-then (high-two (s .pre .0)) (a .have) _ _ (omega (arith, s .pre .2)) (c .before .before .before .before .push-high .ensures .holds) (points (a .width) (drop (a .width) (a .src .now)))
     (way-done (rw none at (l .inv .4))))
 
 pub forward-high-spec : {M : Type 1} → statement M

@@ -55,8 +55,8 @@ returns : tie.Need-returns
 returns c =
     let s = c .before .before .before .before .before .before .before .before .before .before in
     let a = s .args in
-    pushed-met (a .width) (high-two (s .pre .0)) (a .rest .now) (a .have) (a .src .now) (a .j) (omega (arith, s .pre .3)) (omega (arith, c .before .before .before .before .before .before .before .before .shared-slice-known .given (a .j)))
-    (s .pre .2) (s .pre .5 (s .pre .2) .0) (sym (c .before .equal .ensures) ∙ c .if2 .taken)
+    pushed-met (a .width) (high-two (s .pre .0)) (a .rest .now) (a .have) (a .src .now) (a .j) (omega (arith, s .pre .2)) (omega (arith, c .before .before .before .before .before .before .before .before .shared-slice-known .given (a .j)))
+    (s .pre .1) (s .pre .4 (s .pre .1) .0) (sym (c .before .equal .ensures) ∙ c .if2 .taken)
 
 put-high-requires : tie.Need-put-high-requires
 put-high-requires c κs = search needs
@@ -72,12 +72,12 @@ returns-2 c =
     let s = c .before .before .before .before .before .before .before .before in
     let a = s .args in
     let two = high-two (s .pre .0) in
-    let room : a .have ≤ length (a .rest .now) = omega (arith, s .pre .3) in
+    let room : a .have ≤ length (a .rest .now) = omega (arith, s .pre .2) in
     let fits : getD (a .src .now) (a .j) 0 < 2 ^ 64 = omega (arith, c .before .before .before .before .before .before .shared-slice-known .given (a .j)) in
-    pushed-new (a .width) two (a .rest .now) (a .have) (a .src .now) (a .j) room fits (s .pre .4) (c .before .before .put-high .ensures)
+    pushed-new (a .width) two (a .rest .now) (a .have) (a .src .now) (a .j) room fits (s .pre .3) (c .before .before .put-high .ensures)
     (⊎-elim
-    (λ v. last-at (a .width) two (a .rest .now) (a .have) (a .src .now) (a .j) room (s .pre .2) ∙ sym (v .5 .ensures) ∙ v .6 .left)
-    (λ v. apart-at (a .width) two (a .rest .now) (a .have) (a .src .now) (a .j) room fits (a .last) (s .pre .5) (v .left))
+    (λ v. last-at (a .width) two (a .rest .now) (a .have) (a .src .now) (a .j) room (s .pre .1) ∙ sym (v .5 .ensures) ∙ v .6 .left)
+    (λ v. apart-at (a .width) two (a .rest .now) (a .have) (a .src .now) (a .j) room fits (a .last) (s .pre .4) (v .left))
     (c .before .before .before .before .if1 .came))
 
 pub next-high-spec : {M : Type 1} → statement M

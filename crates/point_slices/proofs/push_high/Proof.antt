@@ -16,7 +16,7 @@ slice-read-last c = search needs
 next-high-requires : tie.Need-next-high-requires
 next-high-requires c κs =
     let s = c .before .before .before .before .before in
-    (s .pre .0, s .pre .1, c .before .before .if1 .taken, s .pre .2, s .pre .3, (λ _. (omega (arith, c .before .slice-known2 .given (s .args .have - s .args .width)), refl)))
+    (s .pre .0, c .before .before .if1 .taken, s .pre .1, s .pre .2, (λ _. (omega (arith, c .before .slice-known2 .given (s .args .have - s .args .width)), refl)))
 
 same-length : tie.Need-same-length
 same-length c = search needs
@@ -38,7 +38,7 @@ returns-2 c =
     let s = c .before .before .before .before .before .before .before in
     let a = s .args in
     let two = high-two (s .pre .0) in
-    pushed-new (a .width) two (a .rest .now) (a .have) (a .src .now) (a .j) (omega (arith, s .pre .2)) (omega (arith, c .before .before .before .before .before .shared-slice-known .given (a .j))) (s .pre .3)
+    pushed-new (a .width) two (a .rest .now) (a .have) (a .src .now) (a .j) (omega (arith, s .pre .1)) (omega (arith, c .before .before .before .before .before .shared-slice-known .given (a .j))) (s .pre .2)
     (c .before .before .put-high .ensures) (last-none (a .width) two (a .rest .now) (a .have) _ (c .before .before .before .before .if1 .left))
 
 pub push-high-spec : {M : Type 1} → statement M

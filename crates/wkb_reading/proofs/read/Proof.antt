@@ -2,7 +2,6 @@
 use borrow.Author.Needs.{needs}
 use Rattle.wkb_reading.proofs.read.Statement.{statement}
 use Rattle.wkb_reading.proofs.read.Tie as tie
-use Prim.Native.Nat.{_≤_}
 use mathlib.Core.Path.{_≡_, sym, _∙_}
 use mathlib.Core.Bool.{false}
 use native.Mathlib.Omega.{arith}

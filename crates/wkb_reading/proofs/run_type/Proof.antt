@@ -5,7 +5,7 @@ use Rattle.wkb_reading.proofs.run_type.Tie as tie
 use mathlib.Core.Path.{sym, _∙_}
 use native.Mathlib.Omega.{arith}
 use denote.Ref.{now}
-use lib.ListN.{length, getD}
+use lib.ListN.{getD}
 use lib.Seq.{length-take-le}
 use Rattle.rules.specs.Wkb.{typeOf}
 use Rattle.wkb_reading.proofs.Laws.{total-drop, type-none, type-short, type-first}

@@ -4,7 +4,7 @@ use Rattle.wkb_writing.proofs.write.Statement.{statement}
 use Rattle.wkb_writing.proofs.write.Tie as tie
 use Prim.Native.Nat.{ℕ, suc}
 use mathlib.Core.Path.{_≡_, sym, _∙_}
-use mathlib.Core.Bool.{true, false}
+use mathlib.Core.Bool.{false}
 use native.Mathlib.Omega.{arith}
 use denote.Ref.{now}
 use lib.ListN.{drop}
