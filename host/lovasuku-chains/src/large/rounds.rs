@@ -50,6 +50,9 @@ pub struct Ways<'a> {
     pub callers: &'a Callers,
     /// Whether what was needed is let go of at once, for want of another round.
     pub lean: bool,
+    /// Whether the coordinates of chains are kept. Else what a call laid is compared with the pieces, from
+    /// which it can be laid again.
+    pub keep: bool,
     /// Is told how many lines are done.
     pub tell: &'a (dyn Fn(usize) + Sync),
 }
@@ -103,7 +106,8 @@ impl Round {
         resize(&mut self.sizes, self.batches.slots(), 0);
         let room = self.batches.room(0..self.batches.slots() as u32);
         // Whatever was laid there before is written over or not looked at.
-        resize(&mut self.laid, pieces.stride() * room.len(), 0.0);
+        let kept = if ways.keep { pieces.stride() * room.len() } else { 0 };
+        resize(&mut self.laid, kept, 0.0);
         let Round { nodes, outlines, batches, sizes, laid, .. } = self;
         let told = AtomicUsize::new(0);
         let tell = |lines: usize| {
@@ -114,7 +118,9 @@ impl Round {
         Making { pieces, cut, ways }.batches(batches.all(), sizes, laid)?;
         // The lines for which no call was needed.
         tell(pieces.all_lines().saturating_sub(told.load(Relaxed)));
-        self.find_places(cores);
+        if ways.keep {
+            self.find_places(cores);
+        }
         if ways.lean {
             self.batches = Batches::default();
             self.sizes = Vec::new();
@@ -140,23 +146,13 @@ impl Round {
         cores.parts((0, &mut places[..]), PART, &find, &|(), ()| ());
     }
 
-    /// Lets go of all but what tells of joints, and gives the coordinates that were laid.
-    pub fn let_go(&mut self) -> Vec<f64> {
+    /// Lets go of all but what tells of joints.
+    pub fn let_go(&mut self) {
         self.nodes.let_go();
         self.batches = Batches::default();
         self.sizes = Vec::new();
         self.places = Vec::new();
-        std::mem::take(&mut self.laid)
-    }
-
-    /// All coordinates that were laid.
-    pub fn laid(&self) -> &[f64] {
-        &self.laid
-    }
-
-    /// The first coordinate of the chain of an outline of several pieces, among all that were laid.
-    pub fn place(&self, outline: u32) -> u32 {
-        self.places[outline as usize][0]
+        self.laid = Vec::new();
     }
 
     /// The numbers of the chain of an outline of several pieces.
@@ -193,6 +189,7 @@ mod tests {
             cores,
             callers: &callers,
             lean: false,
+            keep: true,
             tell: &|_| (),
         };
         let (mut round, mut sorting) = (Round::default(), Sorting::default());

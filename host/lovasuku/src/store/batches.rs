@@ -9,6 +9,7 @@ use super::gdal::{
 };
 use super::geometry::Wkb;
 use super::properties::{object, Property};
+use crate::numbers::parts;
 use anyhow::{anyhow, bail, Context, Result};
 use rayon::prelude::*;
 use std::io::Write;
@@ -53,12 +54,6 @@ fn put<'b>(texts: &mut Texts, id: Option<i64>, properties: impl Iterator<Item = 
 
 /// How many rows one core reads at a time.
 pub const PART: usize = 1024;
-
-/// Rows in parts of so many.
-pub fn parts(rows: Range<usize>, part: usize) -> Vec<Range<usize>> {
-    let end = rows.end;
-    rows.step_by(part).map(|from| from..end.min(from + part)).collect()
-}
 
 /// The name of a field as JSON, with a colon.
 fn json_name(name: &str) -> String {

@@ -22,4 +22,4 @@ pub use gdal::{Dataset, Field, Reference};
 pub use geometry::Positions;
 pub use reading::{read, About, Asked, Held, Rows};
 pub use targets::{driver_name, Store};
-pub use writing::{Drawn, Features, Sheet};
+pub use writing::{Drawn, Each, Features, Sheet};

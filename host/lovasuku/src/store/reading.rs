@@ -1,11 +1,12 @@
 //! A layer of a store as a delivery: its rows in batches, each with its id, its properties as JSON and
 //! its geometry.
 
-use super::batches::{by_features, by_stream, parts, Cut, Texts, PART};
+use super::batches::{by_features, by_stream, Cut, Texts, PART};
 use super::gdal::{failures, listed, settle, warnings, Dataset, Field, Layer, Reference};
 use super::geometry::{shapes, Positions, Shape, Shapes, Wkb};
 use crate::delivery::object::Object;
 use crate::delivery::{gather, named, Delivery, Feature, Geometry, Heights, Point, Reading};
+use crate::numbers::parts;
 use crate::progress::Progress;
 use anyhow::{bail, Context, Result};
 use lovasuku_chains::{Dimension, WkbRooms};

@@ -35,7 +35,7 @@ pub fn run(question: &Question) -> Result<String> {
         found(delivery, &question.lines[0], parts).with_context(input)?,
         found(delivery, &question.lines[1], parts).with_context(input)?,
     ];
-    let lines = lines(delivery, classes);
+    let lines: Vec<Line> = lines(delivery, classes).collect();
     let settings = question.settings;
     let told = join(Dimension::Xy, &lines, (settings, None), &progress).with_context(input)?;
     let chains: Vec<Chain> = told.chains().collect();

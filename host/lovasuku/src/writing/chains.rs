@@ -3,12 +3,14 @@
 use super::{entry, list, number, position, value, FeatureText, Keep};
 use crate::delivery::object::Entry;
 use crate::delivery::{Delivery, Geometry, Point};
-use crate::joining::Chain;
+use crate::joining::{Chain, Outlined};
 use crate::measure::Measure;
+use crate::numbers::parts;
 use crate::progress::Progress;
 use lovasuku_chains::PathLine;
 use rayon::prelude::*;
 use std::io;
+use std::ops::Range;
 
 /// How the features of chains are written.
 #[derive(Debug)]
@@ -39,24 +41,25 @@ impl Chains<'_> {
     /// how many of them have a member with a property of a chain's own name, which is left out.
     pub fn write(
         &self,
-        chains: &[Chain],
+        outlined: &Outlined,
         text: &mut FeatureText,
         progress: &Progress,
     ) -> io::Result<usize> {
-        progress.begin("writing", chains.len());
+        progress.begin("writing", outlined.len());
         let mut clashes = 0;
-        for (k, block) in chains.chunks(BLOCK).enumerate() {
-            let part = |(part, chains): (usize, &[Chain])| -> Vec<(Vec<u8>, bool)> {
-                let first = k * BLOCK + part * PART;
-                let inside = (first..).zip(chains).filter(|(_, chain)| chain.in_window);
-                inside.map(|(position, chain)| self.feature(position, chain)).collect()
-            };
-            let features: Vec<_> = block.par_chunks(PART).enumerate().flat_map_iter(part).collect();
+        let part = |chains: Range<usize>| -> Vec<(Vec<u8>, bool)> {
+            let inside = || chains.clone().filter(|&chain| outlined.is_inside(chain));
+            let told = outlined.told(inside());
+            inside().zip(told.chains()).map(|(id, chain)| self.feature(id, &chain)).collect()
+        };
+        for block in parts(0..outlined.len(), BLOCK) {
+            let chains = block.len();
+            let features: Vec<_> = parts(block, PART).into_par_iter().flat_map_iter(part).collect();
             for (feature, clash) in features {
                 text.put(&feature)?;
                 clashes += usize::from(clash);
             }
-            progress.add(block.len());
+            progress.add(chains);
         }
         Ok(clashes)
     }
