@@ -103,7 +103,8 @@ fn rooms_hold_no_more_than_they_say() {
             rooms.build_by(lines.lines(), settings, way).unwrap();
             let held = HELD.load(Relaxed) - before;
             let most = Rooms::most_bytes(n, numbers, 1);
-            assert!(held <= most && 4 * held > most, "{held} bytes of {most} ({way:?})");
+            // Without a second round much less is held.
+            assert!(held <= most && 5 * held > most, "{held} bytes of {most} ({way:?})");
         }
     }
 }

@@ -7,7 +7,7 @@ use super::cores::Cores;
 use super::fitting::resize;
 use super::gathering::Cut;
 use super::making::Making;
-use super::nodes::{Nodes, Sorting};
+use super::nodes::{Ends, Nodes, Sorting};
 use super::outlines::Outlines;
 use super::pieces::Pieces;
 use super::spots::Grid;
@@ -83,22 +83,24 @@ impl Round {
         sorting: &mut Sorting,
         ways: Ways,
     ) -> Result<(), Fault> {
-        let Ways { settings, cores, callers, .. } = ways;
-        self.nodes.meet(pieces, (grid, settings.limit), sorting, (cores, callers))?;
+        let Ways { settings, cores, callers, lean, .. } = ways;
+        let ends = Ends { pieces, grid };
+        self.nodes.meet(ends, settings.limit, (sorting, lean), (cores, callers))?;
         self.outlines.walk(pieces, &self.nodes);
-        self.make(pieces, sorting, ways)
+        self.make(ends, sorting, ways)
     }
 
     /// Makes the chains of the outlines.
-    fn make(
+    fn make<P: Lender>(
         &mut self,
-        pieces: &impl Lender,
+        ends: Ends<P>,
         sorting: &mut Sorting,
         ways: Ways,
     ) -> Result<(), Fault> {
+        let pieces = ends.pieces;
         let Ways { capacity, batch, neighbours, cores, .. } = ways;
         let plan = Plan { nodes: &self.nodes, outlines: &self.outlines };
-        self.batches.cut(pieces, plan, sorting, Cutting { capacity, batch, neighbours, cores });
+        self.batches.cut(ends, plan, sorting, Cutting { capacity, batch, neighbours, cores });
         if ways.lean {
             *sorting = Sorting::default();
         }
@@ -164,7 +166,7 @@ impl Round {
 
 #[cfg(test)]
 mod tests {
-    use super::{Callers, Capacity, Cores, Fault, Grid, Round, Settings, Sorting, Ways};
+    use super::{Callers, Capacity, Cores, Ends, Fault, Grid, Round, Settings, Sorting, Ways};
     use crate::large::pieces::LinePieces;
     use crate::LinesBuf;
 
@@ -193,10 +195,11 @@ mod tests {
             tell: &|_| (),
         };
         let (mut round, mut sorting) = (Round::default(), Sorting::default());
-        round.nodes.meet(&pieces, (Grid::Exact, limit), &mut sorting, (cores, &callers)).unwrap();
+        let ends = Ends { pieces: &pieces, grid: Grid::Exact };
+        round.nodes.meet(ends, limit, (&mut sorting, false), (cores, &callers)).unwrap();
         round.outlines.walk(&pieces, &round.nodes);
         alter(&mut round, &pieces);
-        round.make(&pieces, &mut sorting, ways).err()
+        round.make(ends, &mut sorting, ways).err()
     }
 
     const SPUR: [[[f64; 2]; 2]; 3] =
