@@ -2,7 +2,7 @@
 
 use crate::arguments::Request;
 use crate::classes::Classes;
-use crate::delivery::{Delivery, Geometry};
+use crate::delivery::Delivery;
 use crate::joining::{gaps, join, zooms, Chain, Fault, Line, Outlined, Told};
 use crate::lending::Lent;
 use crate::measure::{bounds, extent, Measure};
@@ -30,9 +30,9 @@ pub fn run(requests: &[Request]) -> Result<String> {
     let targets: Vec<Targets> = requests.iter().map(Targets::of).collect::<Result<_>>()?;
     let wanted = request.wanted();
     let input = || wanted.whole_name();
-    let (source, ground) = Source::read(wanted, &progress).with_context(input)?;
+    let (source, text) = Source::read(wanted, &progress).with_context(input)?;
     let (delivery, layer) =
-        source.delivery(&ground, &request.reading, &progress).with_context(input)?;
+        source.delivery(&text, &request.reading, &progress).with_context(input)?;
     let delivery = &delivery;
     let classes = &Classes::of(delivery, request.class.as_deref(), request.district.as_ref())
         .with_context(input)?;
@@ -45,7 +45,7 @@ pub fn run(requests: &[Request]) -> Result<String> {
     let layer = layer.as_ref();
     let (named, told) = named_reference(layer, &targets, delivery, measure);
     let reference = layer.map_or(named.as_ref(), |layer| layer.reference.as_ref());
-    let checksum = &checksum(request, &ground.text, layer.map(|_| delivery)).with_context(input)?;
+    let checksum = &checksum(request, &text, layer.map(|_| delivery)).with_context(input)?;
     let given = Given { delivery, classes, measure, layer, reference, checksum };
     let zoom = |(request, outlined)| given.zoom(request, outlined, &progress);
     let zooms: Vec<Zoom> = requests.iter().zip(joined).map(zoom).collect::<Result<_>>()?;
@@ -212,9 +212,9 @@ impl<'a> Given<'a> {
 fn look_at_parts(delivery: &Delivery, window: Option<Window>, outlined: &mut Outlined) {
     if let Some(window) = window {
         for chain in 0..outlined.len() {
-            let geometry = &delivery.features[outlined.first_line(chain) as usize].geometry;
-            if let Geometry::Lines(_) = geometry {
-                let [least, greatest] = extent(geometry.runs().flatten().copied());
+            let (line, shapes) = (outlined.first_line(chain), delivery.shapes());
+            if shapes.is_multi(line) {
+                let [least, greatest] = extent(shapes.runs(line).flatten().copied());
                 outlined.set_inside(chain, window.meets(least, greatest));
             }
         }
@@ -249,12 +249,11 @@ pub fn lines<'d>(
     delivery: &'d Delivery,
     classes: &'d Classes,
 ) -> impl Iterator<Item = Line<'d>> + Clone {
-    let line = |(geometry, &group): (&'d Geometry, &u32)| match geometry {
-        Geometry::Line(run) => Line { points: Some(&run.points), extras: &run.heights, group },
-        Geometry::Lines(_) | Geometry::Other(_) => Line { points: None, extras: &[], group },
+    let line = |(line, &group): (u32, &u32)| match delivery.shapes().line(line) {
+        Some((points, extras)) => Line { points: Some(points), extras, group },
+        None => Line { points: None, extras: &[], group },
     };
-    let geometries = delivery.features.iter().map(|feature| &feature.geometry);
-    geometries.zip(&classes.groups).map(line)
+    delivery.lines().zip(&classes.groups).map(line)
 }
 
 /// The fault, with the class and what may be done about it, or with the feature that it is of.

@@ -2,31 +2,27 @@
 
 use crate::classes::Classes;
 use crate::command::lines;
-use crate::delivery::{Delivery, Feature, Geometry, Point};
-use lovasuku_chains::{Lines, LinesBuf, PLAIN};
+use crate::delivery::Delivery;
+use lovasuku_chains::{Dimension, Lines, LinesBuf, PLAIN};
 
 /// Lines that the library is lent.
 pub enum Lent<'a> {
-    /// Where they lie, one behind another: their points, and how many each has.
-    InPlace { points: &'a [Point], counts: Vec<u32>, groups: &'a [u32], kinds: Vec<u8> },
+    /// Where they lie, one behind another.
+    InPlace { delivery: &'a Delivery<'a>, groups: &'a [u32], kinds: Vec<u8> },
     /// Copied, since they have extras or pass through.
     Copied(LinesBuf),
 }
 
 impl<'a> Lent<'a> {
     /// The lines of a delivery, by their classes.
-    pub fn of(delivery: &Delivery<'a>, classes: &'a Classes) -> Self {
-        let count = |feature: &Feature| match &feature.geometry {
-            Geometry::Line(run) => run.points.len() as u32,
-            Geometry::Lines(_) | Geometry::Other(_) => 0,
-        };
-        let counts: Vec<u32> = delivery.features.iter().map(count).collect();
-        if let Some(points) = delivery.points {
-            let kinds = vec![PLAIN; counts.len()];
-            return Lent::InPlace { points, counts, groups: &classes.groups, kinds };
+    pub fn of(delivery: &'a Delivery<'a>, classes: &'a Classes) -> Self {
+        let (shapes, count) = (delivery.shapes(), delivery.len());
+        if delivery.dimension() == Dimension::Xy && shapes.multi() == 0 {
+            let kinds = vec![PLAIN; count];
+            return Lent::InPlace { delivery, groups: &classes.groups, kinds };
         }
-        let mut copied = LinesBuf::of(delivery.dimension);
-        copied.reserve(counts.len(), counts.iter().map(|&count| count as usize).sum());
+        let mut copied = LinesBuf::of(delivery.dimension());
+        copied.reserve(count, shapes.points().len());
         for line in lines(delivery, classes) {
             match line.points {
                 Some(points) => copied.push_apart(points, line.extras, line.group),
@@ -38,8 +34,9 @@ impl<'a> Lent<'a> {
 
     pub fn lines(&self) -> Lines<'_> {
         match self {
-            Lent::InPlace { points, counts, groups, kinds } => {
-                Lines::of_points(points, counts, groups, kinds)
+            Lent::InPlace { delivery, groups, kinds } => {
+                let shapes = delivery.shapes();
+                Lines::of_points(shapes.points(), shapes.counts(), groups, kinds)
             }
             Lent::Copied(lines) => lines.lines(),
         }

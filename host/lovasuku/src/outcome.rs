@@ -133,7 +133,7 @@ impl Outcome<'_> {
                 lost.join(", ")
             ));
         }
-        warnings.extend(lost_in_geojson(self.layer, self.delivery.dimension));
+        warnings.extend(lost_in_geojson(self.layer, self.delivery.dimension()));
         warnings
     }
 

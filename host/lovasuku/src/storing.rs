@@ -2,7 +2,7 @@
 
 use crate::arguments::Request;
 use crate::delivery::object::{Entry, Object};
-use crate::delivery::{Delivery, Feature, Geometry, Heights, Point};
+use crate::delivery::{Delivery, Feature, Geometry, Heights, Point, Properties};
 use crate::joining::{Chain, Outlined};
 use crate::measure::Measure;
 use crate::outcome::{told_of_clashes, Outcome};
@@ -103,13 +103,14 @@ pub fn lost_in_geojson(layer: Option<&About>, dimension: Dimension) -> Vec<Strin
 const DEGREES: &str = "EPSG:4326";
 
 /// The geometry of a chain: its points, or those of its only line as they were.
-fn drawn<'a>(delivery: &'a Delivery, chain: &'a Chain) -> Drawn<'a> {
-    let alone = chain.members.first().map(|&line| &delivery.features[line as usize].geometry);
+fn drawn<'a>(delivery: &'a Delivery, chain: &Chain<'a>) -> Drawn<'a> {
+    let alone = chain.members.first();
+    let alone = alone.map(|&line| (delivery.shapes().line(line), delivery.shapes().get(line)));
     match (chain.points, alone) {
         (Some(points), _) => Drawn::Line(points, chain.extras),
-        (None, Some(Geometry::Line(run))) => Drawn::Line(&run.points, &run.heights),
-        (None, Some(Geometry::Lines(parts))) => Drawn::Lines(parts),
-        (None, None | Some(Geometry::Other(_))) => Drawn::Lines(&[]),
+        (None, Some((Some((points, extras)), _))) => Drawn::Line(points, extras),
+        (None, Some((None, Geometry::Lines(parts)))) => Drawn::Lines(parts),
+        (None, _) => Drawn::Lines(Vec::new()),
     }
 }
 
@@ -135,7 +136,7 @@ impl Features for StoredChains<'_> {
 
     fn is_line(&self, place: usize) -> bool {
         let line = self.outlined.first_line(self.id(place));
-        matches!(self.writer.delivery.features[line as usize].geometry, Geometry::Line(_))
+        !self.writer.delivery.shapes().is_multi(line)
     }
 
     fn each(&self, places: Range<usize>, tell: &mut dyn FnMut(Each<'_>)) {
@@ -205,22 +206,21 @@ impl Outcome<'_> {
         let mut first: Vec<(String, Kinds)> = own.iter().cloned().zip(OWN).chain(others).collect();
         let known = self.are_known(fields, &own);
         if known {
-            let lines = 0..self.delivery.features.len() as u32;
-            let kinds = lines.map(|line| Kinds::of_item(&self.delivery.name(line)));
+            let kinds = self.delivery.lines().map(|line| Kinds::of_item(&self.delivery.name(line)));
             first[MEMBERS].1 = kinds.fold(first[MEMBERS].1, Kinds::with);
         }
         let inside = (0..outlined.len() as u32).filter(|&chain| outlined.is_inside(chain as usize));
         let inside = inside.collect();
         let features = Box::new(StoredChains { outlined, inside, writer, own });
         let content = (features as Box<dyn Features>, first, known);
-        self.content(store, "chain", content, self.delivery.dimension, progress)
+        self.content(store, "chain", content, self.delivery.dimension(), progress)
     }
 
     /// True where the fields of chains are known without a look at each: the chain's own, and of the input
     /// fields of single values, of which a chain has one or none.
     fn are_known(&self, fields: &[Field], own: &[String]) -> bool {
         let is_plain = |field: &Field| field.kind.is_single() && !own.contains(&field.name);
-        let few = i32::try_from(self.delivery.features.len()).is_ok();
+        let few = i32::try_from(self.delivery.len()).is_ok();
         let whole = self.request.window.is_none() && self.request.keep != Keep::List;
         self.layer.is_some() && few && whole && fields.iter().all(is_plain)
     }
@@ -230,7 +230,10 @@ impl Outcome<'_> {
         let feature = |text: Vec<u8>| {
             let text = String::from_utf8(text).ok()?;
             let read = Feature::of(&text, Heights::Dropped).ok()?;
-            let properties = read.properties.unwrap_or("{}").to_owned();
+            let properties = match read.properties {
+                Properties::Written(Some(text)) => text.to_owned(),
+                _ => "{}".into(),
+            };
             match read.geometry {
                 Geometry::Line(run) => Some((properties, run.points.into_owned())),
                 Geometry::Lines(_) | Geometry::Other(_) => None,

@@ -1,6 +1,6 @@
 //! The numbers of a run, for the summary and the map.
 
-use crate::delivery::{Delivery, Geometry, Point};
+use crate::delivery::{Delivery, Point};
 use crate::joining::{blocking, Chain, Gap, Joint, JointKind, Line, Outlined};
 use crate::measure::Measure;
 use crate::numbers::parts;
@@ -57,11 +57,12 @@ impl Tally {
         outlined: &Outlined,
         tolerance: f64,
     ) -> (Self, Vec<f64>) {
-        let geometries = || delivery.features.iter().map(|feature| &feature.geometry);
+        let shapes = delivery.shapes();
+        let flat = |&line: &u32| shapes.get(line).has_no_length();
         let mut tally = Tally {
-            lines: delivery.features.len(),
-            multi: geometries().filter(|each| matches!(each, Geometry::Lines(_))).count(),
-            without_length: geometries().filter(|each| each.has_no_length()).count(),
+            lines: delivery.len(),
+            multi: shapes.multi(),
+            without_length: delivery.lines().filter(flat).count(),
             blocking: blocking(lines),
             chains: outlined.len(),
             laid: outlined.laid().to_vec(),
@@ -124,7 +125,7 @@ fn length_of(delivery: &Delivery, measure: &Measure, chain: &Chain) -> f64 {
 pub fn runs_of<'a>(delivery: &'a Delivery, chain: &Chain<'a>) -> Vec<&'a [Point]> {
     match (chain.points, chain.members.first()) {
         (Some(points), _) => vec![points],
-        (None, Some(&line)) => delivery.features[line as usize].geometry.runs().collect(),
+        (None, Some(&line)) => delivery.shapes().runs(line).collect(),
         (None, None) => Vec::new(),
     }
 }

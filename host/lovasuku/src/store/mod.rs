@@ -19,7 +19,6 @@ mod writing;
 pub use connections::{is_connection, is_database, shown};
 pub use fields::Kinds;
 pub use gdal::{Dataset, Field, Reference};
-pub use geometry::Positions;
-pub use reading::{read, About, Asked, Held, Rows};
+pub use reading::{read, About, Asked, Rows};
 pub use targets::{driver_name, Store};
 pub use writing::{Drawn, Each, Features, Sheet};

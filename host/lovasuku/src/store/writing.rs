@@ -49,7 +49,7 @@ pub enum Drawn<'a> {
     /// A line: its points and their extras.
     Line(&'a [Point], &'a [f64]),
     /// A MultiLineString, by its parts.
-    Lines(&'a [Run<'a>]),
+    Lines(Vec<Run<'a>>),
 }
 
 /// A layer to be written.

@@ -76,7 +76,7 @@ impl Chains<'_> {
         self.name(out, line);
         if self.parts {
             out.extend(b",\"part\":");
-            value(out, &self.delivery.features[line as usize].part);
+            value(out, &self.delivery.part(line));
         }
         out.extend(b",\"turned\":");
         value(out, &turned);
@@ -118,7 +118,7 @@ impl Chains<'_> {
     /// A property that every chain has, by its place among these.
     fn own_value(&self, place: usize, chain: &Chain) -> String {
         let mut out = Vec::new();
-        let part = |&line: &u32| self.delivery.features[line as usize].part;
+        let part = |&line: &u32| self.delivery.part(line);
         match place {
             0 => list(&mut out, chain.members, |out, &line| self.name(out, line)),
             1 => list(&mut out, chain.path, |out, step| self.step(out, *step)),
@@ -132,7 +132,7 @@ impl Chains<'_> {
 
 /// The geometry of a chain: its points, or those of its only line as they were.
 fn geometry(out: &mut Vec<u8>, delivery: &Delivery, chain: &Chain) {
-    let alone = chain.members.first().map(|&line| &delivery.features[line as usize].geometry);
+    let alone = chain.members.first().map(|&line| delivery.shapes().get(line));
     match (&chain.points, alone) {
         (Some(points), _) => {
             out.extend(b"{\"type\":\"LineString\",\"coordinates\":");
@@ -144,7 +144,7 @@ fn geometry(out: &mut Vec<u8>, delivery: &Delivery, chain: &Chain) {
         }
         (None, Some(Geometry::Lines(parts))) => {
             out.extend(b"{\"type\":\"MultiLineString\",\"coordinates\":");
-            list(out, parts, |out, part| run(out, &part.points, &delivery.heights(&part.heights)));
+            list(out, &parts, |out, part| run(out, &part.points, &delivery.heights(&part.heights)));
         }
         (None, None | Some(Geometry::Other(_))) => return out.extend(b"null"),
     }
