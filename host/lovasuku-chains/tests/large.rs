@@ -1,6 +1,6 @@
 //! Deliveries by the safe calls: what is refused, what is told, and what is asked of the memory.
 
-use lovasuku_chains::large::{join_lines, Capacity, Cores, Fault, Joined, Rooms, Told, Way};
+use lovasuku_chains::large::{Capacity, Cores, Fault, Joined, Rooms, Way};
 use lovasuku_chains::{Dimension, Lines, LinesBuf, Refusal, Settings, Window, WindowBuf};
 use std::alloc::{GlobalAlloc, Layout, System};
 use std::sync::atomic::{AtomicUsize, Ordering::Relaxed};
@@ -103,7 +103,8 @@ fn rooms_hold_no_more_than_they_say() {
             rooms.build_by(lines.lines(), settings, way).unwrap();
             let held = HELD.load(Relaxed) - before;
             let most = Rooms::most_bytes(n, numbers, 1);
-            assert!(held <= most && 4 * held > most, "{held} bytes of {most} ({way:?})");
+            // Without a second round much less is held.
+            assert!(held <= most && 5 * held > most, "{held} bytes of {most} ({way:?})");
         }
     }
 }
@@ -232,30 +233,5 @@ fn chains_of_as_many_lines_as_a_call_holds() {
         let way = Way { capacity, ..Way::default() };
         let joined = rooms.build_by(road.lines(), Settings::default(), way).unwrap();
         assert_eq!((joined.laid(), joined.calls()), (&[0][..], 0));
-    }
-}
-
-#[test]
-fn lines_are_joined_where_they_lie() {
-    let _turn = TURN.lock();
-    let town = town(40);
-    let window = Window { least: [3.0, 3.0], greatest: [9.0, 8.0] };
-    for tolerances in [&[0.0][..], &[0.75], &[0.0, 0.6], &[0.6, 0.0]] {
-        for limit in [None, Some(-0.5)] {
-            let settings = Settings { limit, ..Settings::default() };
-            let asked = (settings, Some(window));
-            let zooms = join_lines(town.lines(), asked, tolerances, Way::default()).unwrap();
-            assert_eq!(zooms.len(), tolerances.len());
-            for (told, &tolerance) in zooms.iter().zip(tolerances) {
-                let mut rooms = Rooms::default();
-                let (settings, way) =
-                    (settings.with_tolerance(tolerance), Way { boxes: true, ..Way::default() });
-                let joined = rooms.build_by(town.lines(), settings, way).unwrap();
-                assert_eq!(*told, Told::of(&joined, Some(window)).unwrap());
-                let inside = told.chains().filter(|chain| chain.in_window).count();
-                assert!(inside > 0 && inside < told.len());
-                assert!(told.chains().any(|chain| chain.points.map_or(0, <[_]>::len) > 2));
-            }
-        }
     }
 }

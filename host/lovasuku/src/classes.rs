@@ -19,19 +19,19 @@ impl<'a> Classes<'a> {
     /// The classes by a property. Features without the property are a class too, and where no
     /// property is named, all features are one class, in each district.
     pub fn of(
-        delivery: &Delivery<'a>,
+        delivery: &'a Delivery,
         property: Option<&str>,
         district: Option<&District>,
     ) -> Result<Self> {
         let mut classes = Classes { groups: Vec::new(), values: Vec::new() };
         let mut numbers: HashMap<Option<&str>, u32> = HashMap::new();
-        for feature in &delivery.features {
-            let value = property.and_then(|name| feature.property(name));
+        for line in delivery.lines() {
+            let value = property.and_then(|name| delivery.property(line, name));
             let group = *numbers.entry(value).or_insert_with(|| {
                 classes.values.push(value);
                 classes.values.len() as u32 - 1
             });
-            let of_second = district.map_or(false, |district| district.has(feature));
+            let of_second = district.map_or(false, |district| district.has(delivery, line));
             classes.groups.push(if of_second { BORDER | group } else { group });
         }
         match (property, district) {

@@ -2,8 +2,9 @@
 
 use crate::arguments::Request;
 use crate::classes::Classes;
-use crate::delivery::{Delivery, Feature, Geometry};
-use crate::joining::{gaps, join, zooms, Chain, Fault, Lent, Line, Told};
+use crate::delivery::Delivery;
+use crate::joining::{gaps, join, zooms, Chain, Fault, Line, Outlined, Told};
+use crate::lending::Lent;
 use crate::measure::{bounds, extent, Measure};
 use crate::outcome::{Outcome, Targets};
 use crate::page::{self, Page};
@@ -12,11 +13,11 @@ use crate::source::Source;
 use crate::store::{About, Reference};
 use crate::storing;
 use crate::summary::{of_degrees, Summary};
-use crate::tally::{length_of, Tally};
+use crate::tally::Tally;
 use crate::writing;
 use anyhow::{anyhow, Context, Error, Result};
 use lovasuku_chains::explain::Explained;
-use lovasuku_chains::{Dimension, Lines, Settings, Window, PLAIN};
+use lovasuku_chains::{Dimension, Lines, Settings, Window};
 use std::sync::atomic::AtomicUsize;
 use std::time::Instant;
 
@@ -29,24 +30,25 @@ pub fn run(requests: &[Request]) -> Result<String> {
     let targets: Vec<Targets> = requests.iter().map(Targets::of).collect::<Result<_>>()?;
     let wanted = request.wanted();
     let input = || wanted.whole_name();
-    let (source, ground) = Source::read(wanted, &progress).with_context(input)?;
+    let (source, text) = Source::read(wanted, &progress).with_context(input)?;
     let (delivery, layer) =
-        source.delivery(&ground, &request.reading, &progress).with_context(input)?;
+        source.delivery(&text, &request.reading, &progress).with_context(input)?;
     let delivery = &delivery;
     let classes = &Classes::of(delivery, request.class.as_deref(), request.district.as_ref())
         .with_context(input)?;
     let unit = layer.as_ref().and_then(|layer| layer.unit(bounds(delivery)));
     let measure = &Measure::of(delivery, request.units.as_deref().or(unit.as_deref()));
-    let joined = joined(requests, delivery, classes, &progress).with_context(input)?;
-    let lines = lines(delivery, classes);
+    let lent = Lent::of(delivery, classes);
+    let joined = joined(requests, lent.lines(), &progress)
+        .map_err(|fault| named(delivery, classes, fault))
+        .with_context(input)?;
     let layer = layer.as_ref();
     let (named, told) = named_reference(layer, &targets, delivery, measure);
     let reference = layer.map_or(named.as_ref(), |layer| layer.reference.as_ref());
-    let checksum = &checksum(request, &ground.text, layer.map(|_| delivery)).with_context(input)?;
+    let checksum = &checksum(request, &text, layer.map(|_| delivery)).with_context(input)?;
     let given = Given { delivery, classes, measure, layer, reference, checksum };
-    let zoom = |(request, told)| given.zoom(request, told, &lines, &progress);
-    let zooms: Vec<Zoom> = requests.iter().zip(&joined).map(zoom).collect::<Result<_>>()?;
-    drop(lines);
+    let zoom = |(request, outlined)| given.zoom(request, outlined, &progress);
+    let zooms: Vec<Zoom> = requests.iter().zip(joined).map(zoom).collect::<Result<_>>()?;
     let warnings = given.put(&zooms, &targets, &progress)?;
     progress.end();
     let summary = |(zoom, warnings): (&Zoom, Vec<String>)| {
@@ -58,33 +60,17 @@ pub fn run(requests: &[Request]) -> Result<String> {
     Ok(zooms.iter().zip(warnings).map(summary).collect::<Vec<_>>().join("\n"))
 }
 
-/// The chains of each tolerance. Lines that lie one behind another are joined where they lie.
-fn joined(
+/// The chains of each tolerance.
+fn joined<'a>(
     requests: &[Request],
-    delivery: &Delivery,
-    classes: &Classes,
+    lines: Lines<'a>,
     progress: &Progress,
-) -> Result<Vec<Told>> {
-    let request = requests.first().context("nothing is asked for")?;
-    let asked = (request.settings, request.window);
+) -> Result<Vec<Outlined<'a>>, Fault> {
     let tolerances: Vec<f64> = requests.iter().map(|request| request.settings.tolerance).collect();
-    let joined = match delivery.points {
-        Some(points) => {
-            let count = |feature: &Feature| match &feature.geometry {
-                Geometry::Line(run) => run.points.len() as u32,
-                Geometry::Lines(_) | Geometry::Other(_) => 0,
-            };
-            let counts: Vec<u32> = delivery.features.iter().map(count).collect();
-            let kinds = vec![PLAIN; counts.len()];
-            let lines = Lines::of_points(points, &counts, &classes.groups, &kinds);
-            zooms(Lent::InPlace(lines), asked, &tolerances, progress)
-        }
-        None => {
-            let lines = lines(delivery, classes);
-            zooms(Lent::Apart(delivery.dimension, &lines), asked, &tolerances, progress)
-        }
-    };
-    joined.map_err(|fault| named(delivery, classes, fault))
+    match requests.first() {
+        Some(request) => zooms(lines, (request.settings, request.window), &tolerances, progress),
+        None => Ok(Vec::new()),
+    }
 }
 
 /// The reference system that GeoJSON names, where it goes into a store, and what there is to warn of.
@@ -124,7 +110,7 @@ struct Given<'a> {
 /// What one tolerance came to.
 struct Zoom<'a> {
     request: &'a Request,
-    chains: Vec<Chain<'a>>,
+    outlined: Outlined<'a>,
     /// The length of each chain.
     lengths: Vec<f64>,
     tally: Tally,
@@ -136,28 +122,37 @@ impl<'a> Given<'a> {
     fn zoom<'r>(
         self,
         request: &'r Request,
-        told: &'r Told,
-        lines: &[Line],
+        mut outlined: Outlined<'r>,
         progress: &Progress,
     ) -> Result<Zoom<'r>> {
         let Given { delivery, measure, .. } = self;
-        let mut chains: Vec<Chain> = told.chains().collect();
-        look_at_parts(delivery, request.window, &mut chains);
-        let lengths: Vec<f64> =
-            chains.iter().map(|chain| length_of(delivery, measure, chain)).collect();
-        let mut tally = tally(request, delivery, lines, &chains, &lengths);
-        tally.laid = told.laid().to_vec();
-        let mut zoom = Zoom { request, chains, lengths, tally, page: None };
-        if request.page.is_some() {
-            zoom.page = Some(self.page(&zoom, lines, progress)?);
+        look_at_parts(delivery, request.window, &mut outlined);
+        let tolerance = request.settings.tolerance;
+        let lines = || lines(delivery, self.classes);
+        let (mut tally, lengths) = Tally::of(delivery, measure, lines(), &outlined, tolerance);
+        let mut page = None;
+        if tolerance > 0.0 || request.page.is_some() {
+            let (lines, told): (Vec<Line>, Told) = (lines().collect(), outlined.whole());
+            let chains: Vec<Chain> = told.chains().collect();
+            if tolerance > 0.0 {
+                tally.gaps = gaps(&lines, &chains, request.settings);
+            }
+            if request.page.is_some() {
+                page = Some(self.page(request, &tally, (&lines, &chains), progress)?);
+            }
         }
-        Ok(zoom)
+        Ok(Zoom { request, outlined, lengths, tally, page })
     }
 
     /// The page of one tolerance.
-    fn page(self, zoom: &Zoom, lines: &[Line], progress: &Progress) -> Result<Vec<u8>> {
+    fn page(
+        self,
+        request: &Request,
+        tally: &Tally,
+        (lines, chains): (&[Line], &[Chain]),
+        progress: &Progress,
+    ) -> Result<Vec<u8>> {
         let Given { delivery, classes, measure, checksum, .. } = self;
-        let Zoom { request, chains, tally, .. } = zoom;
         let explained = &explained(lines, chains, request.settings, progress)?;
         let name = &short_name(request);
         let page =
@@ -195,13 +190,13 @@ impl<'a> Given<'a> {
         'a: 'o,
     {
         let Given { delivery, measure, layer, reference, .. } = self;
-        let Zoom { request, chains, lengths, tally, page } = zoom;
+        let Zoom { request, outlined, lengths, tally, page } = zoom;
         let (page, clashes) = (page.as_deref(), AtomicUsize::default());
         Outcome {
             request,
             delivery,
             measure,
-            chains,
+            outlined,
             lengths,
             tally,
             layer,
@@ -214,12 +209,14 @@ impl<'a> Given<'a> {
 
 /// Tells which MultiLineStrings meet a window: they pass through, and the library is not given their
 /// parts.
-fn look_at_parts(delivery: &Delivery, window: Option<Window>, chains: &mut [Chain]) {
-    for (chain, window) in chains.iter_mut().zip(window.into_iter().cycle()) {
-        let line = chain.members.first().map(|&line| &delivery.features[line as usize].geometry);
-        if let Some(geometry @ Geometry::Lines(_)) = line {
-            let [least, greatest] = extent(geometry.runs().flatten().copied());
-            chain.in_window = window.meets(least, greatest);
+fn look_at_parts(delivery: &Delivery, window: Option<Window>, outlined: &mut Outlined) {
+    if let Some(window) = window {
+        for chain in 0..outlined.len() {
+            let (line, shapes) = (outlined.first_line(chain), delivery.shapes());
+            if shapes.is_multi(line) {
+                let [least, greatest] = extent(shapes.runs(line).flatten().copied());
+                outlined.set_inside(chain, window.meets(least, greatest));
+            }
         }
     }
 }
@@ -248,28 +245,15 @@ pub fn explained(
 }
 
 /// The lines to be joined, by their classes.
-pub fn lines<'d>(delivery: &'d Delivery, classes: &Classes) -> Vec<Line<'d>> {
-    let line = |(geometry, &group): (&'d Geometry, &u32)| match geometry {
-        Geometry::Line(run) => Line { points: Some(&run.points), extras: &run.heights, group },
-        Geometry::Lines(_) | Geometry::Other(_) => Line { points: None, extras: &[], group },
+pub fn lines<'d>(
+    delivery: &'d Delivery,
+    classes: &'d Classes,
+) -> impl Iterator<Item = Line<'d>> + Clone {
+    let line = |(line, &group): (u32, &u32)| match delivery.shapes().line(line) {
+        Some((points, extras)) => Line { points: Some(points), extras, group },
+        None => Line { points: None, extras: &[], group },
     };
-    let geometries = delivery.features.iter().map(|feature| &feature.geometry);
-    geometries.zip(&classes.groups).map(line).collect()
-}
-
-fn tally(
-    request: &Request,
-    delivery: &Delivery,
-    lines: &[Line],
-    chains: &[Chain],
-    lengths: &[f64],
-) -> Tally {
-    let tolerance = request.settings.tolerance;
-    let mut tally = Tally::of(delivery, lines, chains, lengths, tolerance);
-    if tolerance > 0.0 {
-        tally.gaps = gaps(lines, chains, request.settings);
-    }
-    tally
+    delivery.lines().zip(&classes.groups).map(line)
 }
 
 /// The fault, with the class and what may be done about it, or with the feature that it is of.

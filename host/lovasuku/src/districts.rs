@@ -1,7 +1,7 @@
 //! Districts: two may go through the library side by side, and lines of the one are never joined with
 //! lines of the other.
 
-use crate::delivery::Feature;
+use crate::delivery::Delivery;
 use std::fmt;
 
 /// The second district: the lines that have this value of a property. All others are the first's.
@@ -22,11 +22,11 @@ impl District {
         }
     }
 
-    /// True where a feature is of it: the property is written as the value is, or is that text.
-    pub fn has(&self, feature: &Feature) -> bool {
+    /// True where a line is of it: the property is written as the value is, or is that text.
+    pub fn has(&self, delivery: &Delivery, line: u32) -> bool {
         let is_text =
             |text: &str| serde_json::from_str(text).map_or(false, |it: String| it == self.value);
-        let written = feature.property(&self.property);
+        let written = delivery.property(line, &self.property);
         written.map_or(false, |text| text == self.value || is_text(text))
     }
 }

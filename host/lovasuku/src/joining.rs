@@ -4,7 +4,7 @@ use crate::progress::Progress;
 use lovasuku_chains::large;
 pub use lovasuku_chains::large::{
     blocking, check_batches, distance, gaps, Capacity, Chain, CheckBatch, Checker, Fault, Gap,
-    Joint, JointKind, Line, Told, Way, Why,
+    Joint, JointKind, Line, Outlined, Told, Way, Why,
 };
 use lovasuku_chains::{Dimension, Lines, Settings, Window};
 
@@ -23,35 +23,16 @@ pub fn join(
     large::join(dimension, lines, (settings, window), way)
 }
 
-/// Lines that are joined.
-#[derive(Clone, Copy)]
-pub enum Lent<'a> {
-    /// Wherever they stand.
-    Apart(Dimension, &'a [Line<'a>]),
-    /// One behind another, where they lie.
-    InPlace(Lines<'a>),
-}
-
 /// Joins lines for each of several tolerances, with one round one for all.
-pub fn zooms(
-    lent: Lent,
+pub fn zooms<'a>(
+    lines: Lines<'a>,
     (settings, window): (Settings, Option<Window>),
     tolerances: &[f64],
     progress: &Progress,
-) -> Result<Vec<Told>, Fault> {
+) -> Result<Vec<Outlined<'a>>, Fault> {
     let rounds = 1 + tolerances.iter().filter(|&&tolerance| tolerance > 0.0).count();
-    let lines = match lent {
-        Lent::Apart(_, lines) => lines.len(),
-        Lent::InPlace(lines) => lines.len(),
-    };
-    progress.begin("joining", rounds * lines);
+    progress.begin("joining", rounds * lines.len());
     let tell = |lines: usize| progress.add(lines);
-    let (asked, way) =
-        ((settings, window), Way { neighbours: true, tell: &tell, ..Way::default() });
-    match lent {
-        Lent::Apart(dimension, lines) => {
-            large::join_zooms(dimension, lines, asked, tolerances, way)
-        }
-        Lent::InPlace(lines) => large::join_lines(lines, asked, tolerances, way),
-    }
+    let way = Way { neighbours: true, tell: &tell, ..Way::default() };
+    large::join_lines(lines, (settings, window), tolerances, way)
 }

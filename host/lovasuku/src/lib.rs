@@ -8,6 +8,7 @@ pub mod command;
 pub mod delivery;
 pub mod districts;
 pub mod joining;
+mod lending;
 pub mod manual;
 mod map;
 mod measure;

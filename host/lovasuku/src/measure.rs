@@ -59,8 +59,7 @@ fn on_the_sphere([x, y]: Point, [to_x, to_y]: Point) -> f64 {
 
 /// The lowest and the highest x and y of all points.
 pub fn bounds(delivery: &Delivery) -> [Point; 2] {
-    let runs = delivery.features.iter().flat_map(|feature| feature.geometry.runs());
-    let bounds = extent(runs.flatten().copied());
+    let bounds = extent(delivery.shapes().points().iter().copied());
     match bounds[0][0].is_finite() {
         true => bounds,
         false => [[0.0; 2]; 2],

@@ -1,6 +1,7 @@
-//! Numbers in words.
+//! Numbers in words, and ranges in parts.
 
 use indicatif::HumanCount;
+use std::ops::Range;
 
 /// A number with its thousands parted.
 pub fn parted(number: usize) -> String {
@@ -46,6 +47,12 @@ pub fn to_decimals(x: f64, decimals: usize) -> String {
         "-0" => "0".into(),
         _ => text.to_owned(),
     }
+}
+
+/// A range in parts of so many.
+pub fn parts(all: Range<usize>, part: usize) -> Vec<Range<usize>> {
+    let end = all.end;
+    all.step_by(part).map(|from| from..end.min(from + part)).collect()
 }
 
 #[cfg(test)]

@@ -4,7 +4,7 @@ use crate::arguments::Request;
 use crate::command::short_name;
 use crate::delivery::object::Object;
 use crate::delivery::{Delivery, Heights};
-use crate::joining::Chain;
+use crate::joining::{Chain, Outlined};
 use crate::map::{map, Cells, Sheet};
 use crate::measure::Measure;
 use crate::numbers::{count, short};
@@ -65,7 +65,7 @@ pub struct Outcome<'a> {
     pub request: &'a Request,
     pub delivery: &'a Delivery<'a>,
     pub measure: &'a Measure,
-    pub chains: &'a [Chain<'a>],
+    pub outlined: &'a Outlined<'a>,
     /// The length of each chain.
     pub lengths: &'a [f64],
     pub tally: &'a Tally,
@@ -108,7 +108,7 @@ impl Outcome<'_> {
 
     fn write_chains(&self, into: &mut dyn Write, progress: &Progress) -> io::Result<()> {
         let mut text = self.format().begin(into, &self.members())?;
-        let clashes = self.writer().write(self.chains, &mut text, progress)?;
+        let clashes = self.writer().write(self.outlined, &mut text, progress)?;
         self.clashes.store(clashes, Ordering::Relaxed);
         text.end()
     }
@@ -133,7 +133,7 @@ impl Outcome<'_> {
                 lost.join(", ")
             ));
         }
-        warnings.extend(lost_in_geojson(self.layer, self.delivery.dimension));
+        warnings.extend(lost_in_geojson(self.layer, self.delivery.dimension()));
         warnings
     }
 
@@ -161,7 +161,7 @@ impl Outcome<'_> {
     pub fn bridge_features(&self) -> Vec<Vec<u8>> {
         let tolerance = self.request.settings.tolerance;
         let Outcome { delivery, measure, .. } = *self;
-        Bridges { delivery, measure, tolerance }.write(self.chains, &self.tally.gaps)
+        Bridges { delivery, measure, tolerance }.write(self.outlined, &self.tally.gaps)
     }
 
     fn write_bridges(&self, into: &mut dyn Write, path: &Path) -> io::Result<()> {
@@ -174,6 +174,7 @@ impl Outcome<'_> {
     }
 
     fn map(&self) -> Vec<u8> {
+        let told = self.outlined.whole();
         map(&Sheet {
             name: &short_name(self.request),
             settings: &settings_in_words(self.request, self.measure),
@@ -182,7 +183,7 @@ impl Outcome<'_> {
             window: self.request.window,
             delivery: self.delivery,
             measure: self.measure,
-            chains: self.chains,
+            chains: &told.chains().collect::<Vec<Chain>>(),
             lengths: self.lengths,
             tally: self.tally,
         })

@@ -2,7 +2,7 @@
 
 use crate::delivery::{self, formats, Delivery, Reading};
 use crate::progress::Progress;
-use crate::store::{self, About, Asked, Dataset, Held, Positions, Rows};
+use crate::store::{self, About, Asked, Dataset, Rows};
 use anyhow::{ensure, Context, Result};
 use std::fs::File;
 use std::io::Read;
@@ -33,33 +33,22 @@ impl Wanted<'_> {
     }
 }
 
-/// What a delivery lies in: its text, and the positions of a layer.
-#[derive(Default)]
-pub struct Ground {
-    pub text: String,
-    positions: Positions,
-}
-
-/// A delivery that was read from its source, but for what it lies in.
-pub enum Source {
+/// A delivery that was read from its source, but for its text.
+pub enum Source<'r> {
     /// GeoJSON.
     Text,
     /// The rows of a layer.
-    Layer(Box<Rows>),
+    Layer(Box<Rows<'r>>),
 }
 
 /// How much of a file tells what it is.
 const START: u64 = 512;
 
-impl Source {
-    /// Reads what is wanted: GeoJSON as a text as it is, or the ids and properties of a layer as one, and
-    /// its positions.
-    pub fn read(wanted: Wanted, progress: &Progress) -> Result<(Self, Ground)> {
+impl<'r> Source<'r> {
+    /// Reads what is wanted: GeoJSON as a text as it is, or the ids and properties of a layer as one.
+    pub fn read(wanted: Wanted<'r>, progress: &Progress) -> Result<(Self, String)> {
         let (name, what) = match store_of(wanted)? {
-            None => {
-                let text = delivery::text(wanted.input)?;
-                return Ok((Source::Text, Ground { text, ..Ground::default() }));
-            }
+            None => return Ok((Source::Text, delivery::text(wanted.input)?)),
             Some(store) => store,
         };
         let opened = Dataset::open(&name, false);
@@ -67,27 +56,24 @@ impl Source {
             Some(what) => opened.with_context(|| format!("it is {what}, which GDAL reads"))?,
             None => opened?,
         };
-        let mut held = Held::default();
-        let heights = wanted.reading.heights;
-        let rows = store::read(&dataset, wanted.store, heights, &mut held, progress)?;
-        let Held { text, positions } = held;
+        let mut text = Vec::new();
+        let rows = store::read(&dataset, wanted.store, wanted.reading, &mut text, progress)?;
         let text = String::from_utf8(text).context("its texts are not UTF-8")?;
-        Ok((Source::Layer(Box::new(rows)), Ground { text, positions }))
+        Ok((Source::Layer(Box::new(rows)), text))
     }
 
-    /// The delivery that lies in the ground, and what its layer is where it is one.
+    /// The delivery of a text, and what its layer is where it is one.
     pub fn delivery<'a>(
         self,
-        ground: &'a Ground,
+        text: &'a str,
         reading: &Reading,
         progress: &Progress,
     ) -> Result<(Delivery<'a>, Option<About>)> {
-        let Ground { text, positions } = ground;
         match self {
             Source::Text => Ok((delivery::read(text, reading, progress)?, None)),
-            Source::Layer(rows) => rows
-                .delivery(text, positions, reading)
-                .map(|(delivery, about)| (delivery, Some(about))),
+            Source::Layer(rows) => {
+                rows.delivery(text).map(|(delivery, about)| (delivery, Some(about)))
+            }
         }
     }
 }

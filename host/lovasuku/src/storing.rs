@@ -2,18 +2,20 @@
 
 use crate::arguments::Request;
 use crate::delivery::object::{Entry, Object};
-use crate::delivery::{Delivery, Feature, Geometry, Heights, Point};
-use crate::joining::Chain;
+use crate::delivery::{Delivery, Feature, Geometry, Heights, Point, Properties};
+use crate::joining::{Chain, Outlined};
 use crate::measure::Measure;
 use crate::outcome::{told_of_clashes, Outcome};
 use crate::progress::Progress;
 use crate::store::{
-    driver_name, is_database, shown, About, Drawn, Features, Field, Kinds, Reference, Sheet, Store,
+    driver_name, is_database, shown, About, Drawn, Each, Features, Field, Kinds, Reference, Sheet,
+    Store,
 };
 use crate::writing::{Chains, Content, Keep, Target};
 use anyhow::{ensure, Context, Result};
 use lovasuku_chains::Dimension;
 use std::borrow::Cow;
+use std::ops::Range;
 
 /// The name, behind the prefix, of the field that tells which chain a feature is.
 const CHAIN: &str = "chain";
@@ -101,22 +103,23 @@ pub fn lost_in_geojson(layer: Option<&About>, dimension: Dimension) -> Vec<Strin
 const DEGREES: &str = "EPSG:4326";
 
 /// The geometry of a chain: its points, or those of its only line as they were.
-fn drawn<'a>(delivery: &'a Delivery, chain: &'a Chain) -> Drawn<'a> {
-    let alone = chain.members.first().map(|&line| &delivery.features[line as usize].geometry);
+fn drawn<'a>(delivery: &'a Delivery, chain: &Chain<'a>) -> Drawn<'a> {
+    let alone = chain.members.first();
+    let alone = alone.map(|&line| (delivery.shapes().line(line), delivery.shapes().get(line)));
     match (chain.points, alone) {
         (Some(points), _) => Drawn::Line(points, chain.extras),
-        (None, Some(Geometry::Line(run))) => Drawn::Line(&run.points, &run.heights),
-        (None, Some(Geometry::Lines(parts))) => Drawn::Lines(parts),
-        (None, None | Some(Geometry::Other(_))) => Drawn::Lines(&[]),
+        (None, Some((Some((points, extras)), _))) => Drawn::Line(points, extras),
+        (None, Some((None, Geometry::Lines(parts)))) => Drawn::Lines(parts),
+        (None, _) => Drawn::Lines(Vec::new()),
     }
 }
 
 /// The chains that go into a store, each with the properties that GeoJSON has and with its id, which not
 /// all formats keep.
 struct StoredChains<'a> {
-    chains: &'a [Chain<'a>],
+    outlined: &'a Outlined<'a>,
     /// The positions of those that meet the window.
-    inside: Vec<usize>,
+    inside: Vec<u32>,
     writer: Chains<'a>,
     /// The names of the fields that every chain has, the first of which is that of the id.
     own: Vec<String>,
@@ -128,25 +131,37 @@ impl Features for StoredChains<'_> {
     }
 
     fn id(&self, place: usize) -> usize {
-        self.inside[place]
+        self.inside[place] as usize
     }
 
-    fn properties(&self, place: usize) -> (Vec<Entry<'_>>, bool) {
-        let id = self.id(place);
-        let (mut properties, clash) = self.writer.properties(&self.chains[id]);
+    fn is_line(&self, place: usize) -> bool {
+        let line = self.outlined.first_line(self.id(place));
+        !self.writer.delivery.shapes().is_multi(line)
+    }
+
+    fn each(&self, places: Range<usize>, tell: &mut dyn FnMut(Each<'_>)) {
+        let ids = || places.clone().map(|place| self.id(place));
+        let told = self.outlined.told(ids());
+        for (id, chain) in ids().zip(told.chains()) {
+            let (properties, left_out) = self.properties(id, &chain);
+            tell(Each { properties, left_out, drawn: drawn(self.writer.delivery, &chain) });
+        }
+    }
+
+    fn told_of(&self, left_out: usize) -> Option<String> {
+        told_of_clashes(left_out, &self.own)
+    }
+}
+
+impl StoredChains<'_> {
+    /// The properties of a chain, and whether one of its members' is left out for its name.
+    fn properties(&self, id: usize, chain: &Chain) -> (Vec<Entry<'_>>, bool) {
+        let (mut properties, clash) = self.writer.properties(chain);
         let all = properties.len();
         properties.retain(|(name, _)| *name != self.own[0]);
         let more = properties.len() < all;
         properties.insert(0, (Cow::from(&self.own[0]), id.to_string().into()));
         (properties, clash || more)
-    }
-
-    fn drawn(&self, place: usize) -> Drawn<'_> {
-        drawn(self.writer.delivery, &self.chains[self.id(place)])
-    }
-
-    fn told_of(&self, left_out: usize) -> Option<String> {
-        told_of_clashes(left_out, &self.own)
     }
 }
 
@@ -163,13 +178,15 @@ impl Features for StoredBridges {
         place
     }
 
-    fn properties(&self, place: usize) -> (Vec<Entry<'_>>, bool) {
-        let properties = Object::of(&self.0[place].0).unwrap_or_default();
-        (properties.into_entries().collect(), false)
+    fn is_line(&self, _: usize) -> bool {
+        true
     }
 
-    fn drawn(&self, place: usize) -> Drawn<'_> {
-        Drawn::Line(&self.0[place].1, &[])
+    fn each(&self, places: Range<usize>, tell: &mut dyn FnMut(Each<'_>)) {
+        for (properties, points) in &self.0[places] {
+            let properties = Object::of(properties).unwrap_or_default().into_entries().collect();
+            tell(Each { properties, left_out: false, drawn: Drawn::Line(points, &[]) });
+        }
     }
 
     fn told_of(&self, _: usize) -> Option<String> {
@@ -180,7 +197,7 @@ impl Features for StoredBridges {
 impl Outcome<'_> {
     /// The chains as a layer.
     pub fn stored_chains<'o>(&'o self, store: &'o Store, progress: &'o Progress) -> Content<'o> {
-        let (chains, writer) = (self.chains, self.writer());
+        let (outlined, writer) = (self.outlined, self.writer());
         let name = format!("{}{CHAIN}", self.request.prefix);
         let own: Vec<String> = [name].into_iter().chain(writer.own.iter().cloned()).collect();
         let fields = self.layer.map_or(&[][..], |layer| &layer.fields);
@@ -189,21 +206,21 @@ impl Outcome<'_> {
         let mut first: Vec<(String, Kinds)> = own.iter().cloned().zip(OWN).chain(others).collect();
         let known = self.are_known(fields, &own);
         if known {
-            let lines = 0..self.delivery.features.len() as u32;
-            let kinds = lines.map(|line| Kinds::of_item(&self.delivery.name(line)));
+            let kinds = self.delivery.lines().map(|line| Kinds::of_item(&self.delivery.name(line)));
             first[MEMBERS].1 = kinds.fold(first[MEMBERS].1, Kinds::with);
         }
-        let inside = (0..chains.len()).filter(|&chain| chains[chain].in_window).collect();
-        let features = Box::new(StoredChains { chains, inside, writer, own });
+        let inside = (0..outlined.len() as u32).filter(|&chain| outlined.is_inside(chain as usize));
+        let inside = inside.collect();
+        let features = Box::new(StoredChains { outlined, inside, writer, own });
         let content = (features as Box<dyn Features>, first, known);
-        self.content(store, "chain", content, self.delivery.dimension, progress)
+        self.content(store, "chain", content, self.delivery.dimension(), progress)
     }
 
     /// True where the fields of chains are known without a look at each: the chain's own, and of the input
     /// fields of single values, of which a chain has one or none.
     fn are_known(&self, fields: &[Field], own: &[String]) -> bool {
         let is_plain = |field: &Field| field.kind.is_single() && !own.contains(&field.name);
-        let few = i32::try_from(self.delivery.features.len()).is_ok();
+        let few = i32::try_from(self.delivery.len()).is_ok();
         let whole = self.request.window.is_none() && self.request.keep != Keep::List;
         self.layer.is_some() && few && whole && fields.iter().all(is_plain)
     }
@@ -213,7 +230,10 @@ impl Outcome<'_> {
         let feature = |text: Vec<u8>| {
             let text = String::from_utf8(text).ok()?;
             let read = Feature::of(&text, Heights::Dropped).ok()?;
-            let properties = read.properties.unwrap_or("{}").to_owned();
+            let properties = match read.properties {
+                Properties::Written(Some(text)) => text.to_owned(),
+                _ => "{}".into(),
+            };
             match read.geometry {
                 Geometry::Line(run) => Some((properties, run.points.into_owned())),
                 Geometry::Lines(_) | Geometry::Other(_) => None,

@@ -1,8 +1,11 @@
 //! The numbers of a run, for the summary and the map.
 
-use crate::delivery::{Delivery, Geometry, Point};
-use crate::joining::{blocking, Chain, Gap, Joint, JointKind, Line};
+use crate::delivery::{Delivery, Point};
+use crate::joining::{blocking, Chain, Gap, Joint, JointKind, Line, Outlined};
 use crate::measure::Measure;
+use crate::numbers::parts;
+use rayon::prelude::*;
+use std::ops::Range;
 
 /// What a run did, in numbers.
 #[derive(Clone, Debug, Default, PartialEq)]
@@ -41,32 +44,52 @@ pub struct Longest {
     pub length: f64,
 }
 
+/// How many chains one core looks at at a time, and how many are laid before they are counted.
+const PART: usize = 256;
+const BLOCK: usize = 64 * PART;
+
 impl Tally {
-    pub fn of(
+    /// The numbers of a run, and the length of each chain.
+    pub fn of<'d>(
         delivery: &Delivery,
-        lines: &[Line],
-        chains: &[Chain],
-        lengths: &[f64],
+        measure: &Measure,
+        lines: impl Iterator<Item = Line<'d>> + Clone,
+        outlined: &Outlined,
         tolerance: f64,
-    ) -> Self {
-        let geometries = || delivery.features.iter().map(|feature| &feature.geometry);
+    ) -> (Self, Vec<f64>) {
+        let shapes = delivery.shapes();
+        let flat = |&line: &u32| shapes.get(line).has_no_length();
         let mut tally = Tally {
-            lines: delivery.features.len(),
-            multi: geometries().filter(|each| matches!(each, Geometry::Lines(_))).count(),
-            without_length: geometries().filter(|each| each.has_no_length()).count(),
+            lines: delivery.len(),
+            multi: shapes.multi(),
+            without_length: delivery.lines().filter(flat).count(),
             blocking: blocking(lines),
-            chains: chains.len(),
-            loops: chains.iter().filter(|chain| chain.is_loop).count(),
-            inside: chains.iter().filter(|chain| chain.in_window).count(),
+            chains: outlined.len(),
+            laid: outlined.laid().to_vec(),
             ..Tally::default()
         };
-        for (position, (chain, &length)) in chains.iter().zip(lengths).enumerate() {
-            tally.add(position, chain, length, tolerance);
+        let mut lengths = Vec::with_capacity(outlined.len());
+        let part = |chains: Range<usize>| {
+            let told = outlined.told(chains);
+            let length = |chain: Chain| length_of(delivery, measure, &chain);
+            let lengths: Vec<f64> = told.chains().map(length).collect();
+            (told, lengths)
+        };
+        for block in parts(0..outlined.len(), BLOCK) {
+            let all: Vec<_> = parts(block, PART).into_par_iter().map(part).collect();
+            for (told, of_part) in all {
+                for (chain, length) in told.chains().zip(of_part) {
+                    tally.add(lengths.len(), &chain, length, tolerance);
+                    lengths.push(length);
+                }
+            }
         }
-        tally
+        (tally, lengths)
     }
 
     fn add(&mut self, position: usize, chain: &Chain, length: f64, tolerance: f64) {
+        self.loops += usize::from(chain.is_loop);
+        self.inside += usize::from(chain.in_window);
         if self.longest_chain.map_or(true, |longest| longest.length < length) {
             let lines = chain.members.len();
             self.longest_chain = Some(Longest { chain: position, lines, length });
@@ -94,7 +117,7 @@ impl Tally {
 }
 
 /// The length of a chain.
-pub fn length_of(delivery: &Delivery, measure: &Measure, chain: &Chain) -> f64 {
+fn length_of(delivery: &Delivery, measure: &Measure, chain: &Chain) -> f64 {
     runs_of(delivery, chain).into_iter().fold(0.0, |sum, run| sum + measure.length(run))
 }
 
@@ -102,7 +125,7 @@ pub fn length_of(delivery: &Delivery, measure: &Measure, chain: &Chain) -> f64 {
 pub fn runs_of<'a>(delivery: &'a Delivery, chain: &Chain<'a>) -> Vec<&'a [Point]> {
     match (chain.points, chain.members.first()) {
         (Some(points), _) => vec![points],
-        (None, Some(&line)) => delivery.features[line as usize].geometry.runs().collect(),
+        (None, Some(&line)) => delivery.shapes().runs(line).collect(),
         (None, None) => Vec::new(),
     }
 }

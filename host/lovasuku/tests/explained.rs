@@ -14,7 +14,7 @@ use common::sample_text;
 use lovasuku_chains::explain::{Explained, Meeting, Round, Why};
 use lovasuku_chains::{Dimension, Refusal, Rooms, Settings};
 use lovasuku_command::command::explained;
-use lovasuku_command::delivery::{read, Geometry, Heights, Point, Reading};
+use lovasuku_command::delivery::{read, Heights, Point, Reading};
 use lovasuku_command::joining::{join, Chain, Line};
 use lovasuku_command::progress::Progress;
 use networks::network;
@@ -33,16 +33,13 @@ fn lines_of(name: &str, class: Option<&str>) -> Vec<(Option<Vec<Point>>, u32)> {
     let delivery = read(&text, &READING, &Progress::new(false)).unwrap();
     let mut values: Vec<Option<String>> = Vec::new();
     let mut all = Vec::new();
-    for feature in &delivery.features {
-        let value = class.and_then(|class| feature.property(class)).map(str::to_owned);
+    for line in delivery.lines() {
+        let value = class.and_then(|class| delivery.property(line, class)).map(str::to_owned);
         let group = values.iter().position(|each| *each == value).unwrap_or(values.len());
         if group == values.len() {
             values.push(value);
         }
-        let points = match &feature.geometry {
-            Geometry::Line(run) => Some(run.points.to_vec()),
-            _ => None,
-        };
+        let points = delivery.shapes().line(line).map(|(points, _)| points.to_vec());
         all.push((points, group as u32));
     }
     all

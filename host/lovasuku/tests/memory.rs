@@ -2,6 +2,7 @@
 
 use std::fs;
 use std::io::Write;
+use std::path::Path;
 use std::process::{Command, Stdio};
 use std::time::Duration;
 
@@ -70,5 +71,48 @@ fn four_times_the_file() {
         assert!(held <= 4 * text.len(), "{held} bytes for a file of {}, {args:?}", text.len());
         // What was seen is more than the text itself.
         assert!(held > text.len(), "{held}");
+    }
+}
+
+/// The roads that `host/store/speed` measures, so many villages of 1,000 lines each, as features.
+fn villages(count: usize) -> Vec<u8> {
+    let program = concat!(env!("CARGO_MANIFEST_DIR"), "/../store/roads.awk");
+    let villages = format!("villages={count}");
+    Command::new("awk").args(["-v", &villages, "-f", program]).output().unwrap().stdout
+}
+
+/// The bytes of a line of six points as WKB.
+const WKB: usize = 9 + 6 * 16;
+
+/// Makes a GeoPackage of features, and gives the most memory that a run on it holds.
+fn held_of_store(folder: &Path, features: &[u8], args: &[&str]) -> usize {
+    let path = |name: &str| folder.join(name).to_str().unwrap().to_owned();
+    let [text, store, out] = ["roads.geojsonl", "roads.gpkg", "chains.gpkg"].map(path);
+    fs::write(&text, features).unwrap();
+    let made = Command::new("ogr2ogr")
+        .args(["-f", "GPKG", "-overwrite", "-a_srs", "EPSG:3067", &store, &text])
+        .output();
+    assert!(made.unwrap().status.success());
+    held(&[&["join", &store, "-o", &out, "-q"], args].concat())
+}
+
+#[test]
+fn a_store_takes_three_times_its_wkb() {
+    if Command::new("ogr2ogr").arg("--version").output().is_err() {
+        return eprintln!("ogr2ogr is not installed (gdal-bin), so that stores are not tested");
+    }
+    let folder = tempfile::tempdir().unwrap();
+    let roads = villages(320);
+    let lines = roads.iter().filter(|&&byte| byte == b'\n').count();
+    assert_eq!(lines, 320_000);
+    let few: Vec<u8> =
+        roads.split_inclusive(|&byte| byte == b'\n').take(10).flatten().copied().collect();
+    for args in [&[][..], &["--bend", "60"]] {
+        // What ten lines take is GDAL's own and that of its libraries, however many there are.
+        let own = held_of_store(folder.path(), &few, args);
+        let held = held_of_store(folder.path(), &roads, args);
+        assert!(own > 0 && held > own + lines * WKB, "{held} and {own} bytes, {args:?}");
+        let beside = held - own;
+        assert!(beside <= 3 * lines * WKB, "{beside} bytes for WKB of {}, {args:?}", lines * WKB);
     }
 }

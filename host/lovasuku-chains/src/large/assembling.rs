@@ -84,13 +84,12 @@ impl<'a> Rounds<'a> {
 
 impl Whole {
     /// Puts together the chains of the last round, and behind them the lines that pass through, with
-    /// boxes if they are asked for. In place, where there is one round, coordinates stay where that laid
-    /// them.
-    pub fn put_together(&mut self, rounds: Rounds, boxes: bool, in_place: bool, cores: Cores) {
+    /// boxes if they are asked for.
+    pub fn put_together(&mut self, rounds: Rounds, boxes: bool, cores: Cores) {
         let lines = rounds.lines.lines.len();
         self.passing.clear();
         self.passing.extend((0..lines as u32).filter(|&line| rounds.lines.passes(line)));
-        self.count(rounds, in_place);
+        self.count(rounds);
         let chains = self.before.len() - 1;
         let [members, points] = self.before[chains].map(|count| count as usize);
         // Every number is written below, but for boxes above all levels, which are not looked at.
@@ -109,7 +108,7 @@ impl Whole {
             merged: &mut self.merged,
         };
         let Whole { passing, before, .. } = self;
-        let putting = Putting { rounds, passing, before, in_place, cores };
+        let putting = Putting { rounds, passing, before, cores };
         putting.put(0..chains, part);
         let boxed = if boxes { BOXES * chains + BOXES_BESIDE } else { 0 };
         resize(&mut self.boxes, boxed, 0.0);
@@ -120,7 +119,7 @@ impl Whole {
     }
 
     /// Counts what stands before each chain.
-    fn count(&mut self, rounds: Rounds, in_place: bool) {
+    fn count(&mut self, rounds: Rounds) {
         let stride = rounds.stride();
         let [mut members, mut points] = [0; 2];
         self.before.clear();
@@ -128,9 +127,8 @@ impl Whole {
         self.before.push([0; 2]);
         for chain in 0..rounds.last().outlines.len() as u32 {
             rounds.pieces(chain, |steps, _| members += steps.len() as u32);
-            match rounds.run(chain) {
-                Run::Merged(numbers) if !in_place => points += (numbers.len() / stride) as u32,
-                Run::Merged(_) | Run::Own(_) => (),
+            if let Run::Merged(numbers) = rounds.run(chain) {
+                points += (numbers.len() / stride) as u32;
             }
             self.before.push([members, points]);
         }
@@ -184,7 +182,6 @@ struct Putting<'a> {
     rounds: Rounds<'a>,
     passing: &'a [u32],
     before: &'a [[u32; 2]],
-    in_place: bool,
     cores: Cores,
 }
 
@@ -213,9 +210,6 @@ impl Putting<'_> {
         let (source, first, numbers) = match self.run(chain) {
             Run::Own(line) => {
                 (0, self.rounds.lines.firsts[line as usize], self.rounds.lines.numbers(line))
-            }
-            Run::Merged(numbers) if self.in_place => {
-                (1, self.rounds.first.place(chain as u32), numbers)
             }
             Run::Merged(numbers) => {
                 let from = self.rounds.stride() * point;

@@ -9,7 +9,7 @@
 use super::capacity::Capacity;
 use super::cores::Cores;
 use super::fitting::{fit, resize};
-use super::nodes::{Nodes, Sorting};
+use super::nodes::{Ends, Nodes, Sorting};
 use super::outlines::Outlines;
 use super::pieces::Pieces;
 use super::NONE;
@@ -71,13 +71,14 @@ pub struct Batches {
 
 impl Batches {
     /// Cuts the outlines of a round into batches.
-    pub fn cut(
+    pub fn cut<P: Pieces>(
         &mut self,
-        pieces: &impl Pieces,
+        ends: Ends<P>,
         Plan { nodes, outlines }: Plan,
         sorting: &mut Sorting,
         ways: Cutting,
     ) {
+        let pieces = ends.pieces;
         self.clear(pieces.count());
         let Cutting { capacity, batch, neighbours, cores } = ways;
         let needs_a_call = |&outline: &u32| match *outlines.steps(outline) {
@@ -87,7 +88,7 @@ impl Batches {
         let begin = |outline: u32| (outlines.steps(outline)[0], outline);
         let all = (0..outlines.len() as u32).filter(needs_a_call).map(begin);
         let mut filled = batch;
-        let near = sorting.by_place(all, cores);
+        let near = sorting.by_place(ends, all, cores);
         fit(&mut self.outlines, near.len());
         fit(&mut self.homes, near.len());
         fit(&mut self.rooms, near.len() + 1);

@@ -59,15 +59,15 @@ pub fn end_counts<'a>(lines: impl Iterator<Item = Line<'a>>) -> EndCounts {
 
 /// How many lines without length stand where two ends of lines with length lie, or more. There they
 /// are what keeps two lines from being joined.
-pub fn blocking(lines: &[Line]) -> usize {
-    let flat = |line: &&Line| line.ends().is_some() && line.has_no_length();
-    if !lines.iter().any(|line| flat(&line)) {
+pub fn blocking<'a>(lines: impl Iterator<Item = Line<'a>> + Clone) -> usize {
+    let flat = |line: &Line| line.ends().is_some() && line.has_no_length();
+    if !lines.clone().any(|line| flat(&line)) {
         return 0;
     }
-    let counts = end_counts(lines.iter().filter(|line| !flat(line)).copied());
+    let counts = end_counts(lines.clone().filter(|line| !flat(line)));
     let blocks = |line: &Line| {
         let ends = line.ends().map(|[first, _]| exact_key(line.group, first));
         ends.and_then(|key| counts.get(&key)).map_or(false, |&count| count > 1)
     };
-    lines.iter().filter(flat).filter(|line| blocks(line)).count()
+    lines.filter(|line| flat(line) && blocks(line)).count()
 }

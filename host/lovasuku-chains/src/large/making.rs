@@ -4,7 +4,7 @@ use super::batching::Batch;
 use super::calling::{Caller, Record};
 use super::capacity::Capacity;
 use super::gathering::{Asked, Cut, Without};
-use super::laying::lay;
+use super::laying::{is_laid, lay};
 use super::rounds::{Lender, Ways};
 use super::Fault;
 use std::ops::Range;
@@ -140,7 +140,7 @@ impl<P: Lender> Making<'_, P> {
     }
 
     /// Takes the chain of a slot out of an answer, if it is the one that was outlined, and gives how many
-    /// coordinates were laid.
+    /// coordinates were laid. Where they are not kept they have to be those that its pieces are laid to.
     fn take(
         &self,
         caller: &Caller,
@@ -160,7 +160,8 @@ impl<P: Lender> Making<'_, P> {
         let stride = self.pieces.stride();
         let from = stride * record.points.start..stride * record.points.end;
         match (room.get_mut(..from.len()), caller.answer.merged.get(from)) {
-            (Some(room), Some(merged)) => room.copy_from_slice(merged),
+            (Some(room), Some(merged)) if self.ways.keep => room.copy_from_slice(merged),
+            (_, Some(merged)) if !self.ways.keep && is_laid(self.pieces, steps, merged) => (),
             _ => return Err(self.differs(slot)),
         }
         Ok(record.points.len() as u32)
@@ -170,7 +171,9 @@ impl<P: Lender> Making<'_, P> {
     fn lay(&self, caller: &mut Caller, slot: u32, sizes: &mut [u32], laid: &mut [f64]) {
         let steps = self.steps(slot);
         if steps.len() > 1 {
-            sizes[0] = (lay(self.pieces, steps, laid) / self.pieces.stride()) as u32;
+            if self.ways.keep {
+                sizes[0] = (lay(self.pieces, steps, laid) / self.pieces.stride()) as u32;
+            }
             caller.laid.push(self.cut.batches.outline(slot));
         }
         (self.ways.tell)(self.lines(slot..slot + 1));
@@ -180,9 +183,12 @@ impl<P: Lender> Making<'_, P> {
         self.cut.outlines.steps(self.cut.batches.outline(slot))
     }
 
-    /// The numbers that slots have room for.
+    /// The numbers that slots have room for, where they are kept.
     fn numbers(&self, slots: Range<u32>) -> usize {
-        self.pieces.stride() * self.cut.batches.room(slots).len()
+        match self.ways.keep {
+            true => self.pieces.stride() * self.cut.batches.room(slots).len(),
+            false => 0,
+        }
     }
 
     /// The lines of slots.

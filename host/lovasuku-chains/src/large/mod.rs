@@ -33,8 +33,9 @@
 //! ```
 //!
 //! [`join`] takes lines that stand anywhere, and keeps the chains with what each was joined by;
-//! [`join_zooms`] does so for several tolerances, with one round one for all, and [`join_lines`] for lines
-//! that lie one behind another, without a copy of them; [`gaps`] tells what stayed open. [`check`] checks
+//! [`join_zooms`] does so for several tolerances, with one round one for all. [`join_lines`] takes lines that
+//! lie one behind another, without a copy of them, and lays the coordinates of chains when they are asked
+//! for; [`gaps`] tells what stayed open. [`check`] checks
 //! chains made elsewhere, of any number and size; a host that works on several cores cuts them by
 //! [`check_batches`], and gives each core a [`Checker`].
 
@@ -59,6 +60,7 @@ mod keys;
 mod laying;
 mod making;
 mod nodes;
+mod outlined;
 mod outlines;
 mod pieces;
 mod rooms;
@@ -76,6 +78,7 @@ pub use gaps::{gaps, Gap, Why};
 pub use joined::Joined;
 pub use joints::{blocking, distance, Joint, JointKind};
 pub(crate) use keys::{exact_key, key, Key};
+pub use outlined::Outlined;
 pub use rooms::{Rooms, Way};
 pub use told::{join, join_lines, join_zooms, Chain, Told};
 

@@ -1,13 +1,13 @@
 //! The nodes of a round: which ends meet, and which of them are joined.
 
-use super::arranging::{Arranger, Bounds, Code, Seen, FIRST};
+use super::arranging::{Arranger, Bounds, Code, Key, Keys, FIRST};
 use super::calling::Callers;
 use super::cores::Cores;
 use super::fitting::{fit, resize};
 use super::junctions::Junctions;
-use super::pieces::{end_of, Pieces};
+use super::pieces::Pieces;
 use super::sorting::sort;
-use super::spots::Grid;
+use super::spots::{Grid, Spot};
 use super::{Fault, NONE};
 use crate::rooms::grow;
 use std::sync::atomic::{AtomicU32, Ordering::Relaxed};
@@ -18,10 +18,55 @@ const PART: usize = 16_384;
 /// What ends and outlines are sorted in. Nothing in it is kept beyond a round.
 #[derive(Debug, Default)]
 pub struct Sorting {
-    pieces: Vec<Seen>,
+    /// What is seen of pieces that meet by cells, which take longer to tell than to look up.
+    seen: Vec<Seen>,
     code: Code,
     entries: Vec<u64>,
     spare: Vec<u64>,
+}
+
+/// The ends of pieces, by what they meet by.
+pub struct Ends<'a, P> {
+    pub pieces: &'a P,
+    pub grid: Grid,
+}
+
+impl<P> Clone for Ends<'_, P> {
+    fn clone(&self) -> Self {
+        *self
+    }
+}
+
+impl<P> Copy for Ends<'_, P> {}
+
+impl<P: Pieces> Ends<'_, P> {
+    #[inline]
+    fn spot(&self, end: u32) -> Spot {
+        self.grid.spot(self.pieces.end(end).unwrap_or_default())
+    }
+}
+
+/// What is seen of a piece: the spots of its ends, and its group.
+#[derive(Clone, Copy, Debug, Default)]
+struct Seen {
+    spots: [Spot; 2],
+    group: u32,
+}
+
+/// The ends of pieces, and what was seen of these, or nothing.
+struct Looked<'a, P> {
+    ends: Ends<'a, P>,
+    seen: &'a [Seen],
+}
+
+impl<P: Pieces> Keys for Looked<'_, P> {
+    #[inline]
+    fn key(&self, end: u32) -> Key {
+        match self.seen.get((end >> 1) as usize) {
+            Some(seen) => (seen.spots[(end & 1) as usize], seen.group),
+            None => (self.ends.spot(end), self.ends.pieces.group(end >> 1)),
+        }
+    }
 }
 
 /// The nodes of a round.
@@ -39,22 +84,26 @@ pub struct Nodes {
 impl Nodes {
     /// Groups the ends of pieces by their spots, and joins them: two ends of two pieces, and of three
     /// or more, where there is a limit, those that pairing selects.
-    pub fn meet(
+    pub fn meet<P: Pieces>(
         &mut self,
-        pieces: &impl Pieces,
-        (grid, limit): (Grid, Option<f64>),
-        sorting: &mut Sorting,
+        ends: Ends<P>,
+        limit: Option<f64>,
+        (sorting, lean): (&mut Sorting, bool),
         (cores, callers): (Cores, &Callers),
     ) -> Result<(), Fault> {
+        let pieces = ends.pieces;
         let count = 2 * pieces.count();
-        sorting.look(pieces, grid, cores);
-        let Sorting { pieces: seen, code, entries, spare } = sorting;
+        sorting.look(ends, cores);
+        let Sorting { seen, code, entries, spare } = sorting;
         fit(spare, entries.len());
         grow(spare, entries.len());
         self.ends.clear();
         resize(&mut self.ends, entries.len(), 0);
-        let arranger = Arranger { pieces: seen, cores };
+        let arranger = Arranger { keys: &Looked { ends, seen }, cores };
         arranger.arrange(*code, entries, spare, &mut self.ends);
+        if lean {
+            (sorting.entries, sorting.spare) = Default::default();
+        }
         forget(&mut self.joins, count, cores);
         forget(&mut self.crossings, count, cores);
         let joining = Joining { pieces, limit, nodes: self, cores, callers };
@@ -107,45 +156,54 @@ fn forget(table: &mut Vec<AtomicU32>, count: usize, cores: Cores) {
 }
 
 impl Sorting {
-    /// Looks at the ends of all pieces.
-    fn look(&mut self, pieces: &impl Pieces, grid: Grid, cores: Cores) {
-        let (count, stride) = (pieces.count(), pieces.stride());
-        // Of pieces that pass through whatever was seen before is not looked at.
-        resize(&mut self.pieces, count, Seen::default());
-        let look = |first: usize, part: &mut [Seen]| {
-            let mut bounds = Bounds::NONE;
-            for (piece, seen) in (first as u32..).zip(part) {
-                if let Some(run) = pieces.run(piece) {
-                    let spot = |side| grid.spot(end_of(run, stride, side).unwrap_or_default());
-                    *seen = Seen { spots: [spot(0), spot(1)], group: pieces.group(piece) };
-                    bounds = bounds.with(seen.spots[0]).with(seen.spots[1]);
-                }
-            }
-            bounds
-        };
-        let bounds = cores.parts((0, &mut self.pieces[..]), PART, &look, &|a, b| a.and(b));
-        self.code = Code::of_grid(grid, bounds);
+    /// Looks at the ends of all pieces but those that pass through.
+    fn look<P: Pieces>(&mut self, ends: Ends<P>, cores: Cores) {
+        let count = ends.pieces.count();
         self.entries.clear();
         fit(&mut self.entries, 2 * count);
         for piece in 0..count as u32 {
-            if !pieces.passes(piece) {
+            if !ends.pieces.passes(piece) {
                 self.entries.extend([2 * piece, 2 * piece + 1].map(u64::from));
             }
         }
+        self.see(ends, cores);
+        let keys = Looked { ends, seen: &self.seen };
+        let look = |_, part: &mut [u64]| {
+            let spots = part.iter().map(|&end| keys.key(end as u32).0);
+            spots.fold(Bounds::NONE, Bounds::with)
+        };
+        let bounds = cores.parts((0, &mut self.entries[..]), PART, &look, &|a, b| a.and(b));
+        self.code = Code::of_grid(ends.grid, bounds);
+    }
+
+    /// Sees all pieces where they meet by cells.
+    fn see<P: Pieces>(&mut self, ends: Ends<P>, cores: Cores) {
+        self.seen.clear();
+        if ends.grid == Grid::Exact {
+            return;
+        }
+        resize(&mut self.seen, ends.pieces.count(), Seen::default());
+        let see = |first: usize, part: &mut [Seen]| {
+            for (piece, seen) in (first as u32..).zip(part) {
+                let spots = [2 * piece, 2 * piece + 1].map(|end| ends.spot(end));
+                *seen = Seen { spots, group: ends.pieces.group(piece) };
+            }
+        };
+        cores.parts((0, &mut self.seen[..]), PART, &see, &|(), ()| ());
     }
 
     /// Sorts numbers by where the ends that they are given with lie, so that near ones are near each
     /// other.
-    pub fn by_place(
+    pub fn by_place<P: Pieces>(
         &mut self,
+        ends: Ends<P>,
         all: impl Iterator<Item = (u32, u32)>,
         cores: Cores,
     ) -> impl ExactSizeIterator<Item = u32> + '_ {
-        let Sorting { pieces, code, entries, spare } = self;
-        let entry = |(end, number): (u32, u32)| {
-            let Seen { spots, .. } = pieces[(end >> 1) as usize];
-            code.of(spots[(end & 1) as usize]) << u32::BITS | u64::from(number)
-        };
+        let Sorting { seen, code, entries, spare } = self;
+        let keys = Looked { ends, seen };
+        let entry =
+            |(end, number): (u32, u32)| code.of(keys.key(end).0) << u32::BITS | u64::from(number);
         entries.clear();
         entries.extend(all.map(entry));
         grow(spare, entries.len());

@@ -21,11 +21,6 @@ pub trait Pieces: Sync {
     /// True where a piece passes through.
     fn passes(&self, piece: u32) -> bool;
 
-    /// The numbers of a piece, or nothing where it passes through.
-    fn run(&self, piece: u32) -> Option<&[f64]> {
-        (!self.passes(piece)).then(|| self.numbers(piece))
-    }
-
     /// How many lines it has.
     fn lines(&self, piece: u32) -> usize;
 

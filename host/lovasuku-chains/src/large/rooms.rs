@@ -7,6 +7,7 @@ use super::cores::Cores;
 use super::joined::Joined;
 use super::judging;
 use super::nodes::Sorting;
+use super::outlined::{self, Outlined};
 use super::pieces::LinePieces;
 use super::rounds::{Round, Ways};
 use super::second_round::ChainPieces;
@@ -15,6 +16,7 @@ use super::Fault;
 use crate::size::RECORD;
 use crate::{Chains, Lines, Settings};
 use std::fmt;
+use std::sync::Arc;
 
 /// So many lines make a batch whose rooms the caches of a core hold.
 const BATCH: usize = 512;
@@ -39,12 +41,13 @@ pub struct Way<'a> {
 
 impl<'a> Way<'a> {
     /// How the calls of a round are made.
-    fn ways<'w>(self, settings: Settings, callers: &'w Callers, lean: bool) -> Ways<'w>
+    fn ways<'w>(self, settings: Settings, callers: &'w Callers) -> Ways<'w>
     where
         'a: 'w,
     {
         let Way { capacity, batch, neighbours, cores, tell, .. } = self;
-        Ways { settings, capacity, batch, neighbours, cores, callers, lean, tell }
+        let (lean, keep) = (false, true);
+        Ways { settings, capacity, batch, neighbours, cores, callers, lean, keep, tell }
     }
 }
 
@@ -101,16 +104,18 @@ impl Default for Way<'_> {
 /// ```
 #[derive(Debug, Default)]
 pub struct Rooms {
-    firsts: Vec<u32>,
+    firsts: Arc<Vec<u32>>,
     sorting: Sorting,
     callers: Callers,
     first: Round,
     second: Round,
+    /// Whether there was a second round.
+    finished: bool,
     whole: Whole,
     /// Whether the rooms let go of what is not needed any more, so that nothing can be run again in them.
-    pub(super) lean: bool,
-    /// True where the coordinates of chains stay where round one laid them.
-    in_place: bool,
+    lean: bool,
+    /// Whether chains are told of by their lines alone, so that their coordinates are not kept.
+    outlining: bool,
     /// The pieces of round one that were laid without a call, and its calls.
     first_laid: Vec<u32>,
     first_calls: usize,
@@ -172,18 +177,9 @@ impl Rooms {
         way.cores.within(|| self.finish(lines, settings, way))
     }
 
-    /// Takes the coordinates of chains of several lines.
-    pub(super) fn take_merged(&mut self) -> Vec<f64> {
-        match self.in_place {
-            true => self.first.let_go(),
-            false => std::mem::take(&mut self.whole.merged),
-        }
-    }
-
     /// The chains of the lines that were joined last.
     pub(super) fn joined<'a>(&'a self, lines: Lines<'a>) -> Joined<'a> {
         let Whole { table, members, marks, listing, way, merged, boxes, .. } = &self.whole;
-        let merged = if self.in_place { self.first.laid() } else { merged };
         let boxed = table.len() / RECORD;
         let chains = Chains { lines, table, members, marks, listing, way, merged, boxes, boxed };
         let Round { nodes, outlines, .. } = &self.first;
@@ -192,30 +188,45 @@ impl Rooms {
         Joined { chains, lines, nodes, pieces: outlines, laid, calls }
     }
 
+    /// Has chains told of by their lines, for the last time or not. For a window their coordinates are kept
+    /// all the same.
+    pub(super) fn outlining(&mut self, lean: bool, window: bool) {
+        (self.lean, self.outlining) = (lean, !window);
+    }
+
+    /// The chains of the lines that were joined last, by their lines.
+    pub(super) fn outlined<'a>(&self, lines: Lines<'a>) -> Outlined<'a> {
+        let second = self.finished.then_some(&self.second);
+        let rounds = outlined::Rounds { first: &self.first, second };
+        Outlined::of(lines, &self.firsts, rounds, &self.laid)
+    }
+
     /// Round one.
     fn first(&mut self, lines: Lines, settings: Settings, way: Way) -> Result<(), Fault> {
         judging::judge(lines, settings, way.cores)?;
-        judging::count(lines.counts, &mut self.firsts);
+        judging::count(lines.counts, Arc::make_mut(&mut self.firsts));
         self.callers.grow(way.cores);
         let Rooms { firsts, sorting, callers, first, first_laid, first_calls, .. } = self;
         // What a build that ended with a fault left behind is of no use.
         callers.take(first_laid);
         first_laid.clear();
         let lines = LinePieces { lines, firsts };
-        let last = self.lean && Grid::of_round_two(settings).is_none();
-        first.run(&lines, Grid::Exact, sorting, way.ways(settings, callers, last))?;
+        let lean = self.lean && Grid::of_round_two(settings).is_none();
+        let keep = !(self.outlining && lean);
+        let ways = Ways { lean, keep, ..way.ways(settings, callers) };
+        first.run(&lines, Grid::Exact, sorting, ways)?;
         *first_calls = callers.take(first_laid);
         Ok(())
     }
 
     /// Round two, where there is a tolerance, over what round one left, and the chains put together.
     fn finish(&mut self, lines: Lines, settings: Settings, way: Way) -> Result<(), Fault> {
-        let lean = self.lean;
+        let (lean, keep) = (self.lean, !self.outlining);
         let Rooms { firsts, sorting, callers, first, second, whole, laid, calls, .. } = self;
         laid.clone_from(&self.first_laid);
         *calls = self.first_calls;
         let lines = LinePieces { lines, firsts };
-        let ways = way.ways(settings, callers, lean);
+        let ways = Ways { lean, keep, ..way.ways(settings, callers) };
         let mut rounds = Rounds { lines, first, second: None };
         if let Some(grid) = Grid::of_round_two(settings) {
             second.run(&ChainPieces { lines, first }, grid, sorting, ways)?;
@@ -225,15 +236,13 @@ impl Rooms {
         }
         laid.sort_unstable();
         laid.dedup();
-        self.in_place = lean && rounds.second.is_none();
-        whole.put_together(rounds, way.boxes, self.in_place, way.cores);
-        if lean {
-            self.sorting = Sorting::default();
-            self.callers = Callers::default();
+        self.finished = rounds.second.is_some();
+        if keep {
+            whole.put_together(rounds, way.boxes, way.cores);
         }
-        if lean && !self.in_place {
+        if lean {
             first.let_go();
-            *second = Round::default();
+            second.let_go();
         }
         Ok(())
     }

@@ -7,7 +7,7 @@ use super::cores::Cores;
 use super::fitting::resize;
 use super::gathering::Cut;
 use super::making::Making;
-use super::nodes::{Nodes, Sorting};
+use super::nodes::{Ends, Nodes, Sorting};
 use super::outlines::Outlines;
 use super::pieces::Pieces;
 use super::spots::Grid;
@@ -50,6 +50,9 @@ pub struct Ways<'a> {
     pub callers: &'a Callers,
     /// Whether what was needed is let go of at once, for want of another round.
     pub lean: bool,
+    /// Whether the coordinates of chains are kept. Else what a call laid is compared with the pieces, from
+    /// which it can be laid again.
+    pub keep: bool,
     /// Is told how many lines are done.
     pub tell: &'a (dyn Fn(usize) + Sync),
 }
@@ -80,22 +83,24 @@ impl Round {
         sorting: &mut Sorting,
         ways: Ways,
     ) -> Result<(), Fault> {
-        let Ways { settings, cores, callers, .. } = ways;
-        self.nodes.meet(pieces, (grid, settings.limit), sorting, (cores, callers))?;
+        let Ways { settings, cores, callers, lean, .. } = ways;
+        let ends = Ends { pieces, grid };
+        self.nodes.meet(ends, settings.limit, (sorting, lean), (cores, callers))?;
         self.outlines.walk(pieces, &self.nodes);
-        self.make(pieces, sorting, ways)
+        self.make(ends, sorting, ways)
     }
 
     /// Makes the chains of the outlines.
-    fn make(
+    fn make<P: Lender>(
         &mut self,
-        pieces: &impl Lender,
+        ends: Ends<P>,
         sorting: &mut Sorting,
         ways: Ways,
     ) -> Result<(), Fault> {
+        let pieces = ends.pieces;
         let Ways { capacity, batch, neighbours, cores, .. } = ways;
         let plan = Plan { nodes: &self.nodes, outlines: &self.outlines };
-        self.batches.cut(pieces, plan, sorting, Cutting { capacity, batch, neighbours, cores });
+        self.batches.cut(ends, plan, sorting, Cutting { capacity, batch, neighbours, cores });
         if ways.lean {
             *sorting = Sorting::default();
         }
@@ -103,7 +108,8 @@ impl Round {
         resize(&mut self.sizes, self.batches.slots(), 0);
         let room = self.batches.room(0..self.batches.slots() as u32);
         // Whatever was laid there before is written over or not looked at.
-        resize(&mut self.laid, pieces.stride() * room.len(), 0.0);
+        let kept = if ways.keep { pieces.stride() * room.len() } else { 0 };
+        resize(&mut self.laid, kept, 0.0);
         let Round { nodes, outlines, batches, sizes, laid, .. } = self;
         let told = AtomicUsize::new(0);
         let tell = |lines: usize| {
@@ -114,7 +120,9 @@ impl Round {
         Making { pieces, cut, ways }.batches(batches.all(), sizes, laid)?;
         // The lines for which no call was needed.
         tell(pieces.all_lines().saturating_sub(told.load(Relaxed)));
-        self.find_places(cores);
+        if ways.keep {
+            self.find_places(cores);
+        }
         if ways.lean {
             self.batches = Batches::default();
             self.sizes = Vec::new();
@@ -140,23 +148,13 @@ impl Round {
         cores.parts((0, &mut places[..]), PART, &find, &|(), ()| ());
     }
 
-    /// Lets go of all but what tells of joints, and gives the coordinates that were laid.
-    pub fn let_go(&mut self) -> Vec<f64> {
+    /// Lets go of all but what tells of joints.
+    pub fn let_go(&mut self) {
         self.nodes.let_go();
         self.batches = Batches::default();
         self.sizes = Vec::new();
         self.places = Vec::new();
-        std::mem::take(&mut self.laid)
-    }
-
-    /// All coordinates that were laid.
-    pub fn laid(&self) -> &[f64] {
-        &self.laid
-    }
-
-    /// The first coordinate of the chain of an outline of several pieces, among all that were laid.
-    pub fn place(&self, outline: u32) -> u32 {
-        self.places[outline as usize][0]
+        self.laid = Vec::new();
     }
 
     /// The numbers of the chain of an outline of several pieces.
@@ -168,7 +166,7 @@ impl Round {
 
 #[cfg(test)]
 mod tests {
-    use super::{Callers, Capacity, Cores, Fault, Grid, Round, Settings, Sorting, Ways};
+    use super::{Callers, Capacity, Cores, Ends, Fault, Grid, Round, Settings, Sorting, Ways};
     use crate::large::pieces::LinePieces;
     use crate::LinesBuf;
 
@@ -193,13 +191,15 @@ mod tests {
             cores,
             callers: &callers,
             lean: false,
+            keep: true,
             tell: &|_| (),
         };
         let (mut round, mut sorting) = (Round::default(), Sorting::default());
-        round.nodes.meet(&pieces, (Grid::Exact, limit), &mut sorting, (cores, &callers)).unwrap();
+        let ends = Ends { pieces: &pieces, grid: Grid::Exact };
+        round.nodes.meet(ends, limit, (&mut sorting, false), (cores, &callers)).unwrap();
         round.outlines.walk(&pieces, &round.nodes);
         alter(&mut round, &pieces);
-        round.make(&pieces, &mut sorting, ways).err()
+        round.make(ends, &mut sorting, ways).err()
     }
 
     const SPUR: [[[f64; 2]; 2]; 3] =

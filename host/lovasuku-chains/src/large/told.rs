@@ -1,9 +1,10 @@
-//! The chains of a delivery with all that is told of them.
+//! Chains of a delivery with all that is told of them.
 
 use super::joints::Joint;
+use super::outlined::Outlined;
 use super::rooms::{Rooms, Way};
-use super::{Fault, Joined, Line, Point};
-use crate::size::{POINT, RECORD};
+use super::{Fault, Line, Point};
+use crate::size::POINT;
 use crate::two::by_two;
 use crate::{Dimension, Lines, LinesBuf, PathLine, Settings, Window, WindowBuf};
 
@@ -28,36 +29,34 @@ pub struct Chain<'a> {
     pub joints: &'a [Joint],
 }
 
-/// The chains of a delivery, for a host that keeps them, with what each was joined by.
+/// Chains of a delivery, with their coordinates and what each was joined by.
 ///
 /// Four bytes a line, eight more on its way, 48 a joint, 16 a chain, and the coordinates of chains of
 /// several lines.
 #[derive(Clone, Debug, Default)]
 pub struct Told {
-    members: Vec<u32>,
-    path: Vec<PathLine>,
-    joints: Vec<Joint>,
+    pub(super) members: Vec<u32>,
+    pub(super) path: Vec<PathLine>,
+    pub(super) joints: Vec<Joint>,
     /// x, y, x, y .. of chains of several lines, and the extras of these.
     points: Vec<f64>,
     extras: Vec<f64>,
-    width: usize,
+    dimension: Dimension,
     chains: Vec<Record>,
     laid: Vec<u32>,
 }
 
 impl PartialEq for Told {
-    /// Whether the same is told of the same chains, wherever their coordinates lie.
+    /// Whether the same is told of the same chains.
     fn eq(&self, other: &Told) -> bool {
         self.laid == other.laid && self.chains().eq(other.chains())
     }
 }
 
-/// A chain by where its members end, which begin where those of the chain before end, and by its points: the
-/// first of several lines' and how many there are.
+/// A chain by where its members and its points end, which begin where those of the chain before end.
 #[derive(Clone, Copy, Debug, Default)]
 struct Record {
     members: u32,
-    first: u32,
     points: u32,
     is_loop: bool,
     in_window: bool,
@@ -109,33 +108,58 @@ pub fn join_zooms(
     tolerances: &[f64],
     way: Way,
 ) -> Result<Vec<Told>, Fault> {
-    join_lines(lent(dimension, lines).lines(), (settings, window), tolerances, way)
+    let lent = lent(dimension, lines);
+    let zooms = join_lines(lent.lines(), (settings, window), tolerances, way)?;
+    Ok(zooms.iter().map(Outlined::whole).collect())
 }
 
-/// Joins lines as [`join_zooms`] does that lie one behind another, and of which no copy is made.
+/// Joins lines that lie one behind another, and of which no copy is made, for each of several tolerances, with
+/// one round one for all. The coordinates of chains are laid when they are asked for.
+///
+/// ```
+/// use lovasuku_chains::large::{join_lines, Way};
+/// use lovasuku_chains::{LinesBuf, Settings};
+///
+/// # fn main() -> Result<(), lovasuku_chains::large::Fault> {
+/// let mut roads = LinesBuf::default();
+/// roads.push([[0.0, 0.0], [1.25, 0.0]], 0);
+/// roads.push([[3.5, 0.0], [1.75, 0.0]], 0);
+/// let asked = (Settings::default(), None);
+/// let zooms = join_lines(roads.lines(), asked, &[0.0, 1.0], Way::default())?;
+/// assert_eq!([zooms[0].len(), zooms[1].len()], [2, 1]);
+/// let told = zooms[1].told([0]);
+/// let chain = told.chains().next().unwrap();
+/// assert_eq!(chain.points.unwrap(), [[0.0, 0.0], [1.25, 0.0], [1.75, 0.0], [3.5, 0.0]]);
+/// # Ok(())
+/// # }
+/// ```
 ///
 /// # Errors
 ///
 /// Those of [`Rooms::build`].
-pub fn join_lines(
-    lines: Lines,
+pub fn join_lines<'a>(
+    lines: Lines<'a>,
     (settings, window): (Settings, Option<Window>),
     tolerances: &[f64],
     way: Way,
-) -> Result<Vec<Told>, Fault> {
+) -> Result<Vec<Outlined<'a>>, Fault> {
     let mut rooms = Rooms::default();
     let way = Way { boxes: window.is_some(), ..way };
     let mut zooms = Vec::with_capacity(tolerances.len());
     for (k, &tolerance) in tolerances.iter().enumerate() {
         let settings = settings.with_tolerance(tolerance);
-        rooms.lean = k + 1 == tolerances.len();
+        rooms.outlining(k + 1 == tolerances.len(), window.is_some());
         match k {
             0 => rooms.run(lines, settings, way)?,
             _ => rooms.run_again(lines, settings, way)?,
         }
-        let mut told = Told::but_coordinates(&rooms.joined(lines), window)?;
-        told.put_coordinates(rooms.take_merged(), lines.dimension);
-        zooms.push(told);
+        let mut outlined = rooms.outlined(lines);
+        if let Some(window) = window {
+            let mut found = WindowBuf::default();
+            let inside = rooms.joined(lines).chains().window(window, &mut found)?;
+            outlined.put_inside(inside.into_iter().map(|(chain, _)| chain));
+        }
+        zooms.push(outlined);
     }
     Ok(zooms)
 }
@@ -154,61 +178,26 @@ fn lent(dimension: Dimension, lines: &[Line]) -> LinesBuf {
 }
 
 impl Told {
-    /// What is told of the chains of a delivery. For a window their boxes must be there.
-    pub fn of(joined: &Joined, window: Option<Window>) -> Result<Self, Fault> {
-        let chains = joined.chains();
-        let mut told = Told::but_coordinates(joined, window)?;
-        told.put_coordinates(chains.merged().to_vec(), chains.lines().dimension);
-        Ok(told)
+    /// No chains so far, of coordinates of a dimension, of a delivery of which the given chains were laid
+    /// without a call.
+    pub(super) fn of(dimension: Dimension, laid: &[u32]) -> Self {
+        Told { dimension, laid: laid.to_vec(), ..Told::default() }
     }
 
-    /// What is told of the chains of a delivery beside their coordinates.
-    fn but_coordinates(joined: &Joined, window: Option<Window>) -> Result<Self, Fault> {
-        let chains = joined.chains();
-        let mut told = Told {
-            members: chains.members().to_vec(),
-            path: Vec::with_capacity(chains.members().len()),
-            joints: Vec::with_capacity(chains.members().len().saturating_sub(chains.len())),
-            chains: Vec::with_capacity(chains.len()),
-            laid: joined.laid().to_vec(),
-            ..Told::default()
-        };
-        for (chain, record) in chains.iter().zip(chains.table().chunks_exact(RECORD)) {
-            told.put(joined, chain, record, window.is_none());
-        }
-        if let Some(window) = window {
-            for (position, _) in chains.window(window, &mut WindowBuf::default())? {
-                told.chains[position].in_window = true;
+    /// Ends a chain, whose lines and joints have been put, by its numbers, if it has several lines.
+    pub(super) fn end(&mut self, numbers: &[f64], is_loop: bool, in_window: bool) {
+        match self.dimension.extras() {
+            0 => self.points.extend_from_slice(numbers),
+            _ => {
+                for numbers in numbers.chunks_exact(self.dimension.stride()) {
+                    let (point, extras) = numbers.split_at(POINT);
+                    self.points.extend(point);
+                    self.extras.extend(extras);
+                }
             }
         }
-        Ok(told)
-    }
-
-    /// Puts the coordinates of chains of several lines.
-    fn put_coordinates(&mut self, merged: Vec<f64>, dimension: Dimension) {
-        self.width = dimension.extras();
-        if self.width == 0 {
-            self.points = merged;
-            return;
-        }
-        for numbers in merged.chunks_exact(dimension.stride()) {
-            let (point, extras) = numbers.split_at(POINT);
-            self.points.extend(point);
-            self.extras.extend(extras);
-        }
-    }
-
-    fn put(&mut self, joined: &Joined, chain: crate::Chain, record: &[u32], in_window: bool) {
-        let from = self.path.len();
-        self.path.extend(chain.path());
-        let way = &self.path[from..];
-        self.joints.extend(way.windows(2).map(|two| joined.joint(two[0], two[1])));
-        let (members, is_loop) = (self.path.len() as u32, chain.is_loop());
-        let [first, points] = match *record {
-            [_, _, 1, first, points, ..] => [first, points],
-            _ => [0; 2],
-        };
-        self.chains.push(Record { members, first, points, is_loop, in_window });
+        let (members, points) = (self.members.len() as u32, (self.points.len() / POINT) as u32);
+        self.chains.push(Record { members, points, is_loop, in_window });
     }
 
     /// How many chains there are.
@@ -226,26 +215,26 @@ impl Told {
         (0..self.chains.len()).map(|k| self.chain(k))
     }
 
-    /// The positions of the chains of which more was to be laid than a call holds, so that it was done
-    /// without one.
+    /// The positions of the chains of the delivery of which more was to be laid than a call holds, so that it
+    /// was done without one.
     pub fn laid(&self) -> &[u32] {
         &self.laid
     }
 
     fn chain(&self, k: usize) -> Chain<'_> {
         let before = k.checked_sub(1).map(|last| self.chains[last]).unwrap_or_default();
-        let Record { members, first, points, is_loop, in_window } = self.chains[k];
+        let Record { members, points, is_loop, in_window } = self.chains[k];
         let lines = before.members as usize..members as usize;
         // A chain of so many lines has one joint less.
         let joints = lines.start - k..lines.end - k - 1;
-        let run = first as usize..first as usize + points as usize;
+        let run = before.points as usize..points as usize;
+        let width = self.dimension.extras();
         let numbers = POINT * run.start..POINT * run.end;
-        let extras = self.width * run.start..self.width * run.end;
         Chain {
             members: &self.members[lines.clone()],
             path: &self.path[lines.clone()],
             points: (lines.len() > 1).then(|| by_two(&self.points[numbers])),
-            extras: &self.extras[extras],
+            extras: &self.extras[width * run.start..width * run.end],
             is_loop,
             in_window,
             joints: &self.joints[joints],

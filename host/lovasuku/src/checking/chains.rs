@@ -4,7 +4,7 @@ use super::has_heights;
 use super::names::Step;
 use crate::delivery::{self, Delivery, Feature, Geometry, Reading, Run};
 use crate::progress::Progress;
-use crate::source::{Ground, Source};
+use crate::source::Source;
 use anyhow::{anyhow, bail, Result};
 use lovasuku_chains::Dimension;
 use rayon::prelude::*;
@@ -42,7 +42,7 @@ impl<'a> Read<'a> {
 }
 
 /// The runs of a line, or of the parts of one.
-fn runs<'g, 'a>(geometry: &'g Geometry<'a>) -> impl Iterator<Item = &'g Run<'a>> {
+pub fn runs<'g, 'a>(geometry: &'g Geometry<'a>) -> impl Iterator<Item = &'g Run<'a>> {
     let (line, parts) = match geometry {
         Geometry::Line(run) => (Some(run), &[][..]),
         Geometry::Lines(parts) => (None, &parts[..]),
@@ -57,19 +57,21 @@ const PART: usize = 512;
 /// Reads chains, whose lines a property lists.
 pub fn read<'a>(
     source: Source,
-    ground: &'a Ground,
+    text: &'a str,
     (property, reading): (&str, &Reading),
     progress: &Progress,
 ) -> Result<Vec<Read<'a>>> {
     if let Source::Text = source {
-        return of_text(&ground.text, (property, reading), progress);
+        return of_text(text, (property, reading), progress);
     }
-    let (delivery, _) = source.delivery(ground, reading, progress)?;
-    let chain = |(row, feature): (usize, Feature<'a>)| {
-        chain(feature, property, delivery.dimension)
-            .map_err(|fault| anyhow!("feature {row}: {fault}"))
+    let (delivery, _) = source.delivery(text, reading, progress)?;
+    let of = |line: u32| {
+        let (list, id) = (delivery.property(line, property), delivery.id(line));
+        let geometry = delivery.shapes().get(line).into_owned();
+        chain(list, (id, geometry), property, delivery.dimension())
+            .map_err(|fault| anyhow!("feature {line}: {fault}"))
     };
-    delivery.features.into_iter().enumerate().map(chain).collect()
+    delivery.lines().map(of).collect()
 }
 
 /// Reads the chains of a text.
@@ -82,7 +84,8 @@ fn of_text<'a>(
     progress.begin("reading", features.len());
     let of = |text: &&'a str| {
         let feature = Feature::of(text, reading.heights)?;
-        chain(feature, property, Dimension::Xyz)
+        let list = feature.property(property);
+        chain(list, (feature.id, feature.geometry), property, Dimension::Xyz)
     };
     let part = |texts: &[&'a str]| -> Vec<Result<Read<'a>, String>> {
         progress.add(texts.len());
@@ -100,11 +103,12 @@ fn of_text<'a>(
 }
 
 fn chain<'a>(
-    feature: Feature<'a>,
+    list: Option<&str>,
+    (id, geometry): (Option<&str>, Geometry<'a>),
     property: &str,
     dimension: Dimension,
 ) -> Result<Read<'a>, String> {
-    let list = feature.property(property).ok_or_else(|| {
+    let list = list.ok_or_else(|| {
         format!(
             "it has no property {property:?} that lists its lines (--path PROPERTY names another)"
         )
@@ -112,11 +116,11 @@ fn chain<'a>(
     let wrong = || format!("its property {property:?} is not a list of names of lines");
     let list: Vec<Value> = serde_json::from_str(list).map_err(|_| wrong())?;
     let path = list.iter().map(Step::of).collect::<Option<_>>().ok_or_else(wrong)?;
-    let geometry = match feature.geometry {
+    let geometry = match geometry {
         Geometry::Other(what) => return Err(format!("its geometry is {what}, not a line")),
         line => line,
     };
-    Ok(Read { id: feature.id.map(str::to_owned), path, geometry, dimension })
+    Ok(Read { id: id.map(str::to_owned), path, geometry, dimension })
 }
 
 /// The first chain whose geometry is of another kind than its line's or has other parts, or is one of parts
@@ -128,7 +132,7 @@ pub fn other_shape(delivery: &Delivery, read: &[Read], listed: &[Vec<u32>]) -> O
             _ => vec![None],
         };
         match lines[..] {
-            [line] => parts(&delivery.features[line as usize].geometry) != parts(&chain.geometry),
+            [line] => parts(&delivery.shapes().get(line)) != parts(&chain.geometry),
             _ => matches!(chain.geometry, Geometry::Lines(_)),
         }
     };

@@ -55,8 +55,8 @@ pub fn run(request: &CheckRequest) -> Result<(Verdict, Vec<String>)> {
     let progress = Progress::new(!request.quiet);
     let lines = lines_of(request);
     let of = || lines.whole_name();
-    let (source, ground) = Source::read(lines, &progress).with_context(of)?;
-    let (delivery, _) = source.delivery(&ground, lines.reading, &progress).with_context(of)?;
+    let (source, text) = Source::read(lines, &progress).with_context(of)?;
+    let (delivery, _) = source.delivery(&text, lines.reading, &progress).with_context(of)?;
     let delivery = &delivery;
     let (class, district) = (request.class.as_deref(), request.district.as_ref());
     let classes = &Classes::of(delivery, class, district).with_context(of)?;
@@ -64,9 +64,9 @@ pub fn run(request: &CheckRequest) -> Result<(Verdict, Vec<String>)> {
     let (reading, store) = (&as_they_are(request.reading.heights), &Asked::default());
     let wanted = Wanted { input: &request.chains, reading, store };
     let from = || wanted.whole_name();
-    let (source, ground) = Source::read(wanted, &progress).with_context(from)?;
+    let (source, text) = Source::read(wanted, &progress).with_context(from)?;
     let list = (&request.path[..], reading);
-    let read = &chains::read(source, &ground, list, &progress).with_context(from)?;
+    let read = &chains::read(source, &text, list, &progress).with_context(from)?;
     let verdict = judged(request, delivery, classes, &names, read, &progress);
     progress.end();
     Ok((verdict.with_context(from)?, delivery.warnings.clone()))
@@ -94,7 +94,7 @@ fn judged(
         Ok(listed) => listed,
         Err(words) => return Ok(Verdict::Not(words)),
     };
-    let high = has_heights(delivery.dimension) || read.iter().any(Read::has_heights);
+    let high = has_heights(delivery.dimension()) || read.iter().any(Read::has_heights);
     let dimension = if high { Dimension::Xyz } else { Dimension::Xy };
     let lines = lent_lines(dimension, delivery, classes);
     let chains = lent_chains(dimension, read, &listed);
@@ -103,7 +103,7 @@ fn judged(
     let accepted = accepted(lines, chains, request.settings, progress)?;
     let words = Words { delivery, classes, read, lines, chains };
     if let (Some(beyond), None) = (accepted, shape) {
-        let of = [count(read.len(), "chain"), count(delivery.features.len(), "line")];
+        let of = [count(read.len(), "chain"), count(delivery.len(), "line")];
         return Ok(Verdict::Accepted(words::accepted(of, request.settings, beyond)));
     }
     let found = match accepted {
@@ -141,12 +141,13 @@ fn listed(
 /// The lines as the library takes them. A MultiLineString passes through, its parts one behind another.
 fn lent_lines(dimension: Dimension, delivery: &Delivery, classes: &Classes) -> LinesBuf {
     let mut lent = LinesBuf::of(dimension);
-    let of = |run| positions(run, delivery.dimension);
-    for (feature, &group) in delivery.features.iter().zip(&classes.groups) {
-        match &feature.geometry {
-            Geometry::Line(run) => lent.push(of(run), group),
-            Geometry::Lines(parts) => lent.push_passing(parts.iter().flat_map(of), group),
-            Geometry::Other(_) => lent.push_passing([[0.0; 3]; 0], group),
+    for (line, &group) in delivery.lines().zip(&classes.groups) {
+        let geometry = delivery.shapes().get(line);
+        let runs = chains::runs(&geometry);
+        let positions = runs.flat_map(|run| positions(run, delivery.dimension()));
+        match geometry {
+            Geometry::Line(_) => lent.push(positions, group),
+            Geometry::Lines(_) | Geometry::Other(_) => lent.push_passing(positions, group),
         }
     }
     lent

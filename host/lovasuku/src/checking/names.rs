@@ -49,15 +49,15 @@ impl Names {
     /// The names of all lines, each of which has to be one line's. Where lines are parts of features they
     /// are named with their parts.
     pub fn of(delivery: &Delivery, parts: bool) -> Result<Self> {
-        let mut names = HashMap::with_capacity(delivery.features.len());
-        for (line, feature) in delivery.features.iter().enumerate() {
-            let written = delivery.name(line as u32).into_owned();
+        let mut names = HashMap::with_capacity(delivery.len());
+        for line in delivery.lines() {
+            let written = delivery.name(line).into_owned();
             // A name is JSON already; a number is written as all are that are compared with it.
             let name = serde_json::from_str(&written).map_or(written, |v: Value| v.to_string());
-            let step = Step { name, part: if parts { feature.part } else { 0 } };
-            if let Some(other) = names.insert(step.clone(), line as u32) {
-                let other = delivery.features[other as usize].position;
-                bail!("{step} names features {other} and {}", feature.position);
+            let step = Step { name, part: if parts { delivery.part(line) } else { 0 } };
+            if let Some(other) = names.insert(step.clone(), line) {
+                let [other, this] = [other, line].map(|line| delivery.position(line));
+                bail!("{step} names features {other} and {this}");
             }
         }
         Ok(Names(names))

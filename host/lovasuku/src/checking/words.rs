@@ -2,7 +2,7 @@
 
 use super::chains::Read;
 use crate::classes::Classes;
-use crate::delivery::{Delivery, Geometry, Point};
+use crate::delivery::{Delivery, Point};
 use crate::measure::Measure;
 use crate::numbers::count;
 use lovasuku_chains::{Delivered, Finding, Lines, Settings, Unacceptable};
@@ -64,8 +64,7 @@ impl Words<'_> {
 
     /// The name of a line as it is written, with which part of its feature it is.
     fn line(&self, line: u32) -> String {
-        let part = self.delivery.features.get(line as usize).map_or(0, |feature| feature.part);
-        match part {
+        match self.delivery.part(line) {
             0 => self.delivery.name(line).into_owned(),
             part => format!("{} (part {part})", self.delivery.name(line)),
         }
@@ -119,9 +118,8 @@ impl Words<'_> {
     }
 
     fn passing(&self, line: Option<u32>) -> String {
-        let feature = line.and_then(|line| self.delivery.features.get(line as usize));
-        let what = match feature.map(|feature| &feature.geometry) {
-            Some(Geometry::Lines(_)) => "is a MultiLineString, which passes through",
+        let what = match line.map(|line| self.delivery.shapes().is_multi(line)) {
+            Some(true) => "is a MultiLineString, which passes through",
             _ => "has fewer than two positions, so that it passes through",
         };
         format!("it {what}, and does not stand alone")
@@ -140,8 +138,7 @@ impl Words<'_> {
     /// The distance of the nearest ends of two lines.
     fn distance(&self, one: u32, other: u32) -> f64 {
         let ends = |line: u32| -> Vec<Point> {
-            let feature = self.delivery.features.get(line as usize);
-            let runs = feature.into_iter().flat_map(|feature| feature.geometry.runs());
+            let runs = self.delivery.shapes().runs(line);
             runs.flat_map(|run| [run.first(), run.last()]).flatten().copied().collect()
         };
         let measure = Measure::of(self.delivery, None);

@@ -2,7 +2,9 @@
 
 use super::object::Object;
 use super::positions::{Run, Written};
+use super::texts::Properties;
 use super::Point;
+use lovasuku_chains::Dimension;
 
 /// A feature: a line, or other line geometry, with what the delivery tells about it.
 #[derive(Clone, Debug)]
@@ -13,8 +15,7 @@ pub struct Feature<'a> {
     pub part: u32,
     /// What names it as it is written, a text in quotes or a number.
     pub id: Option<&'a str>,
-    /// The object of its properties as it is written.
-    pub properties: Option<&'a str>,
+    pub properties: Properties<'a>,
     /// Its members beside those that GeoJSON asks for.
     pub foreign: Object<'a>,
     pub geometry: Geometry<'a>,
@@ -44,12 +45,39 @@ pub enum Heights {
 }
 
 impl Geometry<'_> {
+    /// The same by itself.
+    pub fn into_owned(self) -> Geometry<'static> {
+        let run = |Run { points, heights }: Run| Run {
+            points: points.into_owned().into(),
+            heights: heights.into_owned().into(),
+        };
+        match self {
+            Geometry::Line(line) => Geometry::Line(run(line)),
+            Geometry::Lines(parts) => Geometry::Lines(parts.into_iter().map(run).collect()),
+            Geometry::Other(what) => Geometry::Other(what),
+        }
+    }
+
     /// The runs of points that it is drawn by.
     pub fn runs(&self) -> Box<dyn Iterator<Item = &[Point]> + '_> {
         match self {
             Geometry::Line(run) => Box::new(std::iter::once(&run.points[..])),
             Geometry::Lines(parts) => Box::new(parts.iter().map(|part| &part.points[..])),
             Geometry::Other(_) => Box::new(std::iter::empty()),
+        }
+    }
+
+    /// What its positions have, of which GeoJSON knows heights.
+    pub fn dimension(&self) -> Dimension {
+        let high = |run: &Run| !run.heights.is_empty();
+        let any = match self {
+            Geometry::Line(run) => high(run),
+            Geometry::Lines(parts) => parts.iter().any(high),
+            Geometry::Other(_) => false,
+        };
+        match any {
+            true => Dimension::Xyz,
+            false => Dimension::Xy,
         }
     }
 
@@ -81,6 +109,7 @@ impl<'a> Feature<'a> {
             Some(id) => Some(scalar(id).ok_or("its id is neither a text nor a number")?),
         };
         let (properties, geometry) = (properties(&object)?, geometry(&object, heights)?);
+        let properties = Properties::Written(properties);
         let mut foreign = object;
         foreign.retain(|name, _| !ASKED_FOR.contains(&name));
         foreign.fit();
@@ -95,12 +124,12 @@ impl<'a> Feature<'a> {
 
     /// The value of a property as it is written; a null is no value.
     pub fn property(&self, name: &str) -> Option<&'a str> {
-        self.object().get(name).filter(|&value| value != "null")
+        self.properties.get(name).filter(|&value| value != "null")
     }
 
     /// All its properties.
     pub fn object(&self) -> Object<'a> {
-        self.properties.and_then(Object::of).unwrap_or_default()
+        self.properties.object()
     }
 }
 

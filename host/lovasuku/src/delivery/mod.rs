@@ -2,32 +2,51 @@
 
 mod feature;
 pub mod formats;
+mod gathered;
 mod naming;
 pub mod object;
 mod positions;
+mod runs;
+mod shapes;
 mod sorting;
 mod split;
 mod text;
+mod texts;
 
 use crate::progress::Progress;
 use anyhow::{anyhow, bail, Result};
 pub use feature::{Feature, Geometry, Heights};
+use gathered::Gathered;
 use lovasuku_chains::Dimension;
 use object::Object;
 pub use positions::Run;
 use rayon::prelude::*;
-pub use sorting::LeftOut;
-use sorting::Sorted;
+pub use runs::Runs;
+pub use shapes::Shapes;
+pub use sorting::{LeftOut, Sorting};
 use std::borrow::Cow;
+use std::collections::HashMap;
+use std::ops::Range;
 pub use text::text;
+use texts::Texts;
+pub use texts::{Properties, Rows, MARK};
 
 /// A point: x and y.
 pub type Point = [f64; 2];
 
-/// The lines of a delivery, in its order.
+/// The lines of a delivery, in its order, by columns: a feature is put together when it is asked for.
 #[derive(Debug, Default)]
 pub struct Delivery<'a> {
-    pub features: Vec<Feature<'a>>,
+    shapes: Shapes,
+    texts: Texts<'a>,
+    /// The position of each line's feature, where that is not the line's own.
+    positions: Vec<u32>,
+    /// Which part of its feature each line is, where lines are parts.
+    parts: Vec<u32>,
+    /// The value of the property that names each line, where one was asked for.
+    names: Vec<&'a str>,
+    /// The members of features beside those that GeoJSON asks for, where there are any.
+    foreign: HashMap<u32, Object<'a>>,
     /// The members of the collection as they are written, but for its type and its features.
     pub members: Object<'a>,
     /// True where every feature has a name of its own, by which it is then named.
@@ -36,10 +55,6 @@ pub struct Delivery<'a> {
     pub left_out: LeftOut,
     /// What the user has to know about the names of lines.
     pub warnings: Vec<String>,
-    /// What each position has. Those that a position lacks are NaN.
-    pub dimension: Dimension,
-    /// The points of all lines, one line behind another, where they lie so and there is nothing else.
-    pub points: Option<&'a [Point]>,
 }
 
 /// How a delivery is read.
@@ -57,20 +72,86 @@ pub struct Reading {
 }
 
 impl<'a> Delivery<'a> {
+    /// How many lines there are.
+    pub fn len(&self) -> usize {
+        self.shapes.len()
+    }
+
+    /// What each position has. Those that a position lacks are NaN.
+    pub fn dimension(&self) -> Dimension {
+        self.shapes.dimension
+    }
+
+    /// The geometry of all lines.
+    pub fn shapes(&self) -> &Shapes {
+        &self.shapes
+    }
+
+    /// The positions of all lines among these.
+    pub fn lines(&self) -> Range<u32> {
+        0..self.len() as u32
+    }
+
+    /// The position of a line's feature among all features of the delivery.
+    pub fn position(&self, line: u32) -> u32 {
+        self.positions.get(line as usize).copied().unwrap_or(line)
+    }
+
+    /// Which part of its feature a line is.
+    pub fn part(&self, line: u32) -> u32 {
+        self.parts.get(line as usize).copied().unwrap_or_default()
+    }
+
+    /// What names a line as it is written, if anything does.
+    pub fn id(&self, line: u32) -> Option<&'a str> {
+        let own = || self.texts.get(line as usize, self.position(line) as usize).0;
+        self.names.get(line as usize).copied().or_else(own)
+    }
+
+    /// The properties of a line.
+    pub fn properties(&self, line: u32) -> Properties<'_> {
+        self.texts.get(line as usize, self.position(line) as usize).1
+    }
+
+    /// The value of a property of a line as it is written; a null is no value.
+    pub fn property(&self, line: u32, name: &str) -> Option<&str> {
+        self.properties(line).get(name).filter(|&value| value != "null")
+    }
+
+    /// The members of a line's feature beside those that GeoJSON asks for.
+    pub fn foreign(&self, line: u32) -> Object<'a> {
+        self.foreign.get(&line).cloned().unwrap_or_default()
+    }
+
+    /// Where the rows of a layer begin in its text.
+    pub fn begin(&self) -> usize {
+        match &self.texts {
+            Texts::Written(_) => 0,
+            Texts::Rows(_, rows) => rows.begin,
+        }
+    }
+
+    /// The texts of all rows of a layer as they would be written.
+    pub fn rows(&self) -> impl Iterator<Item = String> + '_ {
+        self.texts.rows()
+    }
+
+    /// Judges whether lines are named by their ids.
+    fn judge(&mut self, reading: &Reading) {
+        let (named_by_ids, warning) = naming::judge(self, reading.id.as_deref());
+        self.named_by_ids = named_by_ids;
+        self.warnings.extend(warning);
+    }
+
     /// True where a position has a height that is kept.
     pub fn has_heights(&self) -> bool {
-        let high = |run: &Run| !run.heights.is_empty();
-        self.features.iter().any(|feature| match &feature.geometry {
-            Geometry::Line(run) => high(run),
-            Geometry::Lines(parts) => parts.iter().any(high),
-            Geometry::Other(_) => false,
-        })
+        self.shapes.has_extras()
     }
 
     /// The heights among the extras of points, one for each point, or none where they have none.
     pub fn heights<'e>(&self, extras: &'e [f64]) -> Cow<'e, [f64]> {
-        let stride = self.dimension.extras().max(1);
-        match self.dimension {
+        let stride = self.dimension().extras().max(1);
+        match self.dimension() {
             Dimension::Xy | Dimension::Xyz => extras.into(),
             Dimension::Xym => Cow::default(),
             Dimension::Xyzm => extras.iter().step_by(stride).copied().collect(),
@@ -84,10 +165,9 @@ impl<'a> Delivery<'a> {
 
     /// The name of a line as it is written in an output: its id, or the position of its feature.
     pub fn name(&self, line: u32) -> Cow<'a, str> {
-        let feature = self.features.get(line as usize);
-        match feature.and_then(|feature| feature.id) {
-            Some(id) if self.named_by_ids => id.into(),
-            _ => feature.map_or(line, |feature| feature.position).to_string().into(),
+        match self.named_by_ids.then(|| self.id(line)).flatten() {
+            Some(id) => id.into(),
+            None => self.position(line).to_string().into(),
         }
     }
 
@@ -98,8 +178,9 @@ impl<'a> Delivery<'a> {
     }
 }
 
-/// How many features one core reads at a time.
+/// How many features one core reads at a time, and how many are read before they are put together.
 const PART: usize = 512;
+const BLOCK: usize = 64 * PART;
 
 /// Reads the features of a text.
 pub fn read<'a>(text: &'a str, reading: &Reading, progress: &Progress) -> Result<Delivery<'a>> {
@@ -109,36 +190,52 @@ pub fn read<'a>(text: &'a str, reading: &Reading, progress: &Progress) -> Result
         progress.add(texts.len());
         texts.iter().map(|text| feature(text, reading)).collect()
     };
-    let read: Vec<Result<Feature, String>> =
-        split.features.par_chunks(PART).flat_map_iter(part).collect();
-    let place = |position: usize| place(text, split.features[position], position);
-    let mut delivery = gather(read, reading, place)?;
-    delivery.members = split.members;
-    if delivery.has_heights() {
-        delivery.dimension = Dimension::Xyz;
+    let mut gathered = Gathered::of(reading);
+    for block in split.features.chunks(BLOCK) {
+        let read: Vec<Result<Feature, String>> =
+            block.par_chunks(PART).flat_map_iter(part).collect();
+        for feature in read {
+            let position = gathered.position;
+            if let Err(fault) = feature.and_then(|feature| gathered.put(feature)) {
+                bail!(
+                    "{}: {fault}",
+                    place(text, split.features[position as usize], position as usize)
+                );
+            }
+        }
     }
+    let mut delivery = gathered.delivery();
+    delivery.members = split.members;
+    delivery.judge(reading);
     Ok(delivery)
 }
 
-/// The delivery of features that were read one by one, each in its place.
-pub fn gather<'a>(
-    features: impl IntoIterator<Item = Result<Feature<'a>, String>>,
-    reading: &Reading,
-    place: impl Fn(usize) -> String,
-) -> Result<Delivery<'a>> {
-    let mut sorted = Sorted::default();
-    for (position, feature) in features.into_iter().enumerate() {
-        let put = feature.and_then(|feature| {
-            sorted.put(Feature { position: position as u32, ..feature }, reading)
-        });
-        if let Err(fault) = put {
-            bail!("{}: {fault}", place(position));
+/// The delivery of the rows of a layer in a text, which were sorted.
+pub fn of_rows<'a>(text: &'a str, rows: Rows, sorting: Sorting) -> Result<Delivery<'a>> {
+    let Sorting { reading, shapes, positions, parts, left_out } = sorting;
+    let members = text.get(..rows.begin).and_then(Object::of).unwrap_or_default();
+    let mut names = Vec::new();
+    if let Some(property) = &reading.id {
+        for line in 0..shapes.len() {
+            let row = positions.get(line).map_or(line, |&row| row as usize);
+            let name = naming::by_property(rows.value(text, row, property), property);
+            names.push(name.map_err(|fault| anyhow!("{}: {fault}", rows.place(text, row)))?);
         }
     }
-    let Sorted { features, left_out } = sorted;
-    let (named_by_ids, warning) = naming::judge(&features, reading.id.as_deref());
-    let mut delivery = Delivery { features, named_by_ids, left_out, ..Delivery::default() };
-    delivery.warnings.extend(warning);
+    let texts = Texts::Rows(text, rows);
+    let foreign = HashMap::new();
+    let mut delivery = Delivery {
+        shapes,
+        texts,
+        positions,
+        parts,
+        names,
+        foreign,
+        members,
+        left_out,
+        ..Delivery::default()
+    };
+    delivery.judge(reading);
     Ok(delivery)
 }
 
@@ -152,15 +249,11 @@ fn feature<'a>(text: &'a str, reading: &Reading) -> Result<Feature<'a>, String> 
     if reading.heights == Heights::Dropped {
         feature.drop_box();
     }
-    named(feature, reading)
-}
-
-/// The feature, named by the property that was asked for.
-pub fn named<'a>(feature: Feature<'a>, reading: &Reading) -> Result<Feature<'a>, String> {
     match &reading.id {
         // What is no line needs no name.
         Some(property) if !matches!(feature.geometry, Geometry::Other(_)) => {
-            Ok(Feature { id: Some(naming::by_property(&feature, property)?), ..feature })
+            let id = naming::by_property(feature.property(property), property)?;
+            Ok(Feature { id: Some(id), ..feature })
         }
         _ => Ok(feature),
     }

@@ -29,6 +29,11 @@ impl<'a> Object<'a> {
         self.0.iter().map(|(name, value)| (&*name.0, *value))
     }
 
+    /// True where there is no name.
+    pub fn is_empty(&self) -> bool {
+        self.0.is_empty()
+    }
+
     /// All names and values, by themselves.
     pub fn into_entries(self) -> impl Iterator<Item = Entry<'a>> {
         self.0.into_iter().map(|(name, value)| (name.0, Cow::Borrowed(value)))
@@ -49,6 +54,14 @@ impl<'a> Object<'a> {
             Some((_, last)) => *last = value,
             None => self.0.push((name, value)),
         }
+    }
+}
+
+impl<'a> FromIterator<(&'a str, &'a str)> for Object<'a> {
+    /// The object of names that are all different.
+    fn from_iter<I: IntoIterator<Item = (&'a str, &'a str)>>(entries: I) -> Self {
+        let name = |(name, value)| (Name(Cow::Borrowed(name)), value);
+        Object(entries.into_iter().map(name).collect())
     }
 }
 

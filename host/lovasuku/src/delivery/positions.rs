@@ -14,6 +14,11 @@ pub struct Run<'a> {
 }
 
 impl Run<'_> {
+    /// The same run, not copied.
+    pub fn lent(&self) -> Run<'_> {
+        Run { points: Cow::Borrowed(&self.points), heights: Cow::Borrowed(&self.heights) }
+    }
+
     /// The height of a point, if it has one.
     pub fn height(&self, point: usize) -> Option<f64> {
         self.heights.get(point).copied().filter(|height| !height.is_nan())

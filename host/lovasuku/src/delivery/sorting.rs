@@ -1,12 +1,18 @@
 //! What becomes of each feature: a line, several lines, left out, or a fault.
 
-use super::{Feature, Geometry, Reading, Run};
+use super::{Geometry, Reading, Shapes};
+use lovasuku_chains::Dimension;
 use std::collections::BTreeMap;
 
-/// The lines, and what was left out.
-#[derive(Debug, Default)]
-pub struct Sorted<'a> {
-    pub features: Vec<Feature<'a>>,
+/// The lines, what was left out, and how it is told.
+#[derive(Debug)]
+pub struct Sorting<'r> {
+    pub reading: &'r Reading,
+    pub shapes: Shapes,
+    /// The position of each line's feature, where that may not be the line's own.
+    pub positions: Vec<u32>,
+    /// Which part of its feature each line is, where lines are parts.
+    pub parts: Vec<u32>,
     pub left_out: LeftOut,
 }
 
@@ -26,38 +32,65 @@ impl LeftOut {
     }
 }
 
-impl<'a> Sorted<'a> {
-    /// Puts a feature where it belongs, or tells what is wrong with it.
-    pub fn put(&mut self, mut feature: Feature<'a>, reading: &Reading) -> Result<(), String> {
-        match std::mem::replace(&mut feature.geometry, Geometry::Line(Run::default())) {
-            Geometry::Other(what) if reading.skip_other => {
-                *self.left_out.others.entry(what).or_default() += 1;
-                Ok(())
+impl<'r> Sorting<'r> {
+    /// No lines so far.
+    pub fn of(reading: &'r Reading) -> Self {
+        let (positions, parts) = (Vec::new(), Vec::new());
+        Sorting {
+            reading,
+            shapes: Shapes::default(),
+            positions,
+            parts,
+            left_out: LeftOut::default(),
+        }
+    }
+
+    /// Puts the geometry of a feature, of a dimension, where it belongs, or tells what is wrong with it. Gives
+    /// whether its parts are lines of their own.
+    pub fn put(
+        &mut self,
+        position: u32,
+        geometry: &Geometry,
+        own: Dimension,
+    ) -> Result<bool, String> {
+        match geometry {
+            Geometry::Other(what) if self.reading.skip_other => {
+                *self.left_out.others.entry(what.clone()).or_default() += 1;
+                Ok(false)
             }
             Geometry::Other(what) => Err(format!(
                 "its geometry is {what}, not a line (--skip-other leaves such features out)"
             )),
-            Geometry::Lines(parts) if reading.explode && !parts.is_empty() => {
-                feature.drop_box();
-                for (part, run) in parts.into_iter().enumerate() {
-                    let geometry = Geometry::Line(run);
-                    let part = Feature { part: part as u32, geometry, ..feature.clone() };
-                    self.put_line(part, reading)?;
+            Geometry::Lines(parts) if self.reading.explode && !parts.is_empty() => {
+                for (part, run) in (0..).zip(parts) {
+                    self.put_line([position, part], &Geometry::Line(run.lent()), own)?;
                 }
-                Ok(())
+                Ok(true)
             }
-            geometry => self.put_line(Feature { geometry, ..feature }, reading),
+            geometry => self.put_line([position, 0], geometry, own).map(|()| false),
         }
     }
 
-    fn put_line(&mut self, feature: Feature<'a>, reading: &Reading) -> Result<(), String> {
-        let empty = feature.geometry.is_empty();
-        if reading.drop_empty && (empty || feature.geometry.has_no_length()) {
+    fn put_line(
+        &mut self,
+        [position, part]: [u32; 2],
+        geometry: &Geometry,
+        own: Dimension,
+    ) -> Result<(), String> {
+        let Reading { explode, drop_empty, skip_other, .. } = *self.reading;
+        let empty = geometry.is_empty();
+        if drop_empty && (empty || geometry.has_no_length()) {
             self.left_out.without_length += 1;
         } else if empty {
             return Err("its coordinates are empty (--drop-empty leaves such lines out)".into());
         } else {
-            self.features.push(feature);
+            self.shapes.push(geometry, own);
+            if explode || drop_empty || skip_other {
+                self.positions.push(position);
+            }
+            if explode {
+                self.parts.push(part);
+            }
         }
         Ok(())
     }

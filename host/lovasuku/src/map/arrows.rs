@@ -24,8 +24,7 @@ pub fn arrows(out: &mut String, sheet: &Sheet, page: &Page) -> Drawn {
     for (class, turned) in [("along", false), ("against", true)] {
         let of_chain = |chain: &Chain| -> String {
             let lines = chain.path.iter().filter(|step| step.turned == turned);
-            let runs =
-                lines.flat_map(|step| sheet.delivery.features[step.line as usize].geometry.runs());
+            let runs = lines.flat_map(|step| sheet.delivery.shapes().runs(step.line));
             runs.filter_map(|run| arrow(page, run, fine)).collect()
         };
         let way: String = sheet.chains.iter().map(of_chain).collect();

@@ -76,8 +76,7 @@ fn others(out: &mut String, sheet: &Sheet, page: &Page, given: &[&str], titled: 
 
 /// The places on the page where the lines of a chain end.
 fn ends(sheet: &Sheet, page: &Page, chain: &Chain) -> Vec<Point> {
-    let lines = chain.members.iter().map(|&line| &sheet.delivery.features[line as usize].geometry);
-    let runs = lines.flat_map(|geometry| geometry.runs());
+    let runs = chain.members.iter().flat_map(|&line| sheet.delivery.shapes().runs(line));
     let ends = runs.flat_map(|run| [run.first(), run.last()]).flatten();
     ends.map(|&end| page.place(end)).collect()
 }
@@ -96,23 +95,22 @@ fn title(sheet: &Sheet, page: &Page, position: usize, chain: &Chain) -> String {
 
 /// Draws the lines of the input, and marks their ends.
 pub fn lines(out: &mut String, sheet: &Sheet, page: &Page) -> Drawn {
-    let features = &sheet.delivery.features;
+    let (delivery, shapes) = (sheet.delivery, sheet.delivery.shapes());
+    let runs = || delivery.lines().flat_map(|line| shapes.runs(line));
     writeln!(out, "<g class=\"input\">")?;
-    let mut runs = features.iter().flat_map(|feature| feature.geometry.runs());
     match page.detail.is_full() {
-        true => runs.try_for_each(|run| writeln!(out, "<path d=\"{}\"/>", way(page, run)))?,
-        false => writeln!(out, "<path d=\"{}\"/>", Once::default().way(page, runs))?,
+        true => runs().try_for_each(|run| writeln!(out, "<path d=\"{}\"/>", way(page, run)))?,
+        false => writeln!(out, "<path d=\"{}\"/>", Once::default().way(page, runs()))?,
     }
     writeln!(out, "</g>")?;
-    if features.len() > MARKED || !page.detail.is_full() {
+    if delivery.len() > MARKED || !page.detail.is_full() {
         return Ok(());
     }
-    let runs = features.iter().flat_map(|feature| feature.geometry.runs());
-    let ends = runs.flat_map(|run| [run.first(), run.last()]).flatten();
+    let ends = runs().flat_map(|run| [run.first(), run.last()]).flatten();
     let mut places: Vec<[String; 2]> = ends.map(|&end| place(page, end)).collect();
     places.sort_unstable();
     places.dedup();
-    let radius = 2.2 * fineness(features.len(), FEW_LINES);
+    let radius = 2.2 * fineness(delivery.len(), FEW_LINES);
     writeln!(out, "<g class=\"ends\">")?;
     for [x, y] in places {
         writeln!(out, "<circle cx=\"{x}\" cy=\"{y}\" r=\"{radius:.1}\"/>")?;

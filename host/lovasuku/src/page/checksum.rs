@@ -14,10 +14,10 @@ use std::path::Path;
 pub fn checksum(path: &Path, text: &str, layer: Option<&Delivery>) -> Result<String> {
     let mut sum = Sha256::new();
     match path.is_file() {
-        false => {
-            sum.update(text);
-            layer.into_iter().for_each(|delivery| add(delivery, &mut sum));
-        }
+        false => match layer {
+            None => sum.update(text),
+            Some(delivery) => add(delivery, text, &mut sum),
+        },
         true => {
             let copied = File::open(path).and_then(|mut file| io::copy(&mut file, &mut sum));
             copied.context("it cannot be read once more, for its checksum")?;
@@ -31,15 +31,18 @@ pub fn checksum(path: &Path, text: &str, layer: Option<&Delivery>) -> Result<Str
     Ok(digits)
 }
 
-/// Adds the numbers of all lines: of each run how many points it has, and their bits, lowest byte first.
-fn add(delivery: &Delivery, sum: &mut Sha256) {
+/// Adds the members of the collection, with which the text begins, and the rows; and the numbers of all lines:
+/// of each run how many points it has, and their bits, lowest byte first.
+fn add(delivery: &Delivery, text: &str, sum: &mut Sha256) {
+    sum.update(&text[..delivery.begin()]);
+    delivery.rows().for_each(|row| sum.update(row));
     let mut run = |Run { points, heights, .. }: &Run| {
         sum.update((points.len() as u64).to_le_bytes());
         let numbers = points.iter().flatten().chain(&**heights);
         numbers.for_each(|number| sum.update(number.to_le_bytes()));
     };
-    for feature in &delivery.features {
-        match &feature.geometry {
+    for line in delivery.lines() {
+        match &delivery.shapes().get(line) {
             Geometry::Line(line) => run(line),
             Geometry::Lines(parts) => parts.iter().for_each(&mut run),
             Geometry::Other(_) => (),

@@ -41,13 +41,13 @@ impl<'a> Column<'a> {
 pub fn columns(delivery: &Delivery, mut room: usize) -> Value {
     let mut columns: Vec<Column> = Vec::new();
     let mut places: HashMap<String, usize> = HashMap::new();
-    for (line, feature) in delivery.features.iter().enumerate() {
-        for (name, value) in feature.object().iter() {
+    for line in delivery.lines() {
+        for (name, value) in delivery.properties(line).object().iter() {
             let place = *places.entry(name.to_owned()).or_insert(columns.len());
             if place == columns.len() {
                 columns.push(Column { name: name.to_owned(), ..Column::default() });
             }
-            columns[place].put(line, value);
+            columns[place].put(line as usize, value);
         }
     }
     let (mut told, mut left) = (Vec::new(), Vec::new());

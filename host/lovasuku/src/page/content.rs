@@ -37,10 +37,10 @@ pub fn content(page: &Page) -> Result<String, Refusal> {
     put("classes", classes(page));
     put("shapes", shapes(delivery));
     put("chains", chains(page.chains, page.explained));
-    put("junctions", junctions(page.explained, limit, delivery.features.len())?);
+    put("junctions", junctions(page.explained, limit, delivery.len())?);
     put("gaps", gaps(&tally.gaps));
     let size: usize = all.values().map(size).sum();
-    let room = FEW_BYTES.max(BYTES_A_LINE * delivery.features.len()).saturating_sub(size);
+    let room = FEW_BYTES.max(BYTES_A_LINE * delivery.len()).saturating_sub(size);
     all.insert("properties".into(), columns(delivery, room.min(MOST_OF_PROPERTIES)));
     Ok(Value::Object(all).to_string())
 }
@@ -57,10 +57,9 @@ fn size(value: &Value) -> usize {
 
 /// The names of lines for people, or their features' positions where these are not those of the lines.
 fn names(delivery: &Delivery) -> Value {
-    let lines = 0..delivery.features.len() as u32;
-    let as_they_stand = || delivery.features.iter().zip(0..).all(|(line, k)| line.position == k);
+    let as_they_stand = || delivery.lines().all(|line| delivery.position(line) == line);
     match delivery.named_by_ids || !as_they_stand() {
-        true => lines.map(|line| visible(&delivery.label(line))).collect(),
+        true => delivery.lines().map(|line| visible(&delivery.label(line))).collect(),
         false => Value::Null,
     }
 }
@@ -68,7 +67,7 @@ fn names(delivery: &Delivery) -> Value {
 /// Which part of its feature each line is, where lines are parts.
 fn parts(page: &Page) -> Value {
     match page.request.reading.explode {
-        true => page.delivery.features.iter().map(|feature| feature.part).collect(),
+        true => page.delivery.lines().map(|line| page.delivery.part(line)).collect(),
         false => Value::Null,
     }
 }

@@ -5,7 +5,7 @@
 //! number before it, x from x and y from y, which takes few bytes where points lie near each other.
 
 use super::bytes::Bytes;
-use crate::delivery::{Delivery, Geometry, Point};
+use crate::delivery::{Delivery, Point};
 use serde_json::{json, Value};
 
 /// The most decimals that are looked for.
@@ -17,21 +17,21 @@ const MOST_WHOLE: u64 = 1 << 51;
 /// The lines as the page reads them.
 pub fn shapes(delivery: &Delivery) -> Value {
     let mut counts = Bytes::default();
-    for feature in &delivery.features {
-        match &feature.geometry {
-            Geometry::Line(run) => counts.number(2 * run.points.len() as u64),
-            other => {
+    let shapes = delivery.shapes();
+    for line in delivery.lines() {
+        match shapes.line(line) {
+            Some((points, _)) => counts.number(2 * points.len() as u64),
+            None => {
                 // What passes through as several runs of points, or as none.
-                counts.number(2 * other.runs().count() as u64 + 1);
-                other.runs().for_each(|run| counts.number(run.len() as u64));
+                counts.number(2 * shapes.runs(line).count() as u64 + 1);
+                shapes.runs(line).for_each(|run| counts.number(run.len() as u64));
             }
         }
     }
-    let geometries = delivery.features.iter().map(|feature| &feature.geometry);
-    let points: Vec<Point> = geometries.flat_map(Geometry::runs).flatten().copied().collect();
-    let (decimals, bytes) = match decimals(&points) {
-        Some(decimals) => (Some(decimals), in_decimals(&points, decimals)),
-        None => (None, in_bits(&points)),
+    let points = shapes.points();
+    let (decimals, bytes) = match decimals(points) {
+        Some(decimals) => (Some(decimals), in_decimals(points, decimals)),
+        None => (None, in_bits(points)),
     };
     json!({ "counts": counts.text(), "decimals": decimals, "points": bytes.text() })
 }

@@ -8,37 +8,18 @@ use super::gdal::{
     failures, Batch, Column, Cursor, Field, FieldType, Format, Layer, Offsets, Value,
 };
 use super::geometry::Wkb;
-use super::properties::{object, Property};
+use super::properties::{row, Property};
+use crate::numbers::parts;
 use anyhow::{anyhow, bail, Context, Result};
 use rayon::prelude::*;
 use std::io::Write;
 use std::ops::Range;
 
-/// How long the texts of a row are.
-#[derive(Clone, Copy)]
-pub struct Cut {
-    id: u8,
-    properties: u32,
-}
-
-impl Cut {
-    /// The bytes of both.
-    pub fn length(self) -> usize {
-        self.id as usize + self.properties as usize
-    }
-
-    /// The id and the properties of a row whose texts begin at a place.
-    pub fn of(self, text: &str, begin: usize) -> (Option<&str>, Option<&str>) {
-        let (middle, end) = (begin + self.id as usize, begin + self.length());
-        (text.get(begin..middle).filter(|id| !id.is_empty()), text.get(middle..end))
-    }
-}
-
-/// The texts of rows one behind another, and how long each is.
-pub type Texts = (Vec<u8>, Vec<Cut>);
+/// The texts of rows one behind another, and how long the id and the values of each are.
+pub type Texts = (Vec<u8>, Vec<(u8, usize)>);
 
 /// Puts the texts of a row behind those of others.
-fn put<'b>(texts: &mut Texts, id: Option<i64>, properties: impl Iterator<Item = Property<'b>>) {
+fn put<'b>(texts: &mut Texts, id: Option<i64>, values: impl Iterator<Item = Property<'b>>) {
     let (text, cuts) = texts;
     let begin = text.len();
     if let Some(id) = id {
@@ -46,24 +27,13 @@ fn put<'b>(texts: &mut Texts, id: Option<i64>, properties: impl Iterator<Item = 
         write!(text, "{id}").unwrap_or_default();
     }
     let middle = text.len();
-    object(text, properties);
-    // The digits of an id are few, and the properties of a row fewer than a batch has.
-    cuts.push(Cut { id: (middle - begin) as u8, properties: (text.len() - middle) as u32 });
+    row(text, values);
+    // The digits of an id are few.
+    cuts.push(((middle - begin) as u8, text.len() - middle));
 }
 
 /// How many rows one core reads at a time.
 pub const PART: usize = 1024;
-
-/// Rows in parts of so many.
-pub fn parts(rows: Range<usize>, part: usize) -> Vec<Range<usize>> {
-    let end = rows.end;
-    rows.step_by(part).map(|from| from..end.min(from + part)).collect()
-}
-
-/// The name of a field as JSON, with a colon.
-fn json_name(name: &str) -> String {
-    format!("{}:", serde_json::Value::from(name))
-}
 
 fn from_row(row: usize) -> String {
     format!("from feature {row} on its rows cannot be read")
@@ -73,8 +43,8 @@ fn from_row(row: usize) -> String {
 struct Columns {
     id: Option<(usize, Format)>,
     geometry: (usize, Format),
-    /// The name of each field as JSON with a colon, and whether its texts are JSON.
-    fields: Vec<(usize, Format, String, bool)>,
+    /// The column of each field, its format, and whether its texts are JSON; nothing where there is none.
+    fields: Vec<Option<(usize, Format, bool)>>,
 }
 
 /// The name that GDAL gives to a column of ids that has none.
@@ -87,14 +57,14 @@ impl Columns {
     fn of(all: Vec<(String, Format)>, ids: &str, geometry: &str, fields: &[Field]) -> Result<Self> {
         let ids = if ids.is_empty() { UNNAMED_IDS } else { ids };
         let shapes = if geometry.is_empty() { UNNAMED_GEOMETRY } else { geometry };
-        let (mut id, mut geometry, mut found) = (None, None, Vec::new());
+        let (mut id, mut geometry, mut found) = (None, None, vec![None; fields.len()]);
         for (k, (name, format)) in all.into_iter().enumerate() {
-            match fields.iter().find(|field| field.name == name) {
+            match fields.iter().position(|field| field.name == name) {
                 None if name == shapes => geometry = Some((k, format)),
                 None if name == ids && format == Format::Int64 => id = Some((k, format)),
                 None => (),
-                Some(field) => {
-                    found.push((k, format, json_name(&name), field.kind == FieldType::JSON));
+                Some(place) => {
+                    found[place] = Some((k, format, fields[place].kind == FieldType::JSON));
                 }
             }
         }
@@ -108,7 +78,7 @@ pub fn by_stream(
     layer: &mut Layer,
     fields: &[Field],
     geometry: &str,
-    mut each: impl FnMut(Vec<Texts>, Wkb),
+    mut each: impl FnMut(Vec<Texts>, Wkb) -> Result<()>,
 ) -> Result<()> {
     let ids = layer.id_column();
     let mut stream = layer.stream(&[])?;
@@ -127,17 +97,20 @@ pub fn by_stream(
         let (k, format) = &columns.geometry;
         let column = batch.column(*k, format);
         let wkb = column.and_then(Column::run).context("its geometry is not WKB")?;
-        let texts = texts(&batch, &columns)?;
-        each(texts, Wkb { run: wkb.0, offsets: wkb.1, column });
+        let texts = texts(&batch, &columns, fields)?;
+        each(texts, Wkb { run: wkb.0, offsets: wkb.1, column })?;
         row += batch.rows();
     }
 }
 
 /// The texts of a batch, in parts.
-fn texts(batch: &Batch, columns: &Columns) -> Result<Vec<Texts>> {
+fn texts(batch: &Batch, columns: &Columns, fields: &[Field]) -> Result<Vec<Texts>> {
     let ids = columns.id.as_ref().and_then(|(k, format)| batch.column(*k, format));
-    let fields = columns.fields.iter().map(|field| field_of(batch, field));
-    let fields: Vec<(Column, &str, bool)> = fields.collect::<Result<_>>()?;
+    let mut found: Vec<Option<(Column, bool)>> = Vec::new();
+    for (place, field) in columns.fields.iter().zip(fields) {
+        let column = place.as_ref().map(|place| field_of(batch, place, &field.name));
+        found.push(column.transpose()?);
+    }
     let part = |rows: Range<usize>| {
         let mut texts = Texts::default();
         for row in rows {
@@ -145,7 +118,10 @@ fn texts(batch: &Batch, columns: &Columns) -> Result<Vec<Texts>> {
                 Some(Value::Whole(id)) => Some(id),
                 _ => None,
             };
-            let values = fields.iter().map(|&(column, name, json)| (name, column.value(row), json));
+            let values = found.iter().map(|field| match *field {
+                Some((column, json)) => (column.value(row), json),
+                None => (Value::Null, false),
+            });
             put(&mut texts, id, values);
         }
         texts
@@ -153,16 +129,17 @@ fn texts(batch: &Batch, columns: &Columns) -> Result<Vec<Texts>> {
     Ok(parts(0..batch.rows(), PART).into_par_iter().map(part).collect())
 }
 
-/// The column of a field in a batch, its name and whether its texts are JSON.
+/// The column of a field in a batch, and whether its texts are JSON.
 fn field_of<'b>(
     batch: &'b Batch,
-    (k, format, name, json): &'b (usize, Format, String, bool),
-) -> Result<(Column<'b>, &'b str, bool)> {
+    (k, format, json): &'b (usize, Format, bool),
+    name: &str,
+) -> Result<(Column<'b>, bool)> {
     if let Format::Other(letters) = format {
-        bail!("the field {name} has values that are not read (Arrow's format {letters})");
+        bail!("the field {name:?} has values that are not read (Arrow's format {letters})");
     }
     let column = batch.column(*k, format).context("a batch has too few columns")?;
-    Ok((column, name, *json))
+    Ok((column, *json))
 }
 
 /// How many features are read one by one before they go on together.
@@ -173,7 +150,7 @@ pub fn by_features(
     layer: &mut Layer,
     fields: &[Field],
     geometry: usize,
-    mut each: impl FnMut(Vec<Texts>, Wkb),
+    mut each: impl FnMut(Vec<Texts>, Wkb) -> Result<()>,
 ) -> Result<()> {
     let mut cursor = layer.cursor();
     let mut row = 0;
@@ -181,7 +158,7 @@ pub fn by_features(
         let lent = Lent::of(&mut cursor, fields, geometry).with_context(|| from_row(row))?;
         let Lent { texts, run, offsets } = lent;
         let rows = texts.1.len();
-        each(vec![texts], Wkb { run: &run, offsets: Offsets::Wide(&offsets), column: None });
+        each(vec![texts], Wkb { run: &run, offsets: Offsets::Wide(&offsets), column: None })?;
         row += rows;
         if rows < BATCH {
             return Ok(());
@@ -199,16 +176,16 @@ struct Lent {
 impl Lent {
     /// The next rows, fewer than a batch only where they are the last.
     fn of(cursor: &mut Cursor, fields: &[Field], geometry: usize) -> Result<Self> {
-        let names: Vec<String> = fields.iter().map(|field| json_name(&field.name)).collect();
         let mut lent = Lent { texts: Texts::default(), run: Vec::new(), offsets: vec![0] };
         for _ in 0..BATCH {
             let found = match cursor.next()? {
                 None => break,
                 Some(found) => found,
             };
-            let values = fields.iter().zip(&names).enumerate().map(|(k, (field, name))| {
-                (&name[..], found.value(k, field.kind), field.kind == FieldType::JSON)
-            });
+            let values = fields
+                .iter()
+                .enumerate()
+                .map(|(k, field)| (found.value(k, field.kind), field.kind == FieldType::JSON));
             put(&mut lent.texts, Some(found.id()), values);
             found.wkb(geometry, &mut lent.run)?;
             lent.offsets.push(lent.run.len() as i64);

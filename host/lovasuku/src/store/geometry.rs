@@ -8,7 +8,6 @@ use super::gdal::{Column, Offsets};
 use crate::delivery::{Geometry, Heights, Point, Run};
 use lovasuku_chains::size::{POINT, WKB_HEADER, WKB_NUMBER};
 use lovasuku_chains::{read_wkb, read_wkb_offsets, Dimension, WkbLines, WkbRooms};
-use std::borrow::Cow;
 use std::ops::Range;
 
 /// The geometry of a row, whose positions lie with those of all rows, or what is wrong with it.
@@ -22,15 +21,6 @@ pub enum Shapes {
 }
 
 impl Shapes {
-    /// What positions of each row have, where they have any.
-    pub fn dimensions(&self) -> impl Iterator<Item = Dimension> + '_ {
-        let (one, each) = match self {
-            Shapes::Lines(_, dimension) => (Some(*dimension), &[][..]),
-            Shapes::Any(shapes) => (None, &shapes[..]),
-        };
-        one.into_iter().chain(each.iter().flatten().map(|(_, dimension)| *dimension))
-    }
-
     /// The rows one by one.
     pub fn rows(self) -> impl Iterator<Item = Shape> {
         let (dimension, counts, shapes) = match self {
@@ -58,21 +48,16 @@ pub enum Counts {
 }
 
 impl Counts {
-    /// The geometry, from the first positions of a dimension on, which are taken. Positions of a delivery
-    /// have all extras that any has: NaN stands for those that these lack.
+    /// The geometry, from the first positions of a dimension on, which are taken.
     pub fn geometry<'a>(
         self,
         (points, extras): (&mut &'a [Point], &mut &'a [f64]),
         own: Dimension,
-        to: Dimension,
     ) -> Geometry<'a> {
         let mut run = |count: u32| {
             let count = count as usize;
-            let points = taken(points, count);
-            Run {
-                points: points.into(),
-                heights: widened(taken(extras, own.extras() * count), own, to),
-            }
+            let extras = taken(extras, own.extras() * count);
+            Run { points: taken(points, count).into(), heights: extras.into() }
         };
         match self {
             Counts::Line(count) => Geometry::Line(run(count)),
@@ -87,18 +72,6 @@ fn taken<'a, T>(rest: &mut &'a [T], count: usize) -> &'a [T] {
     let (first, behind) = rest.split_at(count.min(rest.len()));
     *rest = behind;
     first
-}
-
-/// The extras of positions of a dimension in one that has more.
-fn widened(extras: &[f64], own: Dimension, to: Dimension) -> Cow<'_, [f64]> {
-    let both = |&extra: &f64| match own {
-        Dimension::Xym => [f64::NAN, extra],
-        _ => [extra, f64::NAN],
-    };
-    match own == to || own == Dimension::Xy {
-        true => extras.into(),
-        false => extras.iter().flat_map(both).collect(),
-    }
 }
 
 /// What is wrong with a coordinate that is not finite.
@@ -173,12 +146,6 @@ impl Positions {
             }
         }
         finite
-    }
-
-    /// Puts positions behind these.
-    pub fn append(&mut self, behind: &Positions) {
-        self.points.extend_from_slice(&behind.points);
-        self.extras.extend_from_slice(&behind.extras);
     }
 }
 

@@ -22,7 +22,7 @@ const CELL: usize = 24;
 const ROOT: u32 = 1;
 
 /// So many bytes of a statement are enough. SQLite takes a million.
-const STATEMENT: usize = 500_000;
+const STATEMENT: usize = 100_000;
 
 /// The least and the greatest x and the least and the greatest y.
 type Extent = [f32; 4];

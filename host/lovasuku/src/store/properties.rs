@@ -1,23 +1,22 @@
-//! Fields as properties: the values of a row as an object of JSON. A field without a value is left out.
+//! Fields as properties: the values of a row as JSON. A field without a value is left out.
 
 use super::gdal::{Unit, Value};
+use crate::delivery::MARK;
 use std::io::Write;
 
-/// A value of a field: the name as JSON with a colon, the value, and whether its texts are JSON.
-pub type Property<'b> = (&'b str, Value<'b>, bool);
+/// A value of a field, and whether its texts are JSON.
+pub type Property<'b> = (Value<'b>, bool);
 
-/// Writes the object of a row.
-pub fn object<'b>(out: &mut Vec<u8>, properties: impl Iterator<Item = Property<'b>>) {
-    out.push(b'{');
-    let begin = out.len();
-    for (name, value, json) in properties.filter(|(_, value, _)| is_told(value)) {
-        if out.len() > begin {
-            out.push(b',');
+/// Writes the values of a row, with a mark between each two.
+pub fn row<'b>(out: &mut Vec<u8>, values: impl Iterator<Item = Property<'b>>) {
+    for (k, (value, json)) in values.enumerate() {
+        if k > 0 {
+            out.push(MARK as u8);
         }
-        out.extend(name.bytes());
-        write(out, &value, json);
+        if is_told(&value) {
+            write(out, &value, json);
+        }
     }
-    out.push(b'}');
 }
 
 /// False where JSON has nothing to tell: no value, and numbers that are none.

@@ -1,14 +1,14 @@
 //! A layer of a store as a delivery: its rows in batches, each with its id, its properties as JSON and
 //! its geometry.
 
-use super::batches::{by_features, by_stream, parts, Cut, Texts, PART};
+use super::batches::{by_features, by_stream, Texts, PART};
 use super::gdal::{failures, listed, settle, warnings, Dataset, Field, Layer, Reference};
-use super::geometry::{shapes, Positions, Shape, Shapes, Wkb};
-use crate::delivery::object::Object;
-use crate::delivery::{gather, named, Delivery, Feature, Geometry, Heights, Point, Reading};
+use super::geometry::{shapes, Positions, Shapes, Wkb};
+use crate::delivery::{of_rows, Delivery, Point, Reading, Rows as Cuts, Sorting};
+use crate::numbers::parts;
 use crate::progress::Progress;
-use anyhow::{bail, Context, Result};
-use lovasuku_chains::{Dimension, WkbRooms};
+use anyhow::{anyhow, bail, Context, Result};
+use lovasuku_chains::WkbRooms;
 use rayon::prelude::*;
 
 /// What is asked of a store: a layer or a query, which of its rows, and which of its geometries.
@@ -47,32 +47,21 @@ impl About {
     }
 }
 
-/// What rows were read into: their ids and properties, one row behind another, behind the members of the
-/// collection that they are, and their positions.
-#[derive(Default)]
-pub struct Held {
-    pub text: Vec<u8>,
-    pub positions: Positions,
-}
-
-/// The rows of a layer, but for what they were read into.
-pub struct Rows {
+/// The rows of a layer, but for their texts: what the layer is, their geometry, and how their texts are cut.
+pub struct Rows<'r> {
     pub about: About,
-    members: usize,
-    cuts: Vec<Cut>,
-    /// The geometry of all rows, in parts of them.
-    shapes: Vec<Shapes>,
-    dimension: Dimension,
+    pub cuts: Cuts,
+    pub sorting: Sorting<'r>,
 }
 
 /// Reads what is asked for from a store.
-pub fn read(
+pub fn read<'r>(
     dataset: &Dataset,
     asked: &Asked,
-    heights: Heights,
-    held: &mut Held,
+    reading: &'r Reading,
+    text: &mut Vec<u8>,
     progress: &Progress,
-) -> Result<Rows> {
+) -> Result<Rows<'r>> {
     let mut layer = layer(dataset, asked)?;
     if let Some(condition) = &asked.filter {
         layer.filter(condition).with_context(|| format!("--where {condition:?}"))?;
@@ -84,12 +73,12 @@ pub fn read(
     let (column, geometry, reference) = geometry(&layer, asked.geometry.as_deref())?;
     let about = About { geometry, fields: layer.fields(), reference };
     let name = asked.sql.is_none().then(|| layer.name());
-    held.text.extend(members(name, about.reference.as_ref()));
-    let members = held.text.len();
-    let mut rows =
-        Rows { about, members, cuts: Vec::new(), shapes: Vec::new(), dimension: Dimension::Xy };
+    text.extend(members(name, about.reference.as_ref()));
+    let names = about.fields.iter().map(|field| field.name.clone()).collect();
+    let cuts = Cuts { names, begin: text.len(), ..Cuts::default() };
+    let mut rows = Rows { about, cuts, sorting: Sorting::of(reading) };
     settle();
-    rows.fill(&mut layer, column, heights, held, progress)?;
+    rows.fill(&mut layer, column, text, progress)?;
     Ok(rows)
 }
 
@@ -145,20 +134,19 @@ fn members(name: Option<String>, reference: Option<&Reference>) -> Vec<u8> {
     serde_json::to_vec(&members).unwrap_or_default()
 }
 
-impl Rows {
-    /// Reads all rows of a layer, whose geometry is in a column of a number.
+impl Rows<'_> {
+    /// Reads all rows of a layer, whose geometry is in a column of a number, and puts their texts behind others.
     fn fill(
         &mut self,
         layer: &mut Layer,
         column: usize,
-        heights: Heights,
-        held: &mut Held,
+        text: &mut Vec<u8>,
         progress: &Progress,
     ) -> Result<()> {
         let (fields, geometry) = (self.about.fields.clone(), self.about.geometry.clone());
         let each = |read: Vec<Texts>, wkb: Wkb| {
             progress.add(read.iter().map(|(_, cuts)| cuts.len()).sum());
-            self.add(read, wkb, heights, held);
+            self.add(read, wkb, text)
         };
         match fields.iter().any(|field| field.kind.is_wrong_in_streams()) {
             true => by_features(layer, &fields, column, each),
@@ -167,82 +155,48 @@ impl Rows {
     }
 
     /// Adds rows that were read together.
-    fn add(&mut self, read: Vec<Texts>, wkb: Wkb, heights: Heights, held: &mut Held) {
-        let before = self.cuts.len();
+    fn add(&mut self, read: Vec<Texts>, wkb: Wkb, text: &mut Vec<u8>) -> Result<()> {
+        let (before, heights) = (self.cuts.ids.len(), self.sorting.reading.heights);
         for (part, cuts) in read {
-            held.text.extend(part);
-            self.cuts.extend(cuts);
+            text.extend(part);
+            for (id, values) in cuts {
+                self.cuts.ids.push(id);
+                self.cuts.texts.push(usize::from(id) + values);
+            }
         }
         let shapes = |rooms: &mut WkbRooms, rows| {
             let mut positions = Positions::default();
             (shapes(wkb, rows, heights, rooms, &mut positions), positions)
         };
-        let parts: Vec<(Shapes, Positions)> = parts(0..self.cuts.len() - before, PART)
+        let parts: Vec<(Shapes, Positions)> = parts(0..self.cuts.ids.len() - before, PART)
             .into_par_iter()
             .map_init(WkbRooms::new, shapes)
             .collect();
+        let mut row = before;
         for (shapes, positions) in parts {
-            self.dimension = shapes.dimensions().fold(self.dimension, with);
-            held.positions.append(&positions);
-            self.shapes.push(shapes);
+            let (mut points, mut extras) = (&positions.points[..], &positions.extras[..]);
+            for shape in shapes.rows() {
+                let put = shape.and_then(|(counts, own)| {
+                    let geometry = counts.geometry((&mut points, &mut extras), own);
+                    self.sorting.put(row as u32, &geometry, own)
+                });
+                put.map_err(|fault| anyhow!("{}: {fault}", self.place(text, row)))?;
+                row += 1;
+            }
         }
+        Ok(())
     }
 
-    /// The rows as a delivery, whose texts and positions are those that were read.
-    pub fn delivery<'a>(
-        self,
-        text: &'a str,
-        positions: &'a Positions,
-        reading: &Reading,
-    ) -> Result<(Delivery<'a>, About)> {
-        let Rows { about, members, cuts, shapes, dimension } = self;
-        let begins = cuts.iter().scan(members, |end, cut| {
-            let begin = *end;
-            *end += cut.length();
-            Some(begin)
-        });
-        let places: Vec<(usize, Cut)> = begins.zip(cuts.iter().copied()).collect();
-        let (mut points, mut extras) = (&positions.points[..], &positions.extras[..]);
-        let row = |(&(begin, cut), shape): (&(usize, Cut), Shape)| {
-            let (counts, own) = shape?;
-            let (id, properties) = cut.of(text, begin);
-            let geometry = counts.geometry((&mut points, &mut extras), own, dimension);
-            let foreign = Object::default();
-            named(Feature { position: 0, part: 0, id, properties, foreign, geometry }, reading)
-        };
-        let rows = places.iter().zip(shapes.into_iter().flat_map(Shapes::rows)).map(row);
-        let place =
-            |row: usize| match places.get(row).and_then(|(begin, cut)| cut.of(text, *begin).0) {
-                Some(id) => format!("feature {row} (id {id})"),
-                None => format!("feature {row}"),
-            };
-        let mut delivery = gather(rows, reading, place)?;
-        delivery.members = text.get(..members).and_then(Object::of).unwrap_or_default();
-        delivery.dimension = dimension;
-        delivery.points = alone(&delivery, &positions.points);
+    /// A row in words.
+    fn place(&self, text: &[u8], row: usize) -> String {
+        self.cuts.place(&String::from_utf8_lossy(text), row)
+    }
+
+    /// The rows as a delivery, whose texts are those that were read.
+    pub fn delivery(self, text: &str) -> Result<(Delivery<'_>, About)> {
+        let Rows { about, cuts, sorting } = self;
+        let mut delivery = of_rows(text, cuts, sorting)?;
         delivery.warnings.extend(warnings());
         Ok((delivery, about))
     }
-}
-
-/// What positions of either have.
-fn with(a: Dimension, b: Dimension) -> Dimension {
-    let heights = |each| matches!(each, Dimension::Xyz | Dimension::Xyzm);
-    let measures = |each| matches!(each, Dimension::Xym | Dimension::Xyzm);
-    match (heights(a) || heights(b), measures(a) || measures(b)) {
-        (false, false) => Dimension::Xy,
-        (true, false) => Dimension::Xyz,
-        (false, true) => Dimension::Xym,
-        (true, true) => Dimension::Xyzm,
-    }
-}
-
-/// The points, where they are those of lines alone and no line has others.
-fn alone<'a>(delivery: &Delivery, points: &'a [Point]) -> Option<&'a [Point]> {
-    let own = |feature: &Feature| match &feature.geometry {
-        Geometry::Line(run) => Some(run.points.len()),
-        Geometry::Lines(_) | Geometry::Other(_) => None,
-    };
-    let count: Option<usize> = delivery.features.iter().map(own).sum();
-    (delivery.dimension == Dimension::Xy && count == Some(points.len())).then_some(points)
 }

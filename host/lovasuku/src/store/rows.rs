@@ -4,6 +4,8 @@ use super::fields::Fields;
 use super::gdal::Datum;
 use super::writing::{Drawn, Features};
 use crate::delivery::object::Entry;
+use crate::delivery::Point;
+use crate::measure::extent;
 use lovasuku_chains::{ByteOrder, Dimension, LinesBuf, WkbBuf};
 use std::ops::Range;
 
@@ -11,10 +13,20 @@ use std::ops::Range;
 #[derive(Default)]
 pub struct Encoded {
     run: Vec<u8>,
-    /// Where the WKB of each row ends in the run, and the row's values.
-    rows: Vec<(usize, Vec<(usize, Datum)>)>,
+    rows: Vec<Row>,
     /// How many texts were left out because they are too long.
     pub long: usize,
+}
+
+/// A row.
+struct Row {
+    /// The number of its parts, where it is a MultiLineString.
+    parts: Option<u32>,
+    /// Where its WKB ends in the run.
+    end: usize,
+    values: Vec<(usize, Datum)>,
+    /// The lowest and the highest x and y of its points.
+    extent: [Point; 2],
 }
 
 impl Encoded {
@@ -26,11 +38,30 @@ impl Encoded {
     /// The WKB and the values of each row.
     pub fn rows(&self) -> impl Iterator<Item = (&[u8], &[(usize, Datum)])> {
         let mut begin = 0;
-        self.rows.iter().map(move |(end, values)| {
-            let wkb = self.run.get(begin..*end).unwrap_or_default();
-            begin = *end;
-            (wkb, &values[..])
+        self.rows.iter().map(move |row| {
+            let wkb = self.run.get(begin..row.end).unwrap_or_default();
+            begin = row.end;
+            (wkb, &row.values[..])
         })
+    }
+
+    /// The extent of each row.
+    pub fn extents(&self) -> impl Iterator<Item = [Point; 2]> + '_ {
+        self.rows.iter().map(|row| row.extent)
+    }
+
+    /// Puts the WKB of all rows, whose lines and parts are the given records.
+    fn put_run<'r>(&mut self, mut records: impl Iterator<Item = &'r [u8]>, dimension: Dimension) {
+        for row in &mut self.rows {
+            if let Some(parts) = row.parts {
+                self.run.push(ByteOrder::Little.number());
+                self.run.extend((dimension.wkb_type() + MULTI).to_le_bytes());
+                self.run.extend(parts.to_le_bytes());
+            }
+            let own = records.by_ref().take(row.parts.unwrap_or(1) as usize);
+            own.for_each(|record| self.run.extend(record));
+            row.end = self.run.len();
+        }
     }
 }
 
@@ -46,33 +77,26 @@ pub fn encoded(
     longest: Option<usize>,
 ) -> Encoded {
     let mut lines = LinesBuf::of(dimension);
-    for place in places.clone() {
-        match features.drawn(place) {
-            Drawn::Line(points, extras) => lines.push_apart(points, extras, 0),
+    let mut encoded = Encoded::default();
+    features.each(places, &mut |feature| {
+        let (parts, extent) = match feature.drawn {
+            Drawn::Line(points, extras) => {
+                lines.push_apart(points, extras, 0);
+                (None, extent(points.iter().copied()))
+            }
             Drawn::Lines(parts) => {
                 parts.iter().for_each(|part| lines.push_apart(&part.points, &part.heights, 0));
-            }
-        }
-    }
-    let mut buffer = WkbBuf::new();
-    // Lines that were pushed have the coordinates that their counts say, so that none is refused.
-    let mut records = lines.lines().write_wkb(ByteOrder::Little, &mut buffer).into_iter().flatten();
-    let mut encoded = Encoded::default();
-    for place in places {
-        let parts = match features.drawn(place) {
-            Drawn::Line(..) => 1,
-            Drawn::Lines(parts) => {
-                encoded.run.push(ByteOrder::Little.number());
-                encoded.run.extend((dimension.wkb_type() + MULTI).to_le_bytes());
-                encoded.run.extend((parts.len() as u32).to_le_bytes());
-                parts.len()
+                let points = parts.iter().flat_map(|part| &*part.points);
+                (Some(parts.len() as u32), extent(points.copied()))
             }
         };
-        records.by_ref().take(parts).for_each(|record| encoded.run.extend(record));
-        let (properties, _) = features.properties(place);
-        let values = values(&properties, fields, longest, &mut encoded.long);
-        encoded.rows.push((encoded.run.len(), values));
-    }
+        let values = values(&feature.properties, fields, longest, &mut encoded.long);
+        encoded.rows.push(Row { parts, end: 0, values, extent });
+    });
+    let mut buffer = WkbBuf::new();
+    // Lines that were pushed have the coordinates that their counts say, so that none is refused.
+    let records = lines.lines().write_wkb(ByteOrder::Little, &mut buffer).into_iter().flatten();
+    encoded.put_run(records, dimension);
     encoded
 }
 

@@ -1,7 +1,6 @@
 //! Layers that are written into stores: features with WKB of the proved writer's, and with the properties
 //! of GeoJSON as fields.
 
-use super::batches::parts;
 use super::fields::{Fields, Kinds, Names};
 use super::gdal::{
     failures, settle, warnings, Dataset, Driver, Field, Layer, Making, Reference, Row,
@@ -10,8 +9,7 @@ use super::index::Index;
 use super::rows::{encoded, Encoded};
 use crate::delivery::object::Entry;
 use crate::delivery::{Point, Run};
-use crate::measure::extent;
-use crate::numbers::count;
+use crate::numbers::{count, parts};
 use crate::progress::Progress;
 use anyhow::{Context, Result};
 use lovasuku_chains::Dimension;
@@ -28,14 +26,22 @@ pub trait Features: Sync {
     /// The id of a feature, which formats keep that have ids.
     fn id(&self, place: usize) -> usize;
 
-    /// The properties of a feature, and whether one of the input's is left out for its name.
-    fn properties(&self, place: usize) -> (Vec<Entry<'_>>, bool);
+    /// Whether the geometry of a feature is a line, and no MultiLineString.
+    fn is_line(&self, place: usize) -> bool;
 
-    /// The geometry of a feature.
-    fn drawn(&self, place: usize) -> Drawn<'_>;
+    /// Tells of features one after another.
+    fn each(&self, places: Range<usize>, tell: &mut dyn FnMut(Each<'_>));
 
     /// What there is to tell where so many features have left out a property.
     fn told_of(&self, left_out: usize) -> Option<String>;
+}
+
+/// A feature.
+pub struct Each<'a> {
+    pub properties: Vec<Entry<'a>>,
+    /// Whether a property of the input's is left out for its name.
+    pub left_out: bool,
+    pub drawn: Drawn<'a>,
 }
 
 /// The geometry of a feature.
@@ -43,7 +49,7 @@ pub enum Drawn<'a> {
     /// A line: its points and their extras.
     Line(&'a [Point], &'a [f64]),
     /// A MultiLineString, by its parts.
-    Lines(&'a [Run<'a>]),
+    Lines(Vec<Run<'a>>),
 }
 
 /// A layer to be written.
@@ -139,11 +145,10 @@ impl Sheet<'_> {
         }
         let part = |places: Range<usize>| {
             let (mut names, mut left_out) = (first.clone(), 0);
-            for place in places {
-                let (properties, leaves_out) = features.properties(place);
-                names.add_all(&properties);
-                left_out += usize::from(leaves_out);
-            }
+            features.each(places, &mut |feature| {
+                names.add_all(&feature.properties);
+                left_out += usize::from(feature.left_out);
+            });
             (names, left_out)
         };
         let parts = parts(0..features.len(), PART * PARTS);
@@ -158,7 +163,7 @@ impl Sheet<'_> {
 
     /// The type of the layer's geometry: that of all features, or any where they differ.
     fn geometry_type(&self) -> u32 {
-        let is_line = |&place: &usize| matches!(self.features.drawn(place), Drawn::Line(..));
+        let is_line = |&place: &usize| self.features.is_line(place);
         let lines = (0..self.features.len()).filter(is_line).count();
         let plain = match lines {
             lines if lines == self.features.len() => LINES,
@@ -214,7 +219,8 @@ impl Sheet<'_> {
             for part in receive.into_iter().flatten() {
                 self.put_part(layer, &part, put)?;
                 if let Some(index) = &mut index {
-                    (put..put + part.len()).for_each(|place| self.put_box(index, place));
+                    let ids = (put..).map(|place| self.features.id(place) as i64);
+                    ids.zip(part.extents()).for_each(|(id, extent)| index.put(id, extent));
                 }
                 progress.add(part.len());
                 (put, long) = (put + part.len(), long + part.long);
@@ -232,15 +238,6 @@ impl Sheet<'_> {
                 .with_context(|| format!("{} {id}", self.each))?;
         }
         Ok(())
-    }
-
-    /// Puts the box of a feature into an index.
-    fn put_box(&self, index: &mut Index, place: usize) {
-        let extent = match self.features.drawn(place) {
-            Drawn::Line(points, _) => extent(points.iter().copied()),
-            Drawn::Lines(parts) => extent(parts.iter().flat_map(|part| &*part.points).copied()),
-        };
-        index.put(self.features.id(place) as i64, extent);
     }
 
     fn told_of(&self, long: usize) -> Option<String> {

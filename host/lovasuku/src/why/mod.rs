@@ -5,7 +5,7 @@ pub mod words;
 use crate::arguments::Question;
 use crate::classes::Classes;
 use crate::command::{explained, lines};
-use crate::delivery::{Delivery, Geometry, Point};
+use crate::delivery::{Delivery, Point};
 use crate::joining::{distance, join, Chain, Line};
 use crate::measure::{bounds, Measure};
 use crate::numbers::count;
@@ -22,9 +22,9 @@ pub fn run(question: &Question) -> Result<String> {
     let wanted = question.wanted();
     let input = || wanted.whole_name();
     let progress = Progress::new(false);
-    let (source, ground) = Source::read(wanted, &progress).with_context(input)?;
+    let (source, text) = Source::read(wanted, &progress).with_context(input)?;
     let (delivery, layer) =
-        source.delivery(&ground, &question.reading, &progress).with_context(input)?;
+        source.delivery(&text, &question.reading, &progress).with_context(input)?;
     let delivery = &delivery;
     let classes = &Classes::of(delivery, question.class.as_deref(), question.district.as_ref())
         .with_context(input)?;
@@ -35,7 +35,7 @@ pub fn run(question: &Question) -> Result<String> {
         found(delivery, &question.lines[0], parts).with_context(input)?,
         found(delivery, &question.lines[1], parts).with_context(input)?,
     ];
-    let lines = lines(delivery, classes);
+    let lines: Vec<Line> = lines(delivery, classes).collect();
     let settings = question.settings;
     let told = join(Dimension::Xy, &lines, (settings, None), &progress).with_context(input)?;
     let chains: Vec<Chain> = told.chains().collect();
@@ -56,14 +56,14 @@ pub fn run(question: &Question) -> Result<String> {
 
 /// The line of a name: its id or position, with which part it is where lines are parts.
 fn found(delivery: &Delivery, name: &str, parts: bool) -> Result<u32> {
-    let lines = 0..delivery.features.len() as u32;
     let named = |line: &u32| {
         delivery.name(*line) == name
             || delivery.label(*line) == name
             || parts && label(delivery, *line, parts) == name
     };
-    let all: Vec<u32> = lines.filter(named).collect();
-    let joined = |name: &str| delivery.features.iter().any(|line| line.property(name).is_some());
+    let all: Vec<u32> = delivery.lines().filter(named).collect();
+    let has = |line, name: &str| delivery.property(line, name).is_some();
+    let joined = |name: &str| delivery.lines().any(|line| has(line, name));
     match all[..] {
         [line] => Ok(line),
         [first, ..] if parts => bail!(
@@ -194,11 +194,9 @@ impl Answer<'_> {
     /// Why a line passes through.
     fn passing(&self, line: u32) -> String {
         let name = self.words.label(line);
-        match self.delivery.features.get(line as usize).map(|feature| &feature.geometry) {
-            Some(Geometry::Line(_)) => {
-                format!("{name} has fewer than two positions, and passes through.")
-            }
-            _ => format!(
+        match self.delivery.shapes().is_multi(line) {
+            false => format!("{name} has fewer than two positions, and passes through."),
+            true => format!(
                 "{name} is a MultiLineString, and passes through (--explode joins its parts)."
             ),
         }

@@ -134,9 +134,9 @@ impl<'a> Words<'a> {
 /// The name of a line for people, with which part of its feature it is where lines are parts.
 pub fn label(delivery: &Delivery, line: u32, parts: bool) -> String {
     let name = visible(&delivery.label(line));
-    match delivery.features.get(line as usize) {
-        Some(feature) if parts => format!("{name} part {}", feature.part),
-        _ => name,
+    match parts {
+        true => format!("{name} part {}", delivery.part(line)),
+        false => name,
     }
 }
 

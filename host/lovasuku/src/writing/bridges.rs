@@ -2,8 +2,9 @@
 
 use super::{list, number, position, value};
 use crate::delivery::{Delivery, Point};
-use crate::joining::{Chain, Gap, Joint, Why};
+use crate::joining::{Gap, Joint, Outlined, Why};
 use crate::measure::Measure;
+use crate::numbers::parts;
 
 /// What the features of bridges and gaps are written from.
 #[derive(Debug)]
@@ -13,18 +14,25 @@ pub struct Bridges<'a> {
     pub tolerance: f64,
 }
 
+/// How many chains are laid at a time.
+const PART: usize = 4096;
+
 impl Bridges<'_> {
     /// One feature a bridge, and behind these one a gap below the tolerance that stayed open, of chains
     /// that meet the window.
-    pub fn write(&self, chains: &[Chain], gaps: &[Gap]) -> Vec<Vec<u8>> {
-        let of_chain = |(chain, each): (usize, &Chain)| -> Vec<Vec<u8>> {
-            let bridges = each.joints.iter().filter(|joint| joint.is_bridge());
-            bridges.map(|bridge| self.bridge(chain, bridge)).collect()
-        };
-        let inside = |chain: usize| chains.get(chain).map_or(false, |chain| chain.in_window);
-        let all = chains.iter().enumerate().filter(|(_, chain)| chain.in_window);
+    pub fn write(&self, outlined: &Outlined, gaps: &[Gap]) -> Vec<Vec<u8>> {
+        let mut features = Vec::new();
+        for part in parts(0..outlined.len(), PART) {
+            let told = outlined.told(part.clone());
+            for (chain, each) in part.zip(told.chains()).filter(|(_, each)| each.in_window) {
+                let bridges = each.joints.iter().filter(|joint| joint.is_bridge());
+                features.extend(bridges.map(|bridge| self.bridge(chain, bridge)));
+            }
+        }
+        let inside = |chain: usize| chain < outlined.len() && outlined.is_inside(chain);
         let gaps = gaps.iter().filter(|gap| gap.chains.into_iter().any(inside));
-        all.flat_map(of_chain).chain(gaps.map(|gap| self.gap(gap))).collect()
+        features.extend(gaps.map(|gap| self.gap(gap)));
+        features
     }
 
     /// A bridge: its two lines, its length, whether that is more than the tolerance, and its chain.

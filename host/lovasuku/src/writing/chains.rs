@@ -3,12 +3,14 @@
 use super::{entry, list, number, position, value, FeatureText, Keep};
 use crate::delivery::object::Entry;
 use crate::delivery::{Delivery, Geometry, Point};
-use crate::joining::Chain;
+use crate::joining::{Chain, Outlined};
 use crate::measure::Measure;
+use crate::numbers::parts;
 use crate::progress::Progress;
 use lovasuku_chains::PathLine;
 use rayon::prelude::*;
 use std::io;
+use std::ops::Range;
 
 /// How the features of chains are written.
 #[derive(Debug)]
@@ -39,24 +41,25 @@ impl Chains<'_> {
     /// how many of them have a member with a property of a chain's own name, which is left out.
     pub fn write(
         &self,
-        chains: &[Chain],
+        outlined: &Outlined,
         text: &mut FeatureText,
         progress: &Progress,
     ) -> io::Result<usize> {
-        progress.begin("writing", chains.len());
+        progress.begin("writing", outlined.len());
         let mut clashes = 0;
-        for (k, block) in chains.chunks(BLOCK).enumerate() {
-            let part = |(part, chains): (usize, &[Chain])| -> Vec<(Vec<u8>, bool)> {
-                let first = k * BLOCK + part * PART;
-                let inside = (first..).zip(chains).filter(|(_, chain)| chain.in_window);
-                inside.map(|(position, chain)| self.feature(position, chain)).collect()
-            };
-            let features: Vec<_> = block.par_chunks(PART).enumerate().flat_map_iter(part).collect();
+        let part = |chains: Range<usize>| -> Vec<(Vec<u8>, bool)> {
+            let inside = || chains.clone().filter(|&chain| outlined.is_inside(chain));
+            let told = outlined.told(inside());
+            inside().zip(told.chains()).map(|(id, chain)| self.feature(id, &chain)).collect()
+        };
+        for block in parts(0..outlined.len(), BLOCK) {
+            let chains = block.len();
+            let features: Vec<_> = parts(block, PART).into_par_iter().flat_map_iter(part).collect();
             for (feature, clash) in features {
                 text.put(&feature)?;
                 clashes += usize::from(clash);
             }
-            progress.add(block.len());
+            progress.add(chains);
         }
         Ok(clashes)
     }
@@ -73,7 +76,7 @@ impl Chains<'_> {
         self.name(out, line);
         if self.parts {
             out.extend(b",\"part\":");
-            value(out, &self.delivery.features[line as usize].part);
+            value(out, &self.delivery.part(line));
         }
         out.extend(b",\"turned\":");
         value(out, &turned);
@@ -115,7 +118,7 @@ impl Chains<'_> {
     /// A property that every chain has, by its place among these.
     fn own_value(&self, place: usize, chain: &Chain) -> String {
         let mut out = Vec::new();
-        let part = |&line: &u32| self.delivery.features[line as usize].part;
+        let part = |&line: &u32| self.delivery.part(line);
         match place {
             0 => list(&mut out, chain.members, |out, &line| self.name(out, line)),
             1 => list(&mut out, chain.path, |out, step| self.step(out, *step)),
@@ -129,7 +132,7 @@ impl Chains<'_> {
 
 /// The geometry of a chain: its points, or those of its only line as they were.
 fn geometry(out: &mut Vec<u8>, delivery: &Delivery, chain: &Chain) {
-    let alone = chain.members.first().map(|&line| &delivery.features[line as usize].geometry);
+    let alone = chain.members.first().map(|&line| delivery.shapes().get(line));
     match (&chain.points, alone) {
         (Some(points), _) => {
             out.extend(b"{\"type\":\"LineString\",\"coordinates\":");
@@ -141,7 +144,7 @@ fn geometry(out: &mut Vec<u8>, delivery: &Delivery, chain: &Chain) {
         }
         (None, Some(Geometry::Lines(parts))) => {
             out.extend(b"{\"type\":\"MultiLineString\",\"coordinates\":");
-            list(out, parts, |out, part| run(out, &part.points, &delivery.heights(&part.heights)));
+            list(out, &parts, |out, part| run(out, &part.points, &delivery.heights(&part.heights)));
         }
         (None, None | Some(Geometry::Other(_))) => return out.extend(b"null"),
     }

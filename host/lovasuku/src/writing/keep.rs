@@ -2,7 +2,7 @@
 
 use super::{list, value};
 use crate::delivery::object::{Entry, Object};
-use crate::delivery::{Delivery, Feature};
+use crate::delivery::Delivery;
 use crate::joining::Chain;
 use crate::measure::Measure;
 
@@ -38,12 +38,13 @@ impl Keep {
     /// a member has one of these.
     pub fn properties<'a>(
         self,
-        delivery: &Delivery<'a>,
+        delivery: &'a Delivery,
         measure: &Measure,
         chain: &Chain,
         own: &[String],
     ) -> (Vec<Entry<'a>>, bool) {
-        let mut all: Vec<Object<'a>> = members(delivery, chain).map(Feature::object).collect();
+        let object = |&line: &u32| delivery.properties(line).object();
+        let mut all: Vec<Object<'a>> = chain.members.iter().map(object).collect();
         let mut clash = false;
         for object in &mut all {
             object.retain(|name, _| {
@@ -69,7 +70,7 @@ impl Keep {
         measure: &Measure,
         chain: &Chain,
     ) -> Object<'a> {
-        let mut all = members(delivery, chain).map(|feature| feature.foreign.clone());
+        let mut all = chain.members.iter().map(|&line| delivery.foreign(line));
         let mut foreign = match self {
             Keep::First => all.next().unwrap_or_default(),
             Keep::Longest => all.nth(longest(delivery, measure, chain)).unwrap_or_default(),
@@ -80,13 +81,6 @@ impl Keep {
         }
         foreign
     }
-}
-
-fn members<'d, 'a>(
-    delivery: &'d Delivery<'a>,
-    chain: &'d Chain,
-) -> impl Iterator<Item = &'d Feature<'a>> {
-    chain.members.iter().map(|&line| &delivery.features[line as usize])
 }
 
 /// What all objects share, in the order of the first.
@@ -101,9 +95,9 @@ fn shared(all: Vec<Object>) -> Object {
 
 /// Which of its members is the longest; the first of several.
 fn longest(delivery: &Delivery, measure: &Measure, chain: &Chain) -> usize {
-    let length =
-        |feature: &Feature| feature.geometry.runs().fold(0.0, |sum, run| sum + measure.length(run));
-    let lengths = members(delivery, chain).map(length).enumerate();
+    let runs = |&line: &u32| delivery.shapes().runs(line);
+    let length = |line: &u32| runs(line).fold(0.0, |sum, run| sum + measure.length(run));
+    let lengths = chain.members.iter().map(length).enumerate();
     let longer = |best: (usize, f64), each: (usize, f64)| if each.1 > best.1 { each } else { best };
     lengths.fold((0, f64::NEG_INFINITY), longer).0
 }
