@@ -1,6 +1,7 @@
 //! Laying pieces end to end without a call, for chains that are more than one holds.
 
 use super::pieces::Pieces;
+use super::touching::{touch_runs, TOGETHER};
 
 /// Lays the pieces of a chain, which are entered at the given ends, one after another into a room, and
 /// gives how many numbers were written. A coordinate whose x and y equal those written last is left
@@ -16,11 +17,14 @@ pub fn lay(pieces: &impl Pieces, steps: &[u32], room: &mut [f64]) -> usize {
 /// The same for coordinates of so many numbers.
 fn lay_by<const STRIDE: usize>(pieces: &impl Pieces, steps: &[u32], room: &mut [f64]) -> usize {
     let mut laid = Laid::<STRIDE> { room, written: 0 };
-    for &step in steps {
-        let run = pieces.numbers(step >> 1);
-        match step & 1 {
-            0 => run.chunks_exact(STRIDE).for_each(|numbers| laid.put(numbers)),
-            _ => run.rchunks_exact(STRIDE).for_each(|numbers| laid.put(numbers)),
+    for steps in steps.chunks(TOGETHER) {
+        touch_runs(steps.iter().map(|step| pieces.numbers(step >> 1)));
+        for &step in steps {
+            let run = pieces.numbers(step >> 1);
+            match step & 1 {
+                0 => run.chunks_exact(STRIDE).for_each(|numbers| laid.put(numbers)),
+                _ => run.rchunks_exact(STRIDE).for_each(|numbers| laid.put(numbers)),
+            }
         }
     }
     laid.written
