@@ -132,7 +132,7 @@ pub fn compare_delivery(
 }
 
 /// Tests that the chains of a delivery are those of one call.
-fn hold_to_one(joined: &Joined, one: &library::Chains) -> Result<(), String> {
+pub fn hold_to_one(joined: &Joined, one: &library::Chains) -> Result<(), String> {
     let chains = joined.chains();
     let bits = |numbers: &[f64]| numbers.iter().map(|number| number.to_bits()).collect::<Vec<_>>();
     let same = chains.table() == one.table()

@@ -13,6 +13,7 @@
 //! - [`building`], [`pairing`], [`why`], [`windows`], [`checks`], [`zooms`]: one call, compared, or building in
 //!   two.
 //! - [`large`]: one call, put as a delivery of any size.
+//! - [`network`]: the lines of a file, put so by many settings and in many ways.
 //! - [`extras`]: what holds of heights and measures, judged apart from the model.
 //! - [`laying`]: that lines laid by listing and marks are their chain, judged apart from it too.
 //! - [`shrink`]: a call that differs, made small.
@@ -29,6 +30,7 @@ pub mod extras;
 pub mod judge;
 pub mod large;
 pub mod laying;
+pub mod network;
 pub mod pairing;
 pub mod room;
 pub mod run;

@@ -57,6 +57,11 @@ pub enum Without {
 }
 
 impl Gathered {
+    /// The pieces of its outlines.
+    pub fn own(&self) -> impl Iterator<Item = u32> + '_ {
+        self.own.iter().map(|own| own >> 1)
+    }
+
     /// Tells of all pieces in ascending order, each with whether it is lent whole.
     pub fn each(&self, mut piece: impl FnMut(u32, bool)) {
         let mut others = &self.others[..];

@@ -1,8 +1,8 @@
 //! Which ends are joined at nodes of three or more, as the library's pairing tells.
 
 use super::arranging::FIRST;
-use super::pieces::{direction, Pieces};
-use super::Fault;
+use super::pieces::{direction, end_of, Pieces};
+use super::{Fault, Point};
 use crate::door::{self, PairRooms};
 use crate::rooms::{first, grow};
 use crate::size::{END_WORKSPACE, MOST_ENDS, POINT};
@@ -10,8 +10,11 @@ use crate::two::by_two;
 use crate::{Ends, Route};
 use std::ops::Range;
 
-/// So many ends are looked at together.
+/// So many ends are paired together.
 const BLOCK: usize = 256;
+
+/// So many ends are looked at together.
+const TOGETHER: usize = 32;
 
 /// The ends of nodes as they are lent to pairing calls, one node after another, and the rooms of these.
 #[derive(Debug, Default)]
@@ -24,6 +27,8 @@ pub struct Junctions {
     pieces: Vec<u32>,
     pairs: Vec<u32>,
     workspace: Vec<u64>,
+    /// The pairs of ends that are joined.
+    joined: Vec<[u32; 2]>,
 }
 
 impl Junctions {
@@ -49,7 +54,8 @@ impl Junctions {
         }
     }
 
-    /// Tells of each pair of the ends that were taken that is joined under a limit.
+    /// Tells of each pair of the ends that were taken that is joined under a limit. They are told at the
+    /// end, since a call would wait for what is written anywhere before it.
     pub fn pair(
         &mut self,
         pieces: &impl Pieces,
@@ -63,10 +69,10 @@ impl Junctions {
             from = node.end;
             let pairs = self.pairs_of(node.clone(), limit)?;
             let ends = &self.ends[node];
-            for &[one, other] in first(by_two(&self.pairs), pairs) {
-                joined(ends[one as usize], ends[other as usize]);
-            }
+            let pairs = first(by_two(&self.pairs), pairs);
+            self.joined.extend(pairs.iter().map(|pair| pair.map(|end| ends[end as usize])));
         }
+        self.joined.iter().for_each(|&[one, other]| joined(one, other));
         self.clear();
         Ok(())
     }
@@ -75,19 +81,28 @@ impl Junctions {
     pub fn clear(&mut self) {
         self.ends.clear();
         self.nodes.clear();
+        self.joined.clear();
     }
 
-    /// Takes the directions of all ends. The memory is asked for all of them at once.
+    /// Takes the directions of all ends.
     fn look(&mut self, pieces: &impl Pieces) {
         self.present.clear();
         self.directions.clear();
         self.pieces.clear();
         let stride = pieces.stride();
-        for &end in &self.ends {
-            let toward = direction(pieces.numbers(end >> 1), stride, end & 1);
-            self.present.push(u8::from(toward.is_some()));
-            self.directions.extend(toward.unwrap_or_default());
-            self.pieces.push(end >> 1);
+        let mut runs: [(&[f64], Point); TOGETHER] = [Default::default(); TOGETHER];
+        for ends in self.ends.chunks(TOGETHER) {
+            // The memory is asked for all of them at once.
+            for (run, &end) in runs.iter_mut().zip(ends) {
+                let numbers = pieces.numbers(end >> 1);
+                *run = (numbers, end_of(numbers, stride, end & 1).unwrap_or_default());
+            }
+            for (&(run, place), &end) in runs.iter().zip(ends) {
+                let toward = direction(place, run, stride, end & 1);
+                self.present.push(u8::from(toward.is_some()));
+                self.directions.extend(toward.unwrap_or_default());
+                self.pieces.push(end >> 1);
+            }
         }
     }
 

@@ -2,12 +2,13 @@
 //! laid is not kept. A coordinate whose x and y equal those before it is left out.
 
 use super::pieces::Pieces;
+use super::touching::{touch_runs, TOGETHER};
 
 /// Lays the pieces of a chain, which are entered at the given ends, one after another into a room, and
 /// gives how many numbers were written.
 pub fn lay(pieces: &impl Pieces, steps: &[u32], room: &mut [f64]) -> usize {
     let mut written = 0;
-    each(pieces, steps.iter().copied(), |numbers| {
+    each_touched(pieces, steps, |numbers| {
         if !repeats(&room[..written], numbers) {
             room[written..written + numbers.len()].copy_from_slice(numbers);
             written += numbers.len();
@@ -19,7 +20,7 @@ pub fn lay(pieces: &impl Pieces, steps: &[u32], room: &mut [f64]) -> usize {
 /// True where the pieces of a chain, laid so, are the given numbers bit for bit.
 pub fn is_laid(pieces: &impl Pieces, steps: &[u32], laid: &[f64]) -> bool {
     let (mut seen, mut same) = (0, true);
-    each(pieces, steps.iter().copied(), |numbers| {
+    each_touched(pieces, steps, |numbers| {
         if same && !repeats(&laid[..seen], numbers) {
             let next = laid.get(seen..seen + numbers.len());
             let bits =
@@ -58,6 +59,15 @@ fn put(numbers: &[f64], from: usize, into: &mut Vec<f64>) {
 fn repeats(laid: &[f64], numbers: &[f64]) -> bool {
     let last = laid.len().checked_sub(numbers.len()).map(|at| [laid[at], laid[at + 1]]);
     last == Some([numbers[0], numbers[1]])
+}
+
+/// As `each`, with the memory of many pieces asked for at once.
+#[inline]
+fn each_touched(pieces: &impl Pieces, steps: &[u32], mut put: impl FnMut(&[f64])) {
+    for steps in steps.chunks(TOGETHER) {
+        touch_runs(steps.iter().map(|step| pieces.numbers(step >> 1)));
+        each(pieces, steps.iter().copied(), &mut put);
+    }
 }
 
 /// Tells of the coordinates of pieces that are entered at the given ends, one after another.

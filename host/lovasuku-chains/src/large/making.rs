@@ -6,6 +6,7 @@ use super::capacity::Capacity;
 use super::gathering::{Asked, Cut, Without};
 use super::laying::{is_laid, lay};
 use super::rounds::{Lender, Ways};
+use super::touching::touch_runs;
 use super::Fault;
 use std::ops::Range;
 
@@ -97,6 +98,7 @@ impl<P: Lender> Making<'_, P> {
         caller.lent.clear();
         caller.pieces.clear();
         let gathered = std::mem::take(&mut caller.gathered);
+        touch_runs(gathered.own().map(|piece| self.pieces.numbers(piece)));
         gathered.each(|piece, whole| self.pieces.lend(caller, piece, whole));
         for &end in &gathered.blocked {
             self.pieces.block(caller, end);

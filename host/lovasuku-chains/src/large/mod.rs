@@ -69,6 +69,7 @@ mod second_round;
 mod sorting;
 mod spots;
 mod told;
+mod touching;
 
 pub use capacity::Capacity;
 pub use checks::{check, check_batches, CheckBatch, CheckBatches, Checker};

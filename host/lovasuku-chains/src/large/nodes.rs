@@ -8,8 +8,10 @@ use super::junctions::Junctions;
 use super::pieces::Pieces;
 use super::sorting::sort;
 use super::spots::{Grid, Spot};
+use super::touching::touch;
 use super::{Fault, NONE};
 use crate::rooms::grow;
+use std::ops::Range;
 use std::sync::atomic::{AtomicU32, Ordering::Relaxed};
 
 /// A core looks at about so many ends at a time.
@@ -119,6 +121,15 @@ impl Nodes {
     /// The end that an end is joined with.
     pub fn joined(&self, end: u32) -> Option<u32> {
         some(&self.joins, end)
+    }
+
+    /// Asks for what the ends are joined with that lie behind those that pieces are joined with.
+    pub fn touch(&self, pieces: Range<u32>) {
+        touch((2 * pieces.start..2 * pieces.end).map(|end| {
+            let other = self.joins[end as usize].load(Relaxed);
+            let behind = if other == NONE { end } else { other ^ 1 };
+            u64::from(self.joins[behind as usize].load(Relaxed))
+        }));
     }
 
     /// Joins two ends, whatever they are joined with.

@@ -44,17 +44,15 @@ pub fn end_of(run: &[f64], stride: usize, side: u32) -> Option<Point> {
 
 /// The direction at an end of a run, into it: from the end's point to the nearest one inward that
 /// differs. None where none does, or where the two are too near for a length.
-pub fn direction(run: &[f64], stride: usize, side: u32) -> Option<Point> {
-    let [x, y] = end_of(run, stride, side)?;
-    let [to_x, to_y] = inward(run, stride, side).map(|p| [p[0], p[1]])?;
+pub fn direction([x, y]: Point, run: &[f64], stride: usize, side: u32) -> Option<Point> {
+    let [to_x, to_y] = inward([x, y], run, stride, side).map(|p| [p[0], p[1]])?;
     let (dx, dy) = (to_x - x, to_y - y);
     let length = (dx * dx + dy * dy).sqrt();
     (length > 0.0).then(|| [dx / length, dy / length])
 }
 
-/// The coordinate nearest to an end of a run that differs from it.
-fn inward(run: &[f64], stride: usize, side: u32) -> Option<&[f64]> {
-    let [x, y] = end_of(run, stride, side)?;
+/// The coordinate nearest to an end of a run that differs from its point.
+fn inward([x, y]: Point, run: &[f64], stride: usize, side: u32) -> Option<&[f64]> {
     let differs = |p: &&[f64]| p[0] != x || p[1] != y;
     match side {
         0 => run.chunks_exact(stride).find(differs),
@@ -76,8 +74,10 @@ pub fn stand_in(run: &[f64], stride: usize, mut put: impl FnMut(&[f64])) {
         };
     }
     put(&run[..stride]);
-    inward(run, stride, 0).into_iter().for_each(&mut put);
-    inward(run, stride, 1).into_iter().for_each(&mut put);
+    for side in [0, 1] {
+        let inward = end_of(run, stride, side).and_then(|end| inward(end, run, stride, side));
+        inward.into_iter().for_each(&mut put);
+    }
     put(&run[run.len() - stride..]);
 }
 
@@ -139,7 +139,11 @@ impl Pieces for LinePieces<'_> {
 
 #[cfg(test)]
 mod tests {
-    use super::{direction, stand_in};
+    use super::{end_of, stand_in, Point};
+
+    fn direction(run: &[f64], stride: usize, side: u32) -> Option<Point> {
+        super::direction(end_of(run, stride, side)?, run, stride, side)
+    }
 
     fn standing_in(run: &[f64]) -> Vec<f64> {
         let mut all = Vec::new();
