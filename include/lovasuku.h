@@ -5,10 +5,10 @@
  * several threads at once, each with rooms of its own. A call takes less than 64 KiB of its thread's stack.
  *
  * A slice is a pointer and a length in elements. A slice of length 0 is not looked at, so its pointer may be
- * anything, NULL included. Rooms (the slices without const) must not overlap one another or the input. They need
- * not be cleared before a call and may be longer than asked for. A refused call stores nothing. After an accepted
- * call spare and workspace are 0 over the length named below, each output begins with what was written, and
- * whatever lies beyond is as before.
+ * anything, NULL included. Rooms (the slices without const) must not overlap one another or the input; inputs may
+ * overlap. Rooms need not be cleared before a call and may be longer than asked for. A refused call stores nothing.
+ * After an accepted call spare and workspace are 0 over the length named below, each output begins with what was
+ * written, and whatever lies beyond is as before.
  *
  * Coordinates are lent and come back bit for bit. Every call that has to do with them holds one type of OGC 06-103r4,
  * which is given first: LOVASUKU_XY, or one with extras, a height (Z), a measure (M) or both (ZM). A coordinate is
@@ -155,8 +155,9 @@ enum lovasuku_reason {
  * lines of a chain of several, in the order of the listing, each backwards where its mark is 1, laid end to end without
  * repeats of x and y, are the chain's coordinates by ==. A chain of one line has that line's coordinates as they are,
  * repeats and all. The members are in another order where round two turned a piece of several lines, which keep the
- * order that they had in it: a mark belongs to the member at its place, not to the line at that place of the listing. Lines from 0,0 to 1.25,0, from 4.5,0 to 3.5,0 and from 3.5,0 to 1.75,0 with tolerance 1 are one
- * chain with members 0 1 2, marks 0 1 1 and listing 0 2 1.
+ * order that they had in it: a mark belongs to the member at its place, not to the line at that place of the listing.
+ * Lines from 0,0 to 1.25,0, from 4.5,0 to 3.5,0 and from 3.5,0 to 1.75,0 with tolerance 1 are one chain with members
+ * 0 1 2, marks 0 1 1 and listing 0 2 1.
  *
  * Two districts may go through one call. The lines of groups below 2^31 are the first district's and all others the
  * second's, and each may bring 2,048 lines and 32,768 coordinates, every line counted, so that 4,096 lines fit one call
@@ -484,7 +485,8 @@ int64_t lovasuku_read_wkb(const uint8_t *run, size_t run_length,
  * Rooms: run, 9 bytes for each chain and 8 for each number of its coordinates; lengths, k numbers.
  *
  * Refusals: 12 wkb_type is none of the four. 16 order is neither 0 nor 1. 10 one of the records 0 to k - 1 is none
- * that lovasuku_chain answers with 0 for. 14 a room is too short. With k = 0 nothing is written and no room is needed.
+ * that lovasuku_chain answers with 0 for. 14 a room is too short. With k = 0 no room is
+ * needed, and nothing is written.
  *
  * A line of one coordinate is written where the input had one, or where two lines merged into one: GEOS and PostGIS
  * refuse to read it, GDAL does not. */
