@@ -10,8 +10,9 @@
 
 use answers::random::Random;
 use answers::styles::heights::with_extras;
+use bench::building::{chosen_of, floats_of, lines_of};
 use bench::workloads::{MODES, WORKLOADS};
-use lovasuku_chains::{Dimension, Lines, Rooms, Settings};
+use lovasuku_chains::Rooms;
 use std::process::ExitCode;
 
 const USAGE: &str = "once WORKLOAD LINES MODE [TYPE]";
@@ -36,17 +37,7 @@ fn once(mut words: impl Iterator<Item = String>) -> Option<usize> {
     if let Some(wkb_type) = words.next() {
         call = with_extras(&mut Random::new(7), &call, wkb_type.parse().ok()?);
     }
-    let coordinates: Vec<f64> = call.coordinates.iter().map(|&bits| f64::from_bits(bits)).collect();
-    let lent = Lines {
-        dimension: Dimension::of_wkb_type(call.wkb_type)?,
-        coordinates: &coordinates,
-        counts: &call.counts,
-        groups: &call.groups,
-        kinds: &call.kinds,
-    };
-    let mut settings = Settings::default().with_tolerance(f64::from_bits(call.tolerance));
-    if mode.switch == 1 {
-        settings = settings.with_limit(f64::from_bits(call.limit));
-    }
+    let coordinates = floats_of(&call);
+    let (lent, settings) = (lines_of(&call, &coordinates), chosen_of(&call));
     Rooms::default().build(lent, settings).ok().map(|chains| chains.len())
 }

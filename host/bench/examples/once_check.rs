@@ -6,8 +6,9 @@
 //!     target/release/examples/once_check road 2048 strict
 //! ```
 
+use bench::building::{chosen_of, floats_of, lines_of};
 use bench::workloads::{MODES, WORKLOADS};
-use lovasuku_chains::{Dimension, Lines, Rooms, Settings};
+use lovasuku_chains::Rooms;
 use std::process::ExitCode;
 
 const USAGE: &str = "once_check WORKLOAD LINES MODE";
@@ -29,18 +30,8 @@ fn once(mut words: impl Iterator<Item = String>) -> Option<usize> {
     let workload = WORKLOADS.iter().find(|workload| workload.name == name)?;
     let mode = MODES.iter().find(|one| one.name == mode)?;
     let call = workload.network(lines).call(mode);
-    let coordinates: Vec<f64> = call.coordinates.iter().map(|&bits| f64::from_bits(bits)).collect();
-    let lent = Lines {
-        dimension: Dimension::Xy,
-        coordinates: &coordinates,
-        counts: &call.counts,
-        groups: &call.groups,
-        kinds: &call.kinds,
-    };
-    let mut settings = Settings::default().with_tolerance(f64::from_bits(call.tolerance));
-    if mode.switch == 1 {
-        settings = settings.with_limit(f64::from_bits(call.limit));
-    }
+    let coordinates = floats_of(&call);
+    let (lent, settings) = (lines_of(&call, &coordinates), chosen_of(&call));
     let mut rooms = Rooms::default();
     let chains = rooms.build(lent, settings).ok()?;
     let checked = Rooms::default().check(lent, chains.delivered(), settings);

@@ -9,10 +9,11 @@
 //! processor on one core, as Linux tells it, so that whatever else runs does not count; and where a fifth
 //! word is `two` those of the clock on all cores.
 
+use bench::building::{chosen_of, floats_of, lines_of};
 use bench::clock::timed;
 use bench::large::{call, region, MODES, REGIONS};
 use lovasuku_chains::large::{Cores, Rooms, Way};
-use lovasuku_chains::{Dimension, Lines, Settings};
+
 use std::process::ExitCode;
 
 const USAGE: &str = "once_large REGION LINES strict|junctions|coarse TIMES [two]";
@@ -36,19 +37,8 @@ fn once(mut words: impl Iterator<Item = String>) -> Option<f64> {
     let style = REGIONS.into_iter().find(|(region, _)| *region == name)?;
     let mode = MODES.iter().find(|one| one.name.ends_with(&mode))?;
     let call = call(&region(style, lines), mode);
-    let coordinates: Vec<f64> = call.coordinates.iter().map(|&bits| f64::from_bits(bits)).collect();
-    let lent = Lines {
-        dimension: Dimension::Xy,
-        coordinates: &coordinates,
-        counts: &call.counts,
-        groups: &call.groups,
-        kinds: &call.kinds,
-    };
-    let settings = Settings {
-        tolerance: f64::from_bits(call.tolerance),
-        limit: (call.switch == 1).then(|| f64::from_bits(call.limit)),
-        ..Settings::default()
-    };
+    let coordinates = floats_of(&call);
+    let (lent, settings) = (lines_of(&call, &coordinates), chosen_of(&call));
     let (mut rooms, way) = (Rooms::default(), Way { cores, ..Way::default() });
     let mut build = || {
         let before = processor();

@@ -8,8 +8,9 @@
 //!
 //! `lovasuku_first` and `lovasuku_build` count the others.
 
+use bench::building::{chosen_of, floats_of, lines_of};
 use bench::workloads::{MODES, WORKLOADS};
-use lovasuku_chains::{Dimension, FirstBuf, Lines, Rooms, Settings};
+use lovasuku_chains::{FirstBuf, Rooms};
 use std::process::ExitCode;
 
 const USAGE: &str = "once_zoom WORKLOAD LINES MODE";
@@ -31,18 +32,8 @@ fn once(mut words: impl Iterator<Item = String>) -> Option<[usize; 2]> {
     let workload = WORKLOADS.iter().find(|workload| workload.name == name)?;
     let mode = MODES.iter().find(|one| one.name == mode)?;
     let call = workload.network(lines).call(mode);
-    let coordinates: Vec<f64> = call.coordinates.iter().map(|&bits| f64::from_bits(bits)).collect();
-    let lent = Lines {
-        dimension: Dimension::Xy,
-        coordinates: &coordinates,
-        counts: &call.counts,
-        groups: &call.groups,
-        kinds: &call.kinds,
-    };
-    let mut settings = Settings::default().with_tolerance(f64::from_bits(call.tolerance));
-    if mode.switch == 1 {
-        settings = settings.with_limit(f64::from_bits(call.limit));
-    }
+    let coordinates = floats_of(&call);
+    let (lent, settings) = (lines_of(&call, &coordinates), chosen_of(&call));
     let (mut rooms, mut buffers) = (Rooms::default(), FirstBuf::default());
     let one = rooms.build(lent, settings).ok()?.len();
     let first = rooms.first(lent, settings, &mut buffers).ok()?;

@@ -7,13 +7,13 @@ use crate::times::{measured, Times};
 use answers::{model, BuildCall, Built};
 use lovasuku_chains::door::{self, RawSettings};
 use lovasuku_chains::size::{BOXES, BOXES_BESIDE, LINE_WORKSPACE, RECORD};
-use lovasuku_chains::{Dimension, Lines};
+use lovasuku_chains::{Dimension, Lines, Settings};
 use oracle::{chains::without_marks, settings, Oracle};
 
 /// The times of a call, taken after both sides have been seen to answer alike. The error is a
 /// sentence about the first difference.
 pub fn compare(oracle: Oracle, call: &BuildCall, patience: Patience) -> Result<Times, String> {
-    let coordinates: Vec<f64> = call.coordinates.iter().map(|&bits| f64::from_bits(bits)).collect();
+    let coordinates = floats_of(call);
     let mut rooms = Rooms::dirty(call);
     let chains = build(call, &coordinates, &mut rooms);
     rooms.check(chains, &without_marks(call, &oracle.chains(call)))?;
@@ -31,8 +31,7 @@ pub fn compare(oracle: Oracle, call: &BuildCall, patience: Patience) -> Result<T
 pub fn with_extras(calls: &[BuildCall], patience: Patience) -> Result<Vec<f64>, String> {
     let mut works = Vec::new();
     for call in calls {
-        let coordinates: Vec<f64> =
-            call.coordinates.iter().map(|&bits| f64::from_bits(bits)).collect();
+        let coordinates = floats_of(call);
         let mut rooms = Rooms::dirty(call);
         let chains = build(call, &coordinates, &mut rooms);
         rooms.check(chains, &model::built(call))?;
@@ -89,14 +88,28 @@ pub(crate) fn build_under(
     door::build(call.wkb_type, hidden(lines_of(call, coordinates)), settings, rooms.lent())
 }
 
+/// The coordinates of a call as floats.
+pub fn floats_of(call: &BuildCall) -> Vec<f64> {
+    call.coordinates.iter().map(|&bits| f64::from_bits(bits)).collect()
+}
+
 /// The lines of a call, with its coordinates as floats.
-pub(crate) fn lines_of<'a>(call: &'a BuildCall, coordinates: &'a [f64]) -> Lines<'a> {
+pub fn lines_of<'a>(call: &'a BuildCall, coordinates: &'a [f64]) -> Lines<'a> {
     Lines {
         dimension: Dimension::of_wkb_type(call.wkb_type).unwrap_or_default(),
         coordinates,
         counts: &call.counts,
         groups: &call.groups,
         kinds: &call.kinds,
+    }
+}
+
+/// The settings of a call as the safe crate takes them.
+pub fn chosen_of(call: &BuildCall) -> Settings {
+    Settings {
+        tolerance: f64::from_bits(call.tolerance),
+        origin: call.origin.map(f64::from_bits),
+        limit: (call.switch == 1).then(|| f64::from_bits(call.limit)),
     }
 }
 

@@ -1,7 +1,7 @@
 //! Checking chains made elsewhere: what the library takes to check what it has built, beside building it, and
 //! on chains whose lines may be travelled in very many ways.
 
-use crate::building::{build, lines_of, Rooms};
+use crate::building::{build, floats_of, lines_of, Rooms};
 use crate::clock::{best, hidden, timed, Patience};
 use crate::times::{measured, Times};
 use answers::BuildCall;
@@ -11,7 +11,7 @@ use lovasuku_chains::{door, Delivered, DeliveredBuf, LinesBuf};
 /// The times of checking what is built, and of building it, after it has been seen to be accepted. The error
 /// is a sentence.
 pub fn compare(call: &BuildCall, patience: Patience) -> Result<Times, String> {
-    let coordinates: Vec<f64> = call.coordinates.iter().map(|&bits| f64::from_bits(bits)).collect();
+    let coordinates = floats_of(call);
     let mut rooms = Rooms::dirty(call);
     let k = build(call, &coordinates, &mut rooms);
     let (table, listing, merged) = rooms.delivered(k);

@@ -1,13 +1,13 @@
 //! Deliveries of many lines: the safe crate's large rooms, on one core and on two, and one call of the
 //! Rust's `build_chains`, which holds any number of lines.
 
+use crate::building::{chosen_of, floats_of, lines_of};
 use crate::clock::{best, hidden, timed, Patience, Side};
 use crate::workloads::Mode;
 use answers::random::Random;
 use answers::styles::{regions, Style};
 use answers::{BuildCall, Built};
 use lovasuku_chains::large::{Cores, Joined, Rooms, Way};
-use lovasuku_chains::{Dimension, Lines, Settings};
 use oracle::{chains::without_marks, settings, Oracle};
 use rayon::{ThreadPool, ThreadPoolBuilder};
 
@@ -57,7 +57,7 @@ pub struct LargeTimes {
 /// The times of a delivery, taken after both sides have been seen to answer alike. The error is a
 /// sentence about the first difference.
 pub fn compare(oracle: Oracle, call: &BuildCall, patience: Patience) -> Result<LargeTimes, String> {
-    let coordinates: Vec<f64> = call.coordinates.iter().map(|&bits| f64::from_bits(bits)).collect();
+    let coordinates = floats_of(call);
     let pool = two_cores();
     let mut rooms = Rooms::default();
     check(&joined(call, &coordinates, &mut rooms, Cores::One)?, oracle, call)?;
@@ -97,20 +97,9 @@ fn joined<'a>(
     rooms: &'a mut Rooms,
     cores: Cores,
 ) -> Result<Joined<'a>, String> {
-    let lines = Lines {
-        dimension: Dimension::Xy,
-        coordinates,
-        counts: &call.counts,
-        groups: &call.groups,
-        kinds: &call.kinds,
-    };
-    let settings = Settings {
-        tolerance: f64::from_bits(call.tolerance),
-        origin: call.origin.map(f64::from_bits),
-        limit: (call.switch == 1).then(|| f64::from_bits(call.limit)),
-    };
     let way = Way { cores, ..Way::default() };
-    rooms.build_by(hidden(lines), settings, way).map_err(|fault| fault.to_string())
+    let lines = hidden(lines_of(call, coordinates));
+    rooms.build_by(lines, chosen_of(call), way).map_err(|fault| fault.to_string())
 }
 
 /// Tests that chains are the Rust's.

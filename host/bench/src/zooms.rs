@@ -1,7 +1,7 @@
 //! One exact round, many zooms: five tolerances by one first call and five that finish, beside five whole calls;
 //! and what 19's look at the pieces takes of a call that finishes.
 
-use crate::building::{build_under, lines_of, settings_of, Rooms};
+use crate::building::{build_under, floats_of, lines_of, settings_of, Rooms};
 use crate::clock::{best, hidden, timed, Patience};
 use crate::times::{measured, Times};
 use answers::BuildCall;
@@ -33,7 +33,7 @@ impl<'a> Zooms<'a> {
         let (n, numbers) = (call.lines(), call.coordinates.len());
         Zooms {
             call,
-            coordinates: call.coordinates.iter().map(|&bits| f64::from_bits(bits)).collect(),
+            coordinates: floats_of(call),
             settings: PARTS.into_iter().map(zoom).collect(),
             records: vec![u32::MAX; PIECE * n],
             members: vec![u32::MAX; n],
