@@ -10,8 +10,8 @@
 
 use answers::random::Random;
 use answers::styles::heights::with_extras;
-use bench::building::{chosen_of, floats_of, lines_of};
 use bench::workloads::{MODES, WORKLOADS};
+use compare::lent;
 use lovasuku_chains::Rooms;
 use std::process::ExitCode;
 
@@ -37,7 +37,7 @@ fn once(mut words: impl Iterator<Item = String>) -> Option<usize> {
     if let Some(wkb_type) = words.next() {
         call = with_extras(&mut Random::new(7), &call, wkb_type.parse().ok()?);
     }
-    let coordinates = floats_of(&call);
-    let (lent, settings) = (lines_of(&call, &coordinates), chosen_of(&call));
-    Rooms::default().build(lent, settings).ok().map(|chains| chains.len())
+    let coordinates = lent::coordinates(&call);
+    let (lines, settings) = (lent::lines(&call, &coordinates), lent::settings(&call));
+    Rooms::default().build(lines, settings).ok().map(|chains| chains.len())
 }

@@ -6,8 +6,8 @@
 //!     target/release/examples/once_check road 2048 strict
 //! ```
 
-use bench::building::{chosen_of, floats_of, lines_of};
 use bench::workloads::{MODES, WORKLOADS};
+use compare::lent;
 use lovasuku_chains::Rooms;
 use std::process::ExitCode;
 
@@ -30,10 +30,10 @@ fn once(mut words: impl Iterator<Item = String>) -> Option<usize> {
     let workload = WORKLOADS.iter().find(|workload| workload.name == name)?;
     let mode = MODES.iter().find(|one| one.name == mode)?;
     let call = workload.network(lines).call(mode);
-    let coordinates = floats_of(&call);
-    let (lent, settings) = (lines_of(&call, &coordinates), chosen_of(&call));
+    let coordinates = lent::coordinates(&call);
+    let (lines, settings) = (lent::lines(&call, &coordinates), lent::settings(&call));
     let mut rooms = Rooms::default();
-    let chains = rooms.build(lent, settings).ok()?;
-    let checked = Rooms::default().check(lent, chains.delivered(), settings);
+    let chains = rooms.build(lines, settings).ok()?;
+    let checked = Rooms::default().check(lines, chains.delivered(), settings);
     checked.ok().map(|()| chains.len())
 }

@@ -9,9 +9,9 @@
 //! processor on one core, as Linux tells it, so that whatever else runs does not count; and where a fifth
 //! word is `two` those of the clock on all cores.
 
-use bench::building::{chosen_of, floats_of, lines_of};
 use bench::clock::timed;
 use bench::large::{call, region, MODES, REGIONS};
+use compare::lent;
 use lovasuku_chains::large::{Cores, Rooms, Way};
 
 use std::process::ExitCode;
@@ -37,12 +37,12 @@ fn once(mut words: impl Iterator<Item = String>) -> Option<f64> {
     let style = REGIONS.into_iter().find(|(region, _)| *region == name)?;
     let mode = MODES.iter().find(|one| one.name.ends_with(&mode))?;
     let call = call(&region(style, lines), mode);
-    let coordinates = floats_of(&call);
-    let (lent, settings) = (lines_of(&call, &coordinates), chosen_of(&call));
+    let coordinates = lent::coordinates(&call);
+    let (lines, settings) = (lent::lines(&call, &coordinates), lent::settings(&call));
     let (mut rooms, way) = (Rooms::default(), Way { cores, ..Way::default() });
     let mut build = || {
         let before = processor();
-        let time = timed(|| rooms.build_by(lent, settings, way).is_ok());
+        let time = timed(|| rooms.build_by(lines, settings, way).is_ok());
         match cores {
             Cores::One => before.and_then(|before| Some(processor()? - before)).unwrap_or(time),
             Cores::All => time,

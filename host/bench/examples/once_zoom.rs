@@ -8,8 +8,8 @@
 //!
 //! `lovasuku_first` and `lovasuku_build` count the others.
 
-use bench::building::{chosen_of, floats_of, lines_of};
 use bench::workloads::{MODES, WORKLOADS};
+use compare::lent;
 use lovasuku_chains::{FirstBuf, Rooms};
 use std::process::ExitCode;
 
@@ -32,11 +32,11 @@ fn once(mut words: impl Iterator<Item = String>) -> Option<[usize; 2]> {
     let workload = WORKLOADS.iter().find(|workload| workload.name == name)?;
     let mode = MODES.iter().find(|one| one.name == mode)?;
     let call = workload.network(lines).call(mode);
-    let coordinates = floats_of(&call);
-    let (lent, settings) = (lines_of(&call, &coordinates), chosen_of(&call));
+    let coordinates = lent::coordinates(&call);
+    let (lines, settings) = (lent::lines(&call, &coordinates), lent::settings(&call));
     let (mut rooms, mut buffers) = (Rooms::default(), FirstBuf::default());
-    let one = rooms.build(lent, settings).ok()?.len();
-    let first = rooms.first(lent, settings, &mut buffers).ok()?;
+    let one = rooms.build(lines, settings).ok()?.len();
+    let first = rooms.first(lines, settings, &mut buffers).ok()?;
     let two = rooms.finish(first, settings).ok()?.len();
     Some([one, two])
 }

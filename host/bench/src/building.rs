@@ -5,15 +5,15 @@ use crate::clock::{best, hidden, timed, Patience};
 use crate::geos::Geos;
 use crate::times::{measured, Times};
 use answers::{model, BuildCall, Built};
+use compare::lent;
 use lovasuku_chains::door::{self, RawSettings};
 use lovasuku_chains::size::{BOXES, BOXES_BESIDE, LINE_WORKSPACE, RECORD};
-use lovasuku_chains::{Dimension, Lines, Settings};
 use oracle::{chains::without_marks, settings, Oracle};
 
 /// The times of a call, taken after both sides have been seen to answer alike. The error is a
 /// sentence about the first difference.
 pub fn compare(oracle: Oracle, call: &BuildCall, patience: Patience) -> Result<Times, String> {
-    let coordinates = floats_of(call);
+    let coordinates = lent::coordinates(call);
     let mut rooms = Rooms::dirty(call);
     let chains = build(call, &coordinates, &mut rooms);
     rooms.check(chains, &without_marks(call, &oracle.chains(call)))?;
@@ -31,7 +31,7 @@ pub fn compare(oracle: Oracle, call: &BuildCall, patience: Patience) -> Result<T
 pub fn with_extras(calls: &[BuildCall], patience: Patience) -> Result<Vec<f64>, String> {
     let mut works = Vec::new();
     for call in calls {
-        let coordinates = floats_of(call);
+        let coordinates = lent::coordinates(call);
         let mut rooms = Rooms::dirty(call);
         let chains = build(call, &coordinates, &mut rooms);
         rooms.check(chains, &model::built(call))?;
@@ -75,7 +75,7 @@ pub fn zeroing(call: &BuildCall, patience: Patience) -> f64 {
 
 /// The port's call, with the rooms as the call before left them.
 pub(crate) fn build(call: &BuildCall, coordinates: &[f64], rooms: &mut Rooms) -> i64 {
-    build_under(call, coordinates, settings_of(call), rooms)
+    build_under(call, coordinates, lent::raw_settings(call), rooms)
 }
 
 /// The same under other settings than the call's own.
@@ -85,41 +85,7 @@ pub(crate) fn build_under(
     settings: RawSettings,
     rooms: &mut Rooms,
 ) -> i64 {
-    door::build(call.wkb_type, hidden(lines_of(call, coordinates)), settings, rooms.lent())
-}
-
-/// The coordinates of a call as floats.
-pub fn floats_of(call: &BuildCall) -> Vec<f64> {
-    call.coordinates.iter().map(|&bits| f64::from_bits(bits)).collect()
-}
-
-/// The lines of a call, with its coordinates as floats.
-pub fn lines_of<'a>(call: &'a BuildCall, coordinates: &'a [f64]) -> Lines<'a> {
-    Lines {
-        dimension: Dimension::of_wkb_type(call.wkb_type).unwrap_or_default(),
-        coordinates,
-        counts: &call.counts,
-        groups: &call.groups,
-        kinds: &call.kinds,
-    }
-}
-
-/// The settings of a call as the safe crate takes them.
-pub fn chosen_of(call: &BuildCall) -> Settings {
-    Settings {
-        tolerance: f64::from_bits(call.tolerance),
-        origin: call.origin.map(f64::from_bits),
-        limit: (call.switch == 1).then(|| f64::from_bits(call.limit)),
-    }
-}
-
-pub(crate) fn settings_of(call: &BuildCall) -> RawSettings {
-    RawSettings {
-        tolerance: f64::from_bits(call.tolerance),
-        origin: call.origin.map(f64::from_bits),
-        switch: call.switch,
-        limit: f64::from_bits(call.limit),
-    }
+    door::build(call.wkb_type, hidden(lent::lines(call, coordinates)), settings, rooms.lent())
 }
 
 /// The rooms of a call, each as long as the rules ask for.

@@ -1,22 +1,23 @@
 //! Checking chains made elsewhere: what the library takes to check what it has built, beside building it, and
 //! on chains whose lines may be travelled in very many ways.
 
-use crate::building::{build, floats_of, lines_of, Rooms};
+use crate::building::{build, Rooms};
 use crate::clock::{best, hidden, timed, Patience};
 use crate::times::{measured, Times};
 use answers::BuildCall;
+use compare::lent;
 use lovasuku_chains::size::{LINE_WORKSPACE, RECORD};
 use lovasuku_chains::{door, Delivered, DeliveredBuf, LinesBuf};
 
 /// The times of checking what is built, and of building it, after it has been seen to be accepted. The error
 /// is a sentence.
 pub fn compare(call: &BuildCall, patience: Patience) -> Result<Times, String> {
-    let coordinates = floats_of(call);
+    let coordinates = lent::coordinates(call);
     let mut rooms = Rooms::dirty(call);
     let k = build(call, &coordinates, &mut rooms);
     let (table, listing, merged) = rooms.delivered(k);
     let chains = Delivered { table: &table, listing: &listing, merged: &merged };
-    let lines = lines_of(call, &coordinates);
+    let lines = lent::lines(call, &coordinates);
     let meeting = (f64::from_bits(call.tolerance), call.origin.map(f64::from_bits));
     let mut workspace = vec![u64::MAX; LINE_WORKSPACE * call.lines()];
     let mut check = || {

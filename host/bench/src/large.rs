@@ -1,12 +1,12 @@
 //! Deliveries of many lines: the safe crate's large rooms, on one core and on two, and one call of the
 //! Rust's `build_chains`, which holds any number of lines.
 
-use crate::building::{chosen_of, floats_of, lines_of};
 use crate::clock::{best, hidden, timed, Patience, Side};
 use crate::workloads::Mode;
 use answers::random::Random;
 use answers::styles::{regions, Style};
 use answers::{BuildCall, Built};
+use compare::lent;
 use lovasuku_chains::large::{Cores, Joined, Rooms, Way};
 use oracle::{chains::without_marks, settings, Oracle};
 use rayon::{ThreadPool, ThreadPoolBuilder};
@@ -57,7 +57,7 @@ pub struct LargeTimes {
 /// The times of a delivery, taken after both sides have been seen to answer alike. The error is a
 /// sentence about the first difference.
 pub fn compare(oracle: Oracle, call: &BuildCall, patience: Patience) -> Result<LargeTimes, String> {
-    let coordinates = floats_of(call);
+    let coordinates = lent::coordinates(call);
     let pool = two_cores();
     let mut rooms = Rooms::default();
     check(&joined(call, &coordinates, &mut rooms, Cores::One)?, oracle, call)?;
@@ -98,8 +98,8 @@ fn joined<'a>(
     cores: Cores,
 ) -> Result<Joined<'a>, String> {
     let way = Way { cores, ..Way::default() };
-    let lines = hidden(lines_of(call, coordinates));
-    rooms.build_by(lines, chosen_of(call), way).map_err(|fault| fault.to_string())
+    let lines = hidden(lent::lines(call, coordinates));
+    rooms.build_by(lines, lent::settings(call), way).map_err(|fault| fault.to_string())
 }
 
 /// Tests that chains are the Rust's.

@@ -1,12 +1,12 @@
 //! What lies in a window: the library's question, a look at all boxes in plain Rust, and GEOS's tree.
 
-use crate::building::floats_of;
 use crate::clock::{best, hidden, timed, Patience};
 use crate::geos::Geos;
 use crate::geos_tree::{diagonal, Tree};
 use crate::times::{measured, Times};
 use crate::workloads::WORKLOADS;
 use answers::random::Random;
+use compare::lent;
 use lovasuku_chains::size::BOX;
 use lovasuku_chains::{door, Dimension, Lines, Rooms, Settings, Window, PASSING};
 
@@ -127,7 +127,7 @@ fn plainly(boxes: &[f64], window: &Window, found: &mut [u32]) -> usize {
 fn boxes(name: &str) -> Option<Vec<f64>> {
     let workload = WORKLOADS.iter().find(|workload| workload.name == name)?;
     let call = workload.network(CHAINS).lines;
-    let coordinates = floats_of(&call);
+    let coordinates = lent::coordinates(&call);
     let lines = Lines {
         dimension: Dimension::Xy,
         coordinates: &coordinates,

@@ -1,10 +1,11 @@
 //! One exact round, many zooms: five tolerances by one first call and five that finish, beside five whole calls;
 //! and what 19's look at the pieces takes of a call that finishes.
 
-use crate::building::{build_under, floats_of, lines_of, settings_of, Rooms};
+use crate::building::{build_under, Rooms};
 use crate::clock::{best, hidden, timed, Patience};
 use crate::times::{measured, Times};
 use answers::BuildCall;
+use compare::lent;
 use lovasuku_chains::door::{self, FinishRooms, FirstRooms, RawSettings};
 use lovasuku_chains::size::{LINE_WORKSPACE, PIECE};
 use lovasuku_chains::Pieces;
@@ -29,11 +30,11 @@ impl<'a> Zooms<'a> {
     /// The zooms of a call whose tolerance is the coarsest of five.
     pub fn of(call: &'a BuildCall) -> Self {
         let coarse = f64::from_bits(call.tolerance);
-        let zoom = |part: f64| RawSettings { tolerance: part * coarse, ..settings_of(call) };
+        let zoom = |part: f64| RawSettings { tolerance: part * coarse, ..lent::raw_settings(call) };
         let (n, numbers) = (call.lines(), call.coordinates.len());
         Zooms {
             call,
-            coordinates: floats_of(call),
+            coordinates: lent::coordinates(call),
             settings: PARTS.into_iter().map(zoom).collect(),
             records: vec![u32::MAX; PIECE * n],
             members: vec![u32::MAX; n],
@@ -46,7 +47,7 @@ impl<'a> Zooms<'a> {
 
     /// Round one.
     fn first(&mut self, workspace: &mut [u64]) -> i64 {
-        let lines = hidden(lines_of(self.call, &self.coordinates));
+        let lines = hidden(lent::lines(self.call, &self.coordinates));
         let rooms = FirstRooms {
             pieces: &mut self.records,
             members: &mut self.members,
@@ -64,7 +65,7 @@ impl<'a> Zooms<'a> {
     /// The rest under some settings, in rooms of building; with a table that is one number too short where it is
     /// to be refused by 7.
     fn finish(&self, settings: RawSettings, rooms: &mut Rooms, refused: bool) -> i64 {
-        let lines = hidden(lines_of(self.call, &self.coordinates));
+        let lines = hidden(lent::lines(self.call, &self.coordinates));
         let pieces = Pieces {
             records: &self.records,
             members: &self.members,

@@ -1,7 +1,7 @@
 //! Chains made elsewhere, put to the library and held to the model; and what the safe crate finds wrong
 //! with them, held to the verdict.
 
-use crate::door::{floats, lines};
+use crate::lent::{floats, lines};
 use crate::room::{more, Dirt, Room};
 use crate::Door;
 use answers::model::acceptable::{judged, Verdict};

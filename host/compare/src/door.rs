@@ -1,13 +1,14 @@
 //! The verified library, as something that calls are put to.
 
 use crate::building::BuildRooms;
+use crate::lent;
 use crate::pairing::PairRooms;
 use crate::room::Room;
 use crate::zooms::{FinishRooms, FirstRooms};
 use answers::{offset, BuildCall, CheckCall, FinishCall};
 use answers::{PairingCall, Route, WhyCall, WindowCall};
-use lovasuku_chains::door::{self, RawOffset, RawSettings};
-use lovasuku_chains::{Delivered, Dimension, Ends, Lines, Pieces, Window};
+use lovasuku_chains::door::{self, RawOffset};
+use lovasuku_chains::{Delivered, Ends, Pieces, Window};
 
 /// Whatever takes calls in the form of the door: rooms are lent, the answer is a number.
 pub trait Door: Sync {
@@ -43,38 +44,44 @@ pub struct Library;
 
 impl Door for Library {
     fn build(&self, call: &BuildCall, rooms: &mut BuildRooms) -> i64 {
-        let coordinates = floats(&call.coordinates);
-        door::build(call.wkb_type, lines(call, &coordinates), settings(call), lent(rooms))
+        let coordinates = lent::floats(&call.coordinates);
+        door::build(
+            call.wkb_type,
+            lent::lines(call, &coordinates),
+            lent::raw_settings(call),
+            lend(rooms),
+        )
     }
 
     fn pairs(&self, route: Route, call: &PairingCall, rooms: &mut PairRooms) -> i64 {
         let (limit, rooms) = (f64::from_bits(call.limit), lent_pairs(rooms));
-        door::pairs(by(route), ends(call, &floats(&call.directions)), limit, rooms)
+        door::pairs(by(route), ends(call, &lent::floats(&call.directions)), limit, rooms)
     }
 
     fn why(&self, call: &WhyCall, rooms: &mut PairRooms) -> i64 {
         let WhyCall { pairing: call, ends: of } = call;
         let (limit, rooms) = (f64::from_bits(call.limit), lent_pairs(rooms));
-        door::why(ends(call, &floats(&call.directions)), limit, *of, rooms)
+        door::why(ends(call, &lent::floats(&call.directions)), limit, *of, rooms)
     }
 
     fn window(&self, call: &WindowCall, found: &mut Room<u32>) -> i64 {
         let [least_x, least_y, greatest_x, greatest_y] = call.bounds();
         let window = Window { least: [least_x, least_y], greatest: [greatest_x, greatest_y] };
-        door::window(&floats(&call.boxes), call.k, window, found.lent())
+        door::window(&lent::floats(&call.boxes), call.k, window, found.lent())
     }
 
     fn check(&self, call: &CheckCall, workspace: &mut Room<u64>) -> i64 {
-        let (coordinates, merged) = (floats(&call.lines.coordinates), floats(&call.merged));
+        let (coordinates, merged) =
+            (lent::floats(&call.lines.coordinates), lent::floats(&call.merged));
         let CheckCall { lines: of, table, k, listing, .. } = call;
         let meeting = (f64::from_bits(of.tolerance), of.origin.map(f64::from_bits));
         let chains = Delivered { table, listing, merged: &merged };
-        let lines = lines(of, &coordinates);
+        let lines = lent::lines(of, &coordinates);
         door::check(of.wkb_type, lines, meeting, chains, *k, workspace.lent())
     }
 
     fn first(&self, call: &BuildCall, rooms: &mut FirstRooms) -> i64 {
-        let (coordinates, limit) = (floats(&call.coordinates), f64::from_bits(call.limit));
+        let (coordinates, limit) = (lent::floats(&call.coordinates), f64::from_bits(call.limit));
         let lent = door::FirstRooms {
             pieces: rooms.pieces.lent(),
             members: rooms.members.lent(),
@@ -83,11 +90,12 @@ impl Door for Library {
             merged: rooms.merged.lent(),
             workspace: rooms.workspace.lent(),
         };
-        door::first(call.wkb_type, lines(call, &coordinates), call.switch, limit, lent)
+        door::first(call.wkb_type, lent::lines(call, &coordinates), call.switch, limit, lent)
     }
 
     fn finish(&self, call: &FinishCall, rooms: &mut FinishRooms) -> i64 {
-        let (coordinates, merged) = (floats(&call.lines.coordinates), floats(&call.pieces.merged));
+        let (coordinates, merged) =
+            (lent::floats(&call.lines.coordinates), lent::floats(&call.pieces.merged));
         let answers::Pieces { records, members, marks, listing, k, .. } = &call.pieces;
         let pieces = Pieces { records, members, marks, listing, merged: &merged };
         let lent = door::FinishRooms {
@@ -99,8 +107,8 @@ impl Door for Library {
             boxes: rooms.boxes.lent(),
             workspace: rooms.workspace.lent(),
         };
-        let lines = lines(&call.lines, &coordinates);
-        door::finish(call.lines.wkb_type, lines, pieces, *k, settings(&call.lines), lent)
+        let lines = lent::lines(&call.lines, &coordinates);
+        door::finish(call.lines.wkb_type, lines, pieces, *k, lent::raw_settings(&call.lines), lent)
     }
 
     fn by_offset(&self) -> Option<&dyn Door> {
@@ -120,13 +128,13 @@ impl Door for ByOffset {
             switch: call.switch,
             offset: offset_of(call.limit),
         };
-        let coordinates = floats(&call.coordinates);
-        door::build_offset(call.wkb_type, lines(call, &coordinates), settings, lent(rooms))
+        let coordinates = lent::floats(&call.coordinates);
+        door::build_offset(call.wkb_type, lent::lines(call, &coordinates), settings, lend(rooms))
     }
 
     fn pairs(&self, route: Route, call: &PairingCall, rooms: &mut PairRooms) -> i64 {
         let (offset, rooms) = (offset_of(call.limit), lent_pairs(rooms));
-        door::pairs_offset(by(route), ends(call, &floats(&call.directions)), offset, rooms)
+        door::pairs_offset(by(route), ends(call, &lent::floats(&call.directions)), offset, rooms)
     }
 
     /// The question has no call with an offset: it is asked with the limit.
@@ -160,26 +168,7 @@ pub fn offset_of(limit: u64) -> u32 {
     offset::of_limit(limit).unwrap_or_else(above)
 }
 
-fn settings(call: &BuildCall) -> RawSettings {
-    RawSettings {
-        tolerance: f64::from_bits(call.tolerance),
-        origin: call.origin.map(f64::from_bits),
-        switch: call.switch,
-        limit: f64::from_bits(call.limit),
-    }
-}
-
-pub(crate) fn lines<'a>(call: &'a BuildCall, coordinates: &'a [f64]) -> Lines<'a> {
-    Lines {
-        dimension: Dimension::of_wkb_type(call.wkb_type).unwrap_or_default(),
-        coordinates,
-        counts: &call.counts,
-        groups: &call.groups,
-        kinds: &call.kinds,
-    }
-}
-
-fn lent(rooms: &mut BuildRooms) -> door::BuildRooms<'_> {
+fn lend(rooms: &mut BuildRooms) -> door::BuildRooms<'_> {
     door::BuildRooms {
         table: rooms.table.lent(),
         members: rooms.members.lent(),
@@ -206,8 +195,4 @@ fn by(route: Route) -> lovasuku_chains::Route {
         Route::Indexed => lovasuku_chains::Route::Indexed,
         Route::Chosen => lovasuku_chains::Route::Chosen,
     }
-}
-
-pub(crate) fn floats(bits: &[u64]) -> Vec<f64> {
-    bits.iter().map(|&bits| f64::from_bits(bits)).collect()
 }

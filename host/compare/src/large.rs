@@ -1,11 +1,12 @@
 //! A building call put as a delivery, of which no size is refused, and held to the judge's answer.
 
+use crate::lent;
 use crate::Judge;
 use answers::model::{self, boxes::boxes};
 use answers::random::Random;
 use answers::{BuildCall, Built};
 use lovasuku_chains::large::{Capacity, Cores, Fault, Joined, Rooms, Way};
-use lovasuku_chains::{self as library, Dimension, Lines, PathLine, Settings};
+use lovasuku_chains::{self as library, PathLine};
 use oracle::chains::{with_extras, without_marks};
 
 /// The answer of the judge to lines of any number. Marks, listing and extras, which the Rust does not
@@ -21,31 +22,6 @@ pub fn wanted(judge: Judge, call: &BuildCall) -> Built {
             let built = Built { marks, listing, merged, ..flat };
             Built { boxes: boxes(call, &built), ..built }
         }
-    }
-}
-
-/// The numbers of a call as floats.
-pub fn coordinates(call: &BuildCall) -> Vec<f64> {
-    call.coordinates.iter().map(|&bits| f64::from_bits(bits)).collect()
-}
-
-/// The lines of a call, whose numbers are given as floats.
-pub fn lines<'a>(call: &'a BuildCall, coordinates: &'a [f64]) -> Lines<'a> {
-    Lines {
-        dimension: Dimension::of_wkb_type(call.wkb_type).unwrap_or_default(),
-        coordinates,
-        counts: &call.counts,
-        groups: &call.groups,
-        kinds: &call.kinds,
-    }
-}
-
-/// The settings of a call.
-pub fn settings(call: &BuildCall) -> Settings {
-    Settings {
-        tolerance: f64::from_bits(call.tolerance),
-        origin: call.origin.map(f64::from_bits),
-        limit: (call.switch == 1).then(|| f64::from_bits(call.limit)),
     }
 }
 
@@ -110,8 +86,8 @@ pub fn compare_delivery(
     call: &BuildCall,
     seed: u64,
 ) -> Result<(), String> {
-    let coordinates = coordinates(call);
-    let (lines, settings) = (lines(call, &coordinates), settings(call));
+    let coordinates = lent::coordinates(call);
+    let (lines, settings) = (lent::lines(call, &coordinates), lent::settings(call));
     let way = way(&mut Random::new(seed));
     let joined = rooms.build_by(lines, settings, way);
     let in_this = |fault: String| format!("{fault} ({way:?})");

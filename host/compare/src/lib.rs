@@ -30,6 +30,7 @@ pub mod extras;
 pub mod judge;
 pub mod large;
 pub mod laying;
+pub mod lent;
 pub mod network;
 pub mod pairing;
 pub mod room;

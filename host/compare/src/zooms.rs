@@ -2,6 +2,7 @@
 //! second makes of them, held to the judge's answer to the one call; and pieces that come from anywhere, held
 //! to the model.
 
+use crate::lent::floats;
 use crate::room::{more, Dirt, Room};
 use crate::Door;
 use answers::model::parting::{finished, first_refusal, forbidden, left, Forbidden};
@@ -126,10 +127,6 @@ impl FinishRooms {
         self.boxes.begins_with("boxes", &floats(&built.boxes))?;
         self.workspace.cleared("workspace", LINE_WORKSPACE * call.lines())
     }
-}
-
-fn floats(bits: &[u64]) -> Vec<f64> {
-    bits.iter().map(|&bits| f64::from_bits(bits)).collect()
 }
 
 /// Puts a building call to the door in two calls, in rooms that the seed determines: what the first leaves is

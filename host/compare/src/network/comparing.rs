@@ -1,6 +1,7 @@
 //! One form of a network, by every setting and in every way.
 
-use crate::large::{coordinates, hold, hold_to_one, lines, settings};
+use crate::large::{hold, hold_to_one};
+use crate::lent;
 use answers::{BuildCall, Built};
 use lovasuku_chains::large::{Capacity, Cores, Rooms, Way};
 use lovasuku_chains::{self as library, Settings};
@@ -76,8 +77,8 @@ pub fn compare(call: &BuildCall, wanted: &dyn Fn(&BuildCall) -> Built) -> Tally 
 
 /// Joins a delivery in every way.
 fn compare_ways(rooms: &mut Rooms, call: &BuildCall, wanted: &Built, tally: &mut Tally) {
-    let coordinates = coordinates(call);
-    let (lines, settings) = (lines(call, &coordinates), settings(call));
+    let coordinates = lent::coordinates(call);
+    let (lines, settings) = (lent::lines(call, &coordinates), lent::settings(call));
     let mut one = library::Rooms::default();
     let one = one.build(lines, settings).ok();
     for way in ways() {

@@ -4,7 +4,8 @@ use answers::random::Random;
 use answers::styles::regions::{coast, REGIONS};
 use answers::styles::stars::star;
 use answers::BuildCall;
-use compare::large::{coordinates, hold, lines, settings, wanted};
+use compare::large::{hold, wanted};
+use compare::lent::{coordinates, lines, settings};
 use compare::Judge;
 use lovasuku_chains::large::{Cores, Fault, Rooms, Way};
 
