@@ -25,16 +25,8 @@ use Rattle.chain_round.specs.Round as round
 use Rattle.chain_round.specs.Round.{Rounded}
 use Rattle.build_chains.specs.Building.{Buildable, Left}
 use Rattle.build_chains.proofs.Parts.{mid-length, put-mid, put-rest, put-length}
-use Rattle.build_chains.proofs.Good.{Good, good-start, good-join, good-grouped}
-
--- a switch that is on has a fair limit
-pub limit-fair : (switch : ℕ) (limit : Float) → switchBad switch limit ≡ false → eqb switch 1 ≡ true → limitBad limit ≡ false
-unfolding switchBad
-limit-fair switch limit h e = go (ltb 1 switch) (limitBad limit) (rw e at h)
-  where
-    go : (a b : Bool) → (a || (true && b)) ≡ false → b ≡ false
-    go true b q = let z : _≡_ {A = ℕ} 0 1 = cc in absurd (omega arith)
-    go false b q = q
+use Rattle.build_walks.proofs.Walks.{limit-fair}
+use Rattle.build_walks.proofs.Good.{Good, good-start, good-join, good-grouped}
 
 module _ {width : ℕ} {l : Lines} {s : Settings} {out w₀ : List ℕ} (J : Buildable width l s out w₀) where
   abbrev n : ℕ
@@ -70,6 +62,30 @@ module _ {width : ℕ} {l : Lines} {s : Settings} {out w₀ : List ℕ} (J : Bui
   unfolding roundOne
   joined-fits = omega (arith, plain-fits, mul-le-mul-right width (join-size (ruleOf Exact s) plainPieces))
 
+  -- ---- the pieces that come out of round one's part, whatever was done in it before
+
+  module _ (w₁ : List ℕ) (same : length w₁ ≡ length w₀) (behind : drop (length (l .counts) * lineRoom) w₁ ≡ drop (length (l .counts) * lineRoom) w₀)
+      {r : ℕ} {sub out₀ out′ : List ℕ} {qs : List Piece}
+      (size : length sub ≡ length (midOf (length (l .counts) * takenBlock) (length (l .counts) * lineRoom - length (l .counts) * takenBlock) w₁))
+      (R : Rounded width sub (midOf (length (l .counts) * takenBlock) (length (l .counts) * lineRoom - length (l .counts) * takenBlock) w₁) (length (l .counts)) r (l .coordinates) out′ out₀ (l .counts) qs) where
+    whole : n * takenBlock + k₁ ≡ n * lineRoom
+    whole = omega arith
+
+    inside : n * takenBlock + k₁ ≤ length w₁
+    inside = omega (arith, room₀)
+
+    pub part-left : Left width (length (l .counts)) (l .coordinates) (l .counts) qs (length (l .counts) * takenBlock) r out′ out₀
+        (putMid (length (l .counts) * takenBlock) (length (l .counts) * lineRoom - length (l .counts) * takenBlock) w₁ sub) w₀
+    part-left =
+        let w₂ = putMid (n * takenBlock) k₁ w₁ sub in
+        record {
+          within = omega arith;
+          held = subst (λ (v : List ℕ). Packed width v 0 n (l .coordinates) out′ (l .counts) qs) (sym (put-mid w₁ sub (n * takenBlock) k₁ inside size)) (R .held);
+          number-is = R .number;
+          copied-is = R .merged-is;
+          rest = ap (λ (i : ℕ). drop i w₂) (sym whole) ∙ put-rest w₁ sub (n * takenBlock) k₁ inside size ∙ ap (λ (i : ℕ). drop i w₁) whole ∙ behind;
+        }
+
   module _ {sub₁ : List ℕ} {m : ℕ} (size₁ : length sub₁ ≡ length (midOf (length (l .counts) * takenBlock) (length (l .counts) * lineRoom - length (l .counts) * takenBlock) w₀))
       (T : Taken sub₁ (midOf (length (l .counts) * takenBlock) (length (l .counts) * lineRoom - length (l .counts) * takenBlock) w₀) (length (l .counts)) (l .counts) (l .kinds) m) where
     abbrev w₁ : List ℕ
@@ -77,6 +93,11 @@ module _ {width : ℕ} {l : Lines} {s : Settings} {out w₀ : List ℕ} (J : Bui
 
     pub room₁ : n * takenBlock + k₁ ≤ length w₁
     room₁ = omega (arith, room₀, put-length w₀ sub₁ (n * takenBlock) k₁ room₀ size₁)
+
+    rest₁ : drop (n * lineRoom) w₁ ≡ drop (n * lineRoom) w₀
+    rest₁ =
+        let whole : n * takenBlock + k₁ ≡ n * lineRoom = omega arith in
+        ap (λ (i : ℕ). drop i w₁) (sym whole) ∙ put-rest w₀ sub₁ (n * takenBlock) k₁ room₀ size₁ ∙ ap (λ (i : ℕ). drop i w₀) whole
 
     pub part₁ : midOf (n * takenBlock) k₁ w₁ ≡ sub₁
     part₁ = put-mid w₀ sub₁ (n * takenBlock) k₁ room₀ size₁
@@ -107,26 +128,7 @@ module _ {width : ℕ} {l : Lines} {s : Settings} {out w₀ : List ℕ} (J : Bui
     module _ {r : ℕ} {sub₂ out′ : List ℕ} (size₂ : length sub₂ ≡ length (midOf (length (l .counts) * takenBlock) (length (l .counts) * lineRoom - length (l .counts) * takenBlock) w₁))
         (R : Rounded width sub₂ (midOf (length (l .counts) * takenBlock) (length (l .counts) * lineRoom - length (l .counts) * takenBlock) w₁) (length (l .counts)) r (l .coordinates) out′ out (l .counts)
         (join (ruleOf Exact s) (plainOf width l))) where
-      abbrev w₂ : List ℕ
-      w₂ = putMid (length (l .counts) * takenBlock) (length (l .counts) * lineRoom - length (l .counts) * takenBlock) w₁ sub₂
-
-      part₂ : midOf (n * takenBlock) k₁ w₂ ≡ sub₂
-      part₂ = put-mid w₁ sub₂ (n * takenBlock) k₁ room₁ size₂
-
-      whole : n * takenBlock + k₁ ≡ n * lineRoom
-      whole = omega arith
-
-      pub one-left : Left width (length (l .counts)) (l .coordinates) (l .counts) (roundOne s (plainOf width l)) (length (l .counts) * takenBlock) r out′ out w₂ w₀
+      pub one-left : Left width (length (l .counts)) (l .coordinates) (l .counts) (roundOne s (plainOf width l)) (length (l .counts) * takenBlock) r out′ out
+          (putMid (length (l .counts) * takenBlock) (length (l .counts) * lineRoom - length (l .counts) * takenBlock) w₁ sub₂) w₀
       unfolding roundOne
-      one-left =
-          record {
-            within = omega arith;
-            held = subst (λ (v : List ℕ). Packed width v 0 n (l .coordinates) out′ (l .counts) (roundOne s plainPieces)) (sym part₂) (R .held);
-            number-is = R .number;
-            copied-is = R .merged-is;
-            rest =
-                ap (λ (i : ℕ). drop i w₂) (sym whole)
-                ∙ put-rest w₁ sub₂ (n * takenBlock) k₁ room₁ size₂
-                ∙ put-rest w₀ sub₁ (n * takenBlock) k₁ room₀ size₁
-                ∙ ap (λ (i : ℕ). drop i w₀) whole;
-          }
+      one-left = part-left w₁ (put-length w₀ sub₁ (n * takenBlock) k₁ room₀ size₁) rest₁ size₂ R

@@ -1,7 +1,7 @@
 pub mod Parts
-pub mod Good
 pub mod First
 pub mod Second
 pub mod Rounds
+pub mod Twice
 pub mod Boxes
 pub mod Built

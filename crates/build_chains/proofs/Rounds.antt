@@ -21,8 +21,9 @@ use Rattle.build_layout.specs.Laying.{leftOf}
 use Rattle.build_layout.proofs.Left.{left-listed}
 use Rattle.build_chains.specs.Building.{partFrom, Buildable, Left, Second, AllLeft}
 use Rattle.build_chains.proofs.Parts.{written-rest}
-use Rattle.build_chains.proofs.Good.{good-grouped}
-use Rattle.build_chains.proofs.First.{limit-fair, good₂, joined-fits}
+use Rattle.build_walks.proofs.Walks.{limit-fair}
+use Rattle.build_walks.proofs.Good.{good-grouped}
+use Rattle.build_chains.proofs.First.{good₂, joined-fits}
 
 pub two-on : (s : Settings) (ps : List Piece) → lt nought (s .tolerance) ≡ true → join (ruleOf (cellsOf s) s) ps ≡ roundTwo s ps
 unfolding roundTwo
@@ -52,7 +53,7 @@ module _ {width : ℕ} {l : Lines} {s : Settings} {merged w₀ : List ℕ} (J : 
         workspace-long = J .workspace-long;
       }
 
-  lines-are : {lines : ℕ} → lines ≡ length (plainOf width l) → lines ≡ length (linesOf (leftOf width s l))
+  pub lines-are : {lines : ℕ} → lines ≡ length (plainOf width l) → lines ≡ length (linesOf (leftOf width s l))
   lines-are e = e ∙ sym (left-listed width s (l .coordinates) (l .counts) (l .groups) (l .kinds))
 
   -- what is copied is no more than the coordinates

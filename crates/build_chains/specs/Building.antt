@@ -4,10 +4,11 @@ use mathlib.Core.Path.{_≡_}
 use mathlib.Core.Bool.{true, false}
 use mathlib.Core.List.{List, map, flatMap}
 use lib.Dec.{eqb}
+use lib.Ieee.{lt}
 use lib.ListN.{length, getD, take, drop}
 use Rattle.rules.specs.declared.Settings.{Settings}
 use Rattle.rules.specs.Lists.{total}
-use Rattle.rules.specs.Plane.{points, flat}
+use Rattle.rules.specs.Plane.{points, flat, nought}
 use Rattle.rules.specs.Boxes.{boxRoom}
 use Rattle.rules.specs.Chaining.{Piece, nothing}
 use Rattle.rules.specs.Types.{widthOf}
@@ -65,6 +66,14 @@ pub record Second (width n m : ℕ) (s : Settings) (coordinates groups copies me
   pub fits : total (map (λ (p : Piece). length (p .points)) ps) * width ≤ length merged
   pub workspace-long : n * lineRoom ≤ length workspace
 
+-- ---- both
+
+-- what is asked of a call's lines where the tolerance is above 0; round one may copy into `spare`
+pub record Twice (width : ℕ) (l : Lines) (s : Settings) (merged spare workspace : List ℕ) : Type 0 where
+  pub buildable : Buildable width l s merged workspace
+  pub spare-long : length (l .coordinates) ≤ length spare
+  pub above : lt nought (s .tolerance) ≡ true
+
 -- ---- the boxes
 
 -- chains ps of a call's lines, of type t, whose points are places and are read as they are written; and room for the boxes of all lines
@@ -77,7 +86,7 @@ pub record Boxing (t : ℕ) (l : Lines) (ps : List Piece) (boxes : List ℕ) : T
   pub placed : Each (λ (p : Piece). Places (p .points)) ps
   pub room : boxRoom (length (l .counts)) ≤ length boxes
 
--- ---- both
+-- ---- what is left
 
 -- the pieces that the rounds leave of a call's lines; beyond the coordinates' length spare is as before
 pub record AllLeft (width : ℕ) (l : Lines) (s : Settings) (at number lines : ℕ) (merged′ merged spare′ spare workspace′ workspace : List ℕ) : Type 0 where

@@ -13,7 +13,7 @@ ghost use Rattle.rules.specs.Refusals.{rooms, refusalOf};
 ghost use Rattle.rules.specs.Calls.{Built};
 ghost use Rattle.chain_pieces.specs.Map.{takenBlock};
 ghost use Rattle.build_lines.specs.Taken.{plainOf};
-ghost use Rattle.build_chains.specs.Building.{Buildable, Left, Second, AllLeft};
+ghost use Rattle.build_chains.specs.Building.{Buildable, Left, Second, Twice, AllLeft};
 
 // Where the pieces that the rounds leave stand in the workspace, how many there are, and how many lines they have.
 pub struct Pieces {
@@ -93,8 +93,83 @@ pub fn round_two<'a>(
     )
 }
 
-// The lines joined in one round, which merges into `merged`, or in two where the tolerance is above 0: round one merges into `spare` then, and round
-// two from there into `merged`.
+// The lines joined in two rounds, where the tolerance is above 0. Where round two can join none of round one's walks, these are laid into `merged`, and it is
+// done; otherwise round one merges into `spare`, and round two from there into `merged`.
+fn join_twice(
+    coordinates: &[u64],
+    width: usize,
+    counts: &[u32],
+    groups: &[u32],
+    kinds: &[u8],
+    settings: Settings,
+    merged: &mut [u64],
+    spare: &mut [u64],
+    workspace: &mut [u64],
+) -> Pieces
+    requires { ⌜ Twice width (lent (now coordinates) (now counts) (now groups) (now kinds)) settings (now merged) (now spare) (now workspace) ⌝ }
+    ensures { λ r. ⌜ AllLeft width (lent (now (coordinates .entry)) (now (counts .entry)) (now (groups .entry)) (now (kinds .entry))) settings
+        (r .at) (r .number) (r .lines) (now (merged .exit)) (now (merged .entry)) (now (spare .exit)) (now (spare .entry))
+        (now (workspace .exit)) (now (workspace .entry)) ⌝ }
+{
+    let n = counts.len();
+    let at = n * TAKEN;
+    let end = n * LINE_ROOM;
+    let one = build_walks::walk_lines(
+        &mut workspace[at..end],
+        n,
+        coordinates,
+        width,
+        counts,
+        groups,
+        kinds,
+        settings,
+    );
+    if one.apart {
+        chain_round::emit_round(
+            &mut workspace[at..end],
+            n,
+            one.lines,
+            one.number,
+            width,
+            coordinates,
+            coordinates,
+            merged,
+        );
+        return Pieces {
+            at,
+            number: one.number,
+            lines: one.lines,
+        };
+    }
+    chain_round::emit_round(
+        &mut workspace[at..end],
+        n,
+        one.lines,
+        one.number,
+        width,
+        coordinates,
+        coordinates,
+        spare,
+    );
+    let number = chain_round::join_grouped(
+        &mut workspace[0..end],
+        n,
+        one.number,
+        settings.switch == 1,
+        settings.limit,
+        width,
+        coordinates,
+        spare,
+        merged,
+    );
+    Pieces {
+        at: 0,
+        number,
+        lines: one.lines,
+    }
+}
+
+// The lines joined in one round, or in two where the tolerance is above 0.
 fn join_lines(
     coordinates: &[u64],
     width: usize,
@@ -112,34 +187,18 @@ fn join_lines(
         (r .at) (r .number) (r .lines) (now (merged .exit)) (now (merged .entry)) (now (spare .exit)) (now (spare .entry))
         (now (workspace .exit)) (now (workspace .entry)) ⌝ }
 {
-    let n = counts.len();
     if 0.0 < settings.tolerance {
-        let one = round_one(
+        return join_twice(
             coordinates,
             width,
             counts,
             groups,
             kinds,
             settings,
-            spare,
-            workspace,
-        );
-        let number = round_two(
-            coordinates,
-            width,
-            n,
-            groups,
-            settings,
-            one.number,
-            spare,
             merged,
+            spare,
             workspace,
         );
-        return Pieces {
-            at: 0,
-            number,
-            lines: one.lines,
-        };
     }
     round_one(
         coordinates,

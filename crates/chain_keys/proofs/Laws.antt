@@ -17,7 +17,7 @@ use Rattle.rules.specs.Refusals.{sourceOf}
 use Rattle.chain_pieces.specs.Held.{recordOf, coordinatesAt}
 use Rattle.chain_pieces.proofs.Source.{recorded-length}
 use Rattle.chain_grouping.specs.Group.{words, wordsAt}
-use Rattle.chain_keys.specs.Keys.{groupAt, numberAt, wordOf, wordsFor, keyed, bothKeyed, PiecePlaced, Grouping, Keyable, Keyed}
+use Rattle.chain_keys.specs.Keys.{groupAt, numberAt, wordOf, wordsFor, keyedAt, keyed, bothKeyed, PiecePlaced, Grouping, Keyable, Keyed}
 use Rattle.chain_grouping.specs.Map.{keySize}
 use Rattle.chain_keys.specs.Map.{bothKeys}
 
@@ -121,45 +121,40 @@ module _ (w′ w : List ℕ) (k p members : ℕ) (s : Same w′ w k) (hp : p + 5
 
 -- ---- one end more
 
-module _ (width records members keys count : ℕ) (groups input spare : List ℕ) (grid : Grid) where
+-- `of` says which end of the pieces has its key at a place
+module _ (width records members keys count : ℕ) (groups input spare : List ℕ) (grid : Grid) (of : ℕ → ℕ) where
   -- after e ends
   pub record Keying (w w₀ : List ℕ) (e : ℕ) : Type 0 where
     pub size : length w ≡ length w₀
-    pub each : (f : ℕ) → f < e → wordsAt w keys f ≡ wordsFor width w₀ (recordOf records (f / 2)) (f % 2) members groups input spare grid
+    pub each : (f : ℕ) → f < e → wordsAt w keys f ≡ wordsFor width w₀ (recordOf records (of f / 2)) (of f % 2) members groups input spare grid
     pub kept : Same w w₀ keys
 
   pub keying-start : (w : List ℕ) → Keying w w 0
   keying-start w = record { size = refl; each = λ f h. absurd (omega arith); kept = λ j h. refl }
 
-  module _ (w w₀ : List ℕ) (e : ℕ) (K : Keying w w₀ e) (Y : Keyable width w₀ records members keys count groups input spare) (h : e < count * 2) where
-    abbrev q : ℕ
-    q = e / 2
-
-    q-in : q < count
-    q-in = omega arith
-
-    above : recordOf records (e / 2) + 5 ≤ keys
+  module _ (w w₀ : List ℕ) (e : ℕ) (K : Keying w w₀ e) (Y : Keyable width w₀ records members keys count groups input spare) (h : e < count * 2) (q-in : of e / 2 < count) where
+    above : recordOf records (of e / 2) + 5 ≤ keys
     above = let b = Y .below in omega arith
 
-    pub keying-placed : PiecePlaced width w (recordOf records (e / 2)) input spare
+    pub keying-placed : PiecePlaced width w (recordOf records (of e / 2)) input spare
     keying-placed =
-        placed-same w w₀ keys (recordOf records (e / 2)) members (K .kept) above (Y .member (e / 2) q-in) width input spare (K .size) (Y .placed (e / 2) q-in)
+        placed-same w w₀ keys (recordOf records (of e / 2)) members (K .kept) above (Y .member (of e / 2) q-in) width input spare (K .size) (Y .placed (of e / 2) q-in)
 
-    pub keying-group : Grouping w (recordOf records (e / 2)) members groups
+    pub keying-group : Grouping w (recordOf records (of e / 2)) members groups
     keying-group =
-        grouping-same w w₀ keys (recordOf records (e / 2)) members (K .kept) above (Y .member (e / 2) q-in) groups (K .size)
+        grouping-same w w₀ keys (recordOf records (of e / 2)) members (K .kept) above (Y .member (of e / 2) q-in) groups (K .size)
         (record {
-          inside = Y .placed (e / 2) q-in .recorded .inside;
-          member = let r = Y .room in omega (arith, Y .member (e / 2) q-in);
-          line = Y .line (e / 2) q-in;
+          inside = Y .placed (of e / 2) q-in .recorded .inside;
+          member = let r = Y .room in omega (arith, Y .member (of e / 2) q-in);
+          line = Y .line (of e / 2) q-in;
         })
 
-    step : Keying (keyed width w records members keys e groups input spare grid) w₀ (e + 1)
-    unfolding keyed wordsAt wordsFor
+    step : Keying (keyedAt width w (recordOf records (of e / 2)) (of e % 2) members (keys + e * keySize) groups input spare grid) w₀ (e + 1)
+    unfolding keyedAt wordsAt wordsFor
     step =
-        let g = groupAt w (recordOf records (e / 2)) members groups in
-        let x = wordOf grid 0 (numberAt width w (recordOf records (e / 2)) (e % 2) 0 input spare) in
-        let y = wordOf grid 1 (numberAt width w (recordOf records (e / 2)) (e % 2) 1 input spare) in
+        let g = groupAt w (recordOf records (of e / 2)) members groups in
+        let x = wordOf grid 0 (numberAt width w (recordOf records (of e / 2)) (of e % 2) 0 input spare) in
+        let y = wordOf grid 1 (numberAt width w (recordOf records (of e / 2)) (of e % 2) 1 input spare) in
         let n = K .size in
         let r = Y .room in
         let fit : keys + e * keySize + 3 ≤ length w = omega arith in
@@ -170,8 +165,8 @@ module _ (width records members keys count : ℕ) (groups input spare : List ℕ
             | yes p ↦
                 ap (wordsAt (three w (keys + e * keySize) g x y) keys) p
                 ∙ here g x y fit
-                ∙ words-same w w₀ keys (recordOf records (e / 2)) members (K .kept) above (Y .member (e / 2) q-in) width (e % 2) groups input spare grid
-                ∙ ap (λ (i : ℕ). wordsFor width w₀ (recordOf records (i / 2)) (i % 2) members groups input spare grid) (sym p)
+                ∙ words-same w w₀ keys (recordOf records (of e / 2)) members (K .kept) above (Y .member (of e / 2) q-in) width (of e % 2) groups input spare grid
+                ∙ ap (λ (i : ℕ). wordsFor width w₀ (recordOf records (of i / 2)) (of i % 2) members groups input spare grid) (sym p)
             | no p ↦
                 (λ i. words
                 (three-other w (keys + e * keySize) g x y (keys + f * keySize) (λ s. omega arith) (λ s. omega arith) (λ s. omega arith) i)
@@ -187,10 +182,12 @@ module _ (width records members keys count : ℕ) (groups input spare : List ℕ
             (three-second w (keys + e * keySize) g x y fit i)
             (three-third w (keys + e * keySize) g x y fit i)
 
-    pub keying-step : (w′ : List ℕ) → w′ ≡ keyed width w records members keys e groups input spare grid → Keying w′ w₀ (e + 1)
+    pub keying-step : (w′ : List ℕ) → w′ ≡ keyedAt width w (recordOf records (of e / 2)) (of e % 2) members (keys + e * keySize) groups input spare grid → Keying w′ w₀ (e + 1)
     keying-step w′ q = subst (λ (v : List ℕ). Keying v w₀ (e + 1)) (sym q) step
 
-  pub keying-done : {w w₀ : List ℕ} {e : ℕ} → Keying w w₀ e → count * 2 ≤ e → Keyed width w w₀ records members keys count groups input spare grid
+-- each end at its own place
+module _ (width records members keys count : ℕ) (groups input spare : List ℕ) (grid : Grid) where
+  pub keying-done : {w w₀ : List ℕ} {e : ℕ} → Keying width records members keys count groups input spare grid (λ f. f) w w₀ e → count * 2 ≤ e → Keyed width w w₀ records members keys count groups input spare grid
   keying-done K h = record { each = λ f l. K .each f (omega arith); kept = K .kept }
 
 -- ---- both ends of a piece, by their bits
@@ -200,7 +197,7 @@ module _ (width records members keys count : ℕ) (groups input spare : List ℕ
   first-keyed : (w : List ℕ) (q : ℕ)
       → three w (keys + q * bothKeys) (groupAt w (recordOf records q) members groups) (numberAt width w (recordOf records q) 0 0 input spare) (numberAt width w (recordOf records q) 0 1 input spare)
       ≡ keyed width w records members keys (q * 2) groups input spare Exact
-  unfolding keyed wordOf
+  unfolding keyedAt wordOf
   first-keyed w q =
       let a : keys + q * bothKeys ≡ keys + q * 2 * 3 = omega arith in
       let p : q ≡ q * 2 / 2 = omega arith in
@@ -210,29 +207,29 @@ module _ (width records members keys count : ℕ) (groups input spare : List ℕ
   second-keyed : (w : List ℕ) (q : ℕ)
       → three w (keys + q * bothKeys + 3) (groupAt w (recordOf records q) members groups) (numberAt width w (recordOf records q) 1 0 input spare) (numberAt width w (recordOf records q) 1 1 input spare)
       ≡ keyed width w records members keys (q * 2 + 1) groups input spare Exact
-  unfolding keyed wordOf
+  unfolding keyedAt wordOf
   second-keyed w q =
       let a : keys + q * bothKeys + 3 ≡ keys + (q * 2 + 1) * 3 = omega arith in
       let p : q ≡ (q * 2 + 1) / 2 = omega arith in
       let s : 1 ≡ (q * 2 + 1) % 2 = omega arith in
       λ i. three w (a i) (groupAt w (recordOf records (p i)) members groups) (numberAt width w (recordOf records (p i)) (s i) 0 input spare) (numberAt width w (recordOf records (p i)) (s i) 1 input spare)
 
-  module _ (w w₀ : List ℕ) (q : ℕ) (K : Keying width records members keys count groups input spare Exact w w₀ (q * 2)) (Y : Keyable width w₀ records members keys count groups input spare) (h : q < count) where
+  module _ (w w₀ : List ℕ) (q : ℕ) (K : Keying width records members keys count groups input spare Exact (λ f. f) w w₀ (q * 2)) (Y : Keyable width w₀ records members keys count groups input spare) (h : q < count) where
     pub both-placed : PiecePlaced width w (recordOf records q) input spare
     both-placed =
         let p : q * 2 / 2 ≡ q = omega arith in
-        subst (λ (i : ℕ). PiecePlaced width w (recordOf records i) input spare) p (keying-placed width records members keys count groups input spare Exact w w₀ (q * 2) K Y (omega arith))
+        subst (λ (i : ℕ). PiecePlaced width w (recordOf records i) input spare) p (keying-placed width records members keys count groups input spare Exact (λ f. f) w w₀ (q * 2) K Y (omega arith) (omega arith))
 
     pub both-group : Grouping w (recordOf records q) members groups
     both-group =
         let p : q * 2 / 2 ≡ q = omega arith in
-        subst (λ (i : ℕ). Grouping w (recordOf records i) members groups) p (keying-group width records members keys count groups input spare Exact w w₀ (q * 2) K Y (omega arith))
+        subst (λ (i : ℕ). Grouping w (recordOf records i) members groups) p (keying-group width records members keys count groups input spare Exact (λ f. f) w w₀ (q * 2) K Y (omega arith) (omega arith))
 
     abbrev once : List ℕ
     once = keyed width w records members keys (q * 2) groups input spare Exact
 
-    half : Keying width records members keys count groups input spare Exact once w₀ (q * 2 + 1)
-    half = keying-step width records members keys count groups input spare Exact w w₀ (q * 2) K Y (omega arith) once refl
+    half : Keying width records members keys count groups input spare Exact (λ f. f) once w₀ (q * 2 + 1)
+    half = keying-step width records members keys count groups input spare Exact (λ f. f) w w₀ (q * 2) K Y (omega arith) (omega arith) once refl
 
     -- what the second key reads is as it was before the first
     below : Same once w keys
@@ -251,8 +248,8 @@ module _ (width records members keys count : ℕ) (groups input spare : List ℕ
         let y = number-same once w keys (recordOf records q) members below u member-in width 1 1 input spare in
         (λ i. three (first-keyed w q i) (keys + q * bothKeys + 3) (sym g i) (sym x i) (sym y i)) ∙ second-keyed once q
 
-    pub both-step : (w′ : List ℕ) → w′ ≡ bothKeyed width w records members keys q groups input spare → Keying width records members keys count groups input spare Exact w′ w₀ ((q + 1) * 2)
+    pub both-step : (w′ : List ℕ) → w′ ≡ bothKeyed width w records members keys q groups input spare → Keying width records members keys count groups input spare Exact (λ f. f) w′ w₀ ((q + 1) * 2)
     both-step w′ e =
         let n : q * 2 + 1 + 1 ≡ (q + 1) * 2 = omega arith in
-        subst (λ (k : ℕ). Keying width records members keys count groups input spare Exact w′ w₀ k) n
-        (keying-step width records members keys count groups input spare Exact once w₀ (q * 2 + 1) half Y (omega arith) w′ (e ∙ twice))
+        subst (λ (k : ℕ). Keying width records members keys count groups input spare Exact (λ f. f) w′ w₀ k) n
+        (keying-step width records members keys count groups input spare Exact (λ f. f) once w₀ (q * 2 + 1) half Y (omega arith) (omega arith) w′ (e ∙ twice))

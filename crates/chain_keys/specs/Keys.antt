@@ -37,17 +37,22 @@ unfolding groupAt numberAt wordOf
 wordsFor width w p side members groups input spare grid =
     words (groupAt w p members groups) (wordOf grid 0 (numberAt width w p side 0 input spare)) (wordOf grid 1 (numberAt width w p side 1 input spare))
 
--- the workspace with the key of end e
-unfoldable pub keyed : ℕ → List ℕ → ℕ → ℕ → ℕ → ℕ → List ℕ → List ℕ → List ℕ → Grid → List ℕ
+-- the workspace with the key at a side of the record at p, three words at `at`
+unfoldable pub keyedAt : ℕ → List ℕ → ℕ → ℕ → ℕ → ℕ → List ℕ → List ℕ → List ℕ → Grid → List ℕ
 unfolding groupAt numberAt wordOf
-keyed width w records members keys e groups input spare grid =
+keyedAt width w p side members at groups input spare grid =
     set
     (set
-    (set w (keys + e * keySize) (groupAt w (recordOf records (e / 2)) members groups))
-    (keys + e * keySize + 1)
-    (wordOf grid 0 (numberAt width w (recordOf records (e / 2)) (e % 2) 0 input spare)))
-    (keys + e * keySize + 2)
-    (wordOf grid 1 (numberAt width w (recordOf records (e / 2)) (e % 2) 1 input spare))
+    (set w at (groupAt w p members groups))
+    (at + 1)
+    (wordOf grid 0 (numberAt width w p side 0 input spare)))
+    (at + 2)
+    (wordOf grid 1 (numberAt width w p side 1 input spare))
+
+-- the workspace with the key of end e
+abbrev pub keyed : ℕ → List ℕ → ℕ → ℕ → ℕ → ℕ → List ℕ → List ℕ → List ℕ → Grid → List ℕ
+keyed width w records members keys e groups input spare grid =
+    keyedAt width w (recordOf records (e / 2)) (e % 2) members (keys + e * keySize) groups input spare grid
 
 -- the workspace with the exact keys of both ends of piece q
 unfoldable pub bothKeyed : ℕ → List ℕ → ℕ → ℕ → ℕ → ℕ → List ℕ → List ℕ → List ℕ → List ℕ

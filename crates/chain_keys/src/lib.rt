@@ -7,8 +7,7 @@ ghost use Prim.Native.Nat.{_+_, _*_, _/_, _%_, _≤_, _<_};
 ghost use lib.ListN.{length, set};
 ghost use Rattle.rules.specs.declared.Grid.the-variants.{Exact, Cells};
 ghost use Rattle.chain_pieces.specs.Held.{recordOf};
-ghost use Rattle.chain_keys.specs.Keys.{groupAt, numberAt, PiecePlaced, Grouping, Keyable, Keyed, keyed, bothKeyed};
-ghost use Rattle.chain_grouping.specs.Map.{keySize};
+ghost use Rattle.chain_keys.specs.Keys.{groupAt, numberAt, PiecePlaced, Grouping, Keyable, Keyed, keyedAt, bothKeyed};
 ghost use Rattle.chain_keys.specs.Map.{bothKeys};
 
 // The words of the keys of a piece's two ends.
@@ -81,13 +80,13 @@ fn put_exact<'a>(
     put_words(w, behind, group, last_x, last_y);
 }
 
-// The cell key of end e: a number's word is its cell.
-fn put_cells<'a>(
+// The cell key at a side of the piece whose record stands at p, three words at `at`: a number's word is its cell.
+pub fn put_cell<'a>(
     w: &mut [u64],
-    records: usize,
+    p: usize,
+    side: usize,
     members: usize,
-    keys: usize,
-    e: usize,
+    at: usize,
     width: usize,
     groups: &[u32],
     input: &'a [u64],
@@ -96,18 +95,16 @@ fn put_cells<'a>(
     origin_x: f64,
     origin_y: f64,
 )
-    requires { ⌜ PiecePlaced width (now w) (recordOf records (e / 2)) (now input) (now spare)
-        × Grouping (now w) (recordOf records (e / 2)) members (now groups) × (keys + e * keySize + 3 ≤ length (now w)) ⌝ }
-    ensures { λ _. ⌜ now (w .exit) ≡ keyed width (now (w .entry)) records members keys e (now (groups .entry)) (now (input .entry))
+    requires { ⌜ PiecePlaced width (now w) p (now input) (now spare) × Grouping (now w) p members (now groups) × (at + 3 ≤ length (now w)) ⌝ }
+    ensures { λ _. ⌜ now (w .exit) ≡ keyedAt width (now (w .entry)) p side members at (now (groups .entry)) (now (input .entry))
         (now (spare .entry)) (Cells tolerance «origin_x» «origin_y») ⌝ }
 {
-    let p = records + e / 2 * PIECE;
     let group = group_of(w, p, members, groups);
-    let east = number_at(w, p, width, e % 2, 0, input, spare);
+    let east = number_at(w, p, width, side, 0, input, spare);
     let x = float_cell::cell_key(east, origin_x, tolerance);
-    let north = number_at(w, p, width, e % 2, 1, input, spare);
+    let north = number_at(w, p, width, side, 1, input, spare);
     let y = float_cell::cell_key(north, origin_y, tolerance);
-    put_words(w, keys + e * KEY, group, x, y);
+    put_words(w, at, group, x, y);
 }
 
 // The exact keys of the ends of `count` pieces, from `keys` on.
@@ -154,12 +151,12 @@ fn collect_cells<'a>(
 {
     let mut e = 0;
     while e < count * 2 {
-        put_cells(
+        put_cell(
             w,
-            records,
+            records + e / 2 * PIECE,
+            e % 2,
             members,
-            keys,
-            e,
+            keys + e * KEY,
             width,
             groups,
             input,

@@ -29,7 +29,7 @@ use Rattle.chain_pieces.specs.Map.{memberBlock}
 
 -- ---- lists of walks
 
-flatten-append : (a b : List (List ℕ)) → flatten (a ++ b) ≡ flatten a ++ flatten b
+pub flatten-append : (a b : List (List ℕ)) → flatten (a ++ b) ≡ flatten a ++ flatten b
 unfolding flatten
 flatten-append [] b = refl
 flatten-append (l ∷ a) b = ap (λ (t : List ℕ). l ++ t) (flatten-append a b) ∙ sym (append-assoc l (flatten a) (flatten b))

@@ -92,7 +92,7 @@ from-zero tolerance s n = from-zero-of (ofBits binary64 n) tolerance s (ofBits-f
 -- ---- moved
 
 -- what a rounded difference of P and N units is in a cell
-cell-of : (tolerance x y : Float) (P N Q M c : ℕ) → 0 < c → P + M ≡ Q + N → Rounds binary64 x P N c → Rounds binary64 y Q M c
+pub cell-of : (tolerance x y : Float) (P N Q M c : ℕ) → 0 < c → P + M ≡ Q + N → Rounds binary64 x P N c → Rounds binary64 y Q M c
     → floor64 (div binary64 x tolerance) ≡ floor64 (div binary64 y tolerance)
 cell-of tolerance x y P N Q M c C h (inl u) (inl v) =
     let e : P - N ≡ Q - M = omega (arith, u .0, v .0) in

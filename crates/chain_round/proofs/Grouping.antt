@@ -25,7 +25,7 @@ use Rattle.chain_grouping.specs.Map.{keySize}
 use Rattle.chain_pieces.specs.Map.{groupBlock, memberBlock, takenBlock}
 
 -- words read from a part
-words-shift : (w : List ℕ) (a k e : ℕ) → wordsAt (drop a w) k e ≡ wordsAt w (a + k) e
+pub words-shift : (w : List ℕ) (a k e : ℕ) → wordsAt (drop a w) k e ≡ wordsAt w (a + k) e
 unfolding wordsAt
 words-shift w a k e =
     let p : a + (k + e * keySize) ≡ a + k + e * keySize = omega arith in

@@ -13,7 +13,7 @@ ghost use Prim.Native.Nat.{_*_};
 ghost use Rattle.rules.specs.declared.Settings.{Settings};
 ghost use Rattle.rules.specs.Chaining.{ruleOf, join};
 ghost use Rattle.chain_nodes.specs.Noded.{Noded};
-ghost use Rattle.chain_round.specs.Round.{Rounding, EndsStand, RoundWalked, Joinable, Rounded};
+ghost use Rattle.chain_round.specs.Round.{Rounding, EndsStand, RoundWalked, Walkable, RoundEmits, RoundEmitted, GroupedRound, Joinable, Rounded};
 
 // The ends of m pieces, grouped by the keys that an exact round or one of cells gives them.
 fn group_ends<'a>(
@@ -69,6 +69,80 @@ fn walk_pieces<'a>(
     chain_walks::walk_all(&mut w[joins..], m)
 }
 
+// The walks of m pieces: their entries and their lengths. Returns how many there are.
+pub fn walk_round<'a>(
+    w: &mut [u64],
+    n: usize,
+    m: usize,
+    grid: Grid,
+    settings: Settings,
+    width: usize,
+    groups: &[u32],
+    input: &'a [u64],
+    spare: &'a [u64],
+) -> usize
+    requires { ⌜ Walkable width (now w) n m settings (now groups) (now input) (now spare) ⌝ }
+    ensures { λ r. ⌜ ((y : Walkable width (now (w .entry)) n m settings (now (groups .entry)) (now (input .entry)) (now (spare .entry)))
+        → RoundWalked width (now (w .exit)) n m r (ruleOf grid settings) (y .rounding .counts) (y .rounding .ps) (now (input .entry)) (now (spare .entry))) ⌝ }
+{
+    let on = settings.switch == 1;
+    group_ends(w, n, m, grid, width, groups, input, spare);
+    walk_pieces(w, n, m, on, settings.limit, width, input, spare)
+}
+
+// The pieces of the r walks of m pieces.
+pub fn emit_round<'a>(
+    w: &mut [u64],
+    n: usize,
+    m: usize,
+    r: usize,
+    width: usize,
+    input: &'a [u64],
+    spare: &'a [u64],
+    merged: &mut [u64],
+)
+    requires { ⌜ RoundEmits width (now w) n m r (now input) (now spare) (now merged) ⌝ }
+    ensures { λ _. ⌜ ((y : RoundEmits width (now (w .entry)) n m r (now (input .entry)) (now (spare .entry)) (now (merged .entry)))
+        → RoundEmitted width (now (w .exit)) (now (w .entry)) n r (now (input .entry)) (now (merged .exit)) (now (merged .entry))
+        (y .counts) (join (y .rule) (y .ps))) ⌝ }
+{
+    chain_merging::emit_all(
+        w,
+        n,
+        n * TAKEN,
+        m,
+        n * JOINS + m * ENTRIES,
+        n * JOINS + m * LENGTHS,
+        r,
+        width,
+        input,
+        spare,
+        merged,
+    );
+}
+
+// m pieces whose ends are grouped, joined. Returns how many come out.
+pub fn join_grouped<'a>(
+    w: &mut [u64],
+    n: usize,
+    m: usize,
+    on: bool,
+    limit: f64,
+    width: usize,
+    input: &'a [u64],
+    spare: &'a [u64],
+    merged: &mut [u64],
+) -> usize
+    requires { ⌜ GroupedRound width (now w) n m on limit (now input) (now spare) (now merged) ⌝ }
+    ensures { λ r. ⌜ ((y : GroupedRound width (now (w .entry)) n m on limit (now (input .entry)) (now (spare .entry)) (now (merged .entry)))
+        → Rounded width (now (w .exit)) (now (w .entry)) n r (now (input .entry)) (now (merged .exit)) (now (merged .entry))
+        (y .noded .counts) (join (y .noded .rule) (y .noded .ps))) ⌝ }
+{
+    let r = walk_pieces(w, n, m, on, limit, width, input, spare);
+    emit_round(w, n, m, r, width, input, spare, merged);
+    r
+}
+
 // m pieces joined. Returns how many come out.
 pub fn join_pieces<'a>(
     w: &mut [u64],
@@ -89,19 +163,5 @@ pub fn join_pieces<'a>(
 {
     let on = settings.switch == 1;
     group_ends(w, n, m, grid, width, groups, input, spare);
-    let r = walk_pieces(w, n, m, on, settings.limit, width, input, spare);
-    chain_merging::emit_all(
-        w,
-        n,
-        n * TAKEN,
-        m,
-        n * JOINS + m * ENTRIES,
-        n * JOINS + m * LENGTHS,
-        r,
-        width,
-        input,
-        spare,
-        merged,
-    );
-    r
+    join_grouped(w, n, m, on, settings.limit, width, input, spare, merged)
 }

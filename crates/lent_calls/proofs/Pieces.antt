@@ -23,7 +23,7 @@ use Rattle.build_lines.proofs.Passing.{pieces-lone, lone-lines}
 use Rattle.build_layout.specs.Laying.{passingOf, SmallPieces}
 use Rattle.build_layout.proofs.Left.{pieces-both}
 use Rattle.build_layout.proofs.Small.{members-low}
-use Rattle.build_chains.proofs.Good.{good-grouped}
+use Rattle.build_walks.proofs.Good.{good-grouped}
 use Rattle.lent_laws.specs.Good.{Good}
 use Rattle.lent_laws.proofs.Passing.{good-low}
 

@@ -28,7 +28,7 @@ use Rattle.build_layout.specs.Laying.{passingOf, Layable, Outputs}
 use Rattle.build_layout.proofs.Left.{merged-lone}
 use Rattle.build_boxes.specs.Boxing.{chainBoxes, Boxable}
 use Rattle.build_chains.specs.Building.{partFrom, Left, Second, Boxing}
-use Rattle.build_chains.proofs.First.{limit-fair}
+use Rattle.build_walks.proofs.Walks.{limit-fair}
 use Rattle.build_chains.proofs.Parts.{cleared-same}
 use Rattle.build_chains.proofs.Boxes.{boxable, boxes-are}
 use Rattle.build_chains.proofs.Built.{unless-refused, unless-fine, refused-is, accepted-is}

@@ -8,7 +8,7 @@ use Rattle.chain_keys.proofs.Laws.{Keying, keying-start, keying-placed,
 
 abbrev Inv-loop : tie.InvT-loop
 Inv-loop w₀ records members keys count width groups input spare tolerance ox oy e₀ w e =
-    (e ≤ count * 2) × Keying width records members keys count groups input spare (Cells tolerance ox oy) w w₀ e
+    (e ≤ count * 2) × Keying width records members keys count groups input spare (Cells tolerance ox oy) (λ f. f) w w₀ e
 
 abbrev μ-loop : tie.MeasureT-loop
 μ-loop w₀ records members keys count width groups input spare tolerance ox oy e₀ w e = count * 2 - e
@@ -17,18 +17,30 @@ abbrev start : tie.At-loop Inv-loop μ-loop → tie.Start Inv-loop μ-loop
 start c = c .before .before .before .before .before
 
 loop-holds : tie.Need-loop-holds Inv-loop μ-loop
-loop-holds c = (omega arith, keying-start _ _ _ _ _ _ _ _ _ _)
+loop-holds c = (omega arith, keying-start _ _ _ _ _ _ _ _ _ _ _)
 
 mul-loop : tie.Need-mul-loop Inv-loop μ-loop
 mul-loop c = omega (arith, start c .pre .room, start c .pre .below)
 
-put-cells-requires : tie.Need-put-cells-requires Inv-loop μ-loop
-put-cells-requires c κs =
+mul-put-cell : tie.Need-mul-put-cell Inv-loop μ-loop
+mul-put-cell c = omega (arith, start (c .before .before) .pre .room, start (c .before .before) .pre .below, c .before .loop-test .taken)
+
+add-put-cell : tie.Need-add-put-cell Inv-loop μ-loop
+add-put-cell c = omega (arith, start (c .before .before) .pre .room, start (c .before .before) .pre .below, c .before .loop-test .taken)
+
+mul-put-cell-2 : tie.Need-mul-put-cell-2 Inv-loop μ-loop
+mul-put-cell-2 c = omega (arith, start (c .before .before) .pre .room, start (c .before .before) .pre .below, c .before .loop-test .taken)
+
+add-put-cell-2 : tie.Need-add-put-cell-2 Inv-loop μ-loop
+add-put-cell-2 c = omega (arith, start (c .before .before) .pre .room, start (c .before .before) .pre .below, c .before .loop-test .taken)
+
+put-cell-requires : tie.Need-put-cell-requires Inv-loop μ-loop
+put-cell-requires c κs =
     let l = c .before .before in
     let k = l .loop .inv .1 in
     let y = start l .pre in
     let t = c .before .loop-test .taken in
-    (keying-placed _ _ _ _ _ _ _ _ _ _ _ _ k y t, keying-group _ _ _ _ _ _ _ _ _ _ _ _ k y t, omega (arith, k .size, y .room))
+    (keying-placed _ _ _ _ _ _ _ _ _ (λ f. f) _ _ _ k y t (omega arith), keying-group _ _ _ _ _ _ _ _ _ (λ f. f) _ _ _ k y t (omega arith), omega (arith, k .size, y .room))
 
 add-e : tie.Need-add-e Inv-loop μ-loop
 add-e c = omega arith
@@ -39,7 +51,7 @@ loop-less c = omega arith
 loop-again : tie.Need-loop-again Inv-loop μ-loop
 loop-again c =
     let l = c .before .before .before .before .before in
-    (omega (arith, c .before .before .before .before .loop-test .taken), keying-step _ _ _ _ _ _ _ _ _ _ _ _ (l .loop .inv .1) (start l .pre) (c .before .before .before .before .loop-test .taken) _ (c .before .before .put-cells .ensures))
+    (omega (arith, c .before .before .before .before .loop-test .taken), keying-step _ _ _ _ _ _ _ _ _ (λ f. f) _ _ _ (l .loop .inv .1) (start l .pre) (c .before .before .before .before .loop-test .taken) (omega (arith, c .before .before .before .before .loop-test .taken)) _ (c .before .before .put-cell .ensures))
 
 same-length : tie.Need-same-length Inv-loop μ-loop
 same-length c = c .before .loop .inv .1 .size
@@ -55,7 +67,11 @@ collect-cells-spec =
     μ-loop
     loop-holds
     mul-loop
-    put-cells-requires
+    mul-put-cell
+    add-put-cell
+    mul-put-cell-2
+    add-put-cell-2
+    put-cell-requires
     add-e
     loop-less
     loop-again

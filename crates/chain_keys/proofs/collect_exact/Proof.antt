@@ -8,7 +8,7 @@ use Rattle.chain_keys.proofs.collect_exact.Tie as tie
 
 abbrev Inv-loop : tie.InvT-loop
 Inv-loop w₀ records members keys count width groups input spare q₀ w q =
-    (q ≤ count) × Keying width records members keys count groups input spare Exact w w₀ (q * 2)
+    (q ≤ count) × Keying width records members keys count groups input spare Exact (λ f. f) w w₀ (q * 2)
 
 abbrev μ-loop : tie.MeasureT-loop
 μ-loop w₀ records members keys count width groups input spare q₀ w q = count - q
@@ -17,7 +17,7 @@ abbrev start : tie.At-loop Inv-loop μ-loop → tie.Start Inv-loop μ-loop
 start c = c .before .before .before .before .before
 
 loop-holds : tie.Need-loop-holds Inv-loop μ-loop
-loop-holds c = (omega arith, keying-start _ _ _ _ _ _ _ _ _ _)
+loop-holds c = (omega arith, keying-start _ _ _ _ _ _ _ _ _ _ _)
 
 put-exact-requires : tie.Need-put-exact-requires Inv-loop μ-loop
 put-exact-requires c κs =

@@ -32,24 +32,19 @@ pub fn is_laid(pieces: &impl Pieces, steps: &[u32], laid: &[f64]) -> bool {
     same && seen == laid.len()
 }
 
-/// Lays pieces behind the numbers of a chain, which begins at a place among others.
-pub fn lay_behind(
-    pieces: &impl Pieces,
-    steps: impl Iterator<Item = u32>,
-    from: usize,
-    into: &mut Vec<f64>,
-) {
-    each(pieces, steps, |numbers| put(numbers, from, into));
+/// Lays pieces behind the numbers of a chain.
+pub fn lay_behind(pieces: &impl Pieces, steps: impl Iterator<Item = u32>, into: &mut Vec<f64>) {
+    each(pieces, steps, |numbers| put(numbers, into));
 }
 
 /// Lays a run behind the numbers of a chain, from its last coordinate to its first.
-pub fn turn_behind(run: &[f64], stride: usize, from: usize, into: &mut Vec<f64>) {
-    run.rchunks_exact(stride).for_each(|numbers| put(numbers, from, into));
+pub fn turn_behind(run: &[f64], stride: usize, into: &mut Vec<f64>) {
+    run.rchunks_exact(stride).for_each(|numbers| put(numbers, into));
 }
 
 #[inline]
-fn put(numbers: &[f64], from: usize, into: &mut Vec<f64>) {
-    if !repeats(&into[from..], numbers) {
+fn put(numbers: &[f64], into: &mut Vec<f64>) {
+    if !repeats(into, numbers) {
         into.extend_from_slice(numbers);
     }
 }
@@ -145,13 +140,9 @@ mod tests {
         lines.push([[-0.0, 2.0], [5.0, 2.0]], 0);
         let pieces = LinePieces { lines: lines.lines(), firsts: &[0, 2, 4] };
         let (mut piece, mut chain) = (Vec::new(), vec![7.0, 7.0, 5.0, 2.0]);
-        lay_behind(&pieces, [0, 2].into_iter(), 0, &mut piece);
+        lay_behind(&pieces, [0, 2].into_iter(), &mut piece);
         // The first coordinate repeats that of the chain so far. Zero stays as the piece has it.
-        turn_behind(&piece, 2, 2, &mut chain);
+        turn_behind(&piece, 2, &mut chain);
         assert_eq!(bits(&chain), bits(&[7.0, 7.0, 5.0, 2.0, 0.0, 2.0, 0.0, 1.0]));
-        // What stands before a chain is not of it.
-        let mut other = vec![0.0, 1.0];
-        lay_behind(&pieces, [0].into_iter(), 2, &mut other);
-        assert_eq!(other.len(), 6);
     }
 }

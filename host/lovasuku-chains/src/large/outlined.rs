@@ -219,11 +219,11 @@ impl<'a> Outlined<'a> {
             let first = self.steps[from] >> 1;
             let turned = |members: &Vec<u32>| members[from] != first;
             match self.members.as_ref().map_or(false, turned) {
-                false => lay_behind(&self.pieces(), steps, 0, into),
+                false => lay_behind(&self.pieces(), steps, into),
                 true => {
                     piece.clear();
-                    lay_behind(&self.pieces(), steps.rev().map(|step| step ^ 1), 0, piece);
-                    turn_behind(piece, stride, 0, into);
+                    lay_behind(&self.pieces(), steps.rev().map(|step| step ^ 1), piece);
+                    turn_behind(piece, stride, into);
                 }
             }
             from = to;

@@ -1,14 +1,8 @@
--- `put_cells` writes the three words of end e, each what its callee gives.
+-- `put_cell` writes the three words of an end, each what its callee gives.
 use borrow.Author.Needs.{needs}
-use Rattle.chain_keys.proofs.put_cells.Statement.{statement}
-use Rattle.chain_keys.proofs.put_cells.Tie as tie
-use Rattle.chain_keys.specs.Keys.{keyed, wordOf}
-
-mul-p : tie.Need-mul-p
-mul-p c = search needs
-
-add-p : tie.Need-add-p
-add-p c = search needs
+use Rattle.chain_keys.proofs.put_cell.Statement.{statement}
+use Rattle.chain_keys.proofs.put_cell.Tie as tie
+use Rattle.chain_keys.specs.Keys.{keyedAt, wordOf}
 
 group-of-requires : tie.Need-group-of-requires
 group-of-requires c κs = search needs
@@ -25,12 +19,6 @@ number-at-requires-2 c κs = search needs
 cell-key-requires-2 : tie.Need-cell-key-requires-2
 cell-key-requires-2 c κs = search needs
 
-mul-put-words : tie.Need-mul-put-words
-mul-put-words c = search needs
-
-add-put-words : tie.Need-add-put-words
-add-put-words c = search needs
-
 put-words-requires : tie.Need-put-words-requires
 put-words-requires c κs = search needs
 
@@ -38,22 +26,18 @@ same-length : tie.Need-same-length
 same-length c = search needs
 
 returns : tie.Need-returns
-unfolding keyed wordOf
+unfolding keyedAt wordOf
 returns c = rw (c .before .before .put-words .ensures, c .before .before .before .before .before .before .before .before .before .before .group-of .ensures, c .before .before .before .before .before .before .before .cell-key .ensures, c .before .before .before .before .before .before .before .before .number-at .ensures, c .before .before .before .before .cell-key2 .ensures, c .before .before .before .before .before .number-at2 .ensures)
 
-pub put-cells-spec : {M : Type 1} → statement M
-put-cells-spec =
+pub put-cell-spec : {M : Type 1} → statement M
+put-cell-spec =
     tie.close
     (tie.spec
-    mul-p
-    add-p
     group-of-requires
     number-at-requires
     cell-key-requires
     number-at-requires-2
     cell-key-requires-2
-    mul-put-words
-    add-put-words
     put-words-requires
     same-length
     returns)

@@ -1,0 +1,4 @@
+pub mod Arms
+pub mod Turns
+pub mod Alone
+pub mod Rounds

@@ -1,0 +1,1 @@
+// Laws of the outer ends of walks: proofs/ has them, and there is no code.
