@@ -1,12 +1,9 @@
 -- Round one of an accepted call: what each step asks, and that the pieces it leaves are the book's.
 use Prim.Native.Nat.{ℕ, _+_, _-_, _*_, _≤_}
-use mathlib.Core.Path.{_≡_, sym, ap, _∙_, subst}
-use mathlib.Core.Bool.{Bool, true, false, _||_, _&&_}
+use mathlib.Core.Path.{_≡_, sym, _∙_, subst}
 use mathlib.Core.List.{List, [], map}
 use native.Mathlib.Omega.{arith}
 use native.Mathlib.Nat.{mul-le-mul-right}
-use lib.Dec.{ltb, eqb}
-use lib.Ieee.{Float}
 use lib.ListN.{length, drop}
 use borrow.Rule.Slice.PartMut.{midOf, putMid}
 use Rattle.rules.specs.declared.Settings.{Settings}
@@ -15,8 +12,7 @@ use Rattle.rules.specs.Lists.{total}
 use Rattle.rules.specs.Plane.{points}
 use Rattle.rules.specs.Chaining.{Line, Piece, join, roundOne, ruleOf}
 use Rattle.rules.specs.Layout.{Lines, linesIn}
-use Rattle.rules.specs.Refusals.{lineRoom, limitBad}
-use Rattle.build_refusals.specs.Tests.{switchBad}
+use Rattle.rules.specs.Refusals.{lineRoom}
 use Rattle.chain_laws.proofs.Room.{size, join-size, pieces-size, lines-size}
 use Rattle.chain_pieces.specs.Held.{Held, Packed}
 use Rattle.chain_pieces.specs.Map.{takenBlock}
@@ -24,7 +20,7 @@ use Rattle.build_lines.specs.Taken.{plainOf, Taken}
 use Rattle.chain_round.specs.Round as round
 use Rattle.chain_round.specs.Round.{Rounded}
 use Rattle.build_chains.specs.Building.{Buildable, Left}
-use Rattle.build_chains.proofs.Parts.{mid-length, put-mid, put-rest, put-length}
+use Rattle.build_chains.proofs.Parts.{mid-length, put-mid, put-behind, put-length}
 use Rattle.build_walks.proofs.Walks.{limit-fair}
 use Rattle.build_walks.proofs.Good.{Good, good-start, good-join, good-grouped}
 
@@ -62,30 +58,6 @@ module _ {width : ℕ} {l : Lines} {s : Settings} {out w₀ : List ℕ} (J : Bui
   unfolding roundOne
   joined-fits = omega (arith, plain-fits, mul-le-mul-right width (join-size (ruleOf Exact s) plainPieces))
 
-  -- ---- the pieces that come out of round one's part, whatever was done in it before
-
-  module _ (w₁ : List ℕ) (same : length w₁ ≡ length w₀) (behind : drop (length (l .counts) * lineRoom) w₁ ≡ drop (length (l .counts) * lineRoom) w₀)
-      {r : ℕ} {sub out₀ out′ : List ℕ} {qs : List Piece}
-      (size : length sub ≡ length (midOf (length (l .counts) * takenBlock) (length (l .counts) * lineRoom - length (l .counts) * takenBlock) w₁))
-      (R : Rounded width sub (midOf (length (l .counts) * takenBlock) (length (l .counts) * lineRoom - length (l .counts) * takenBlock) w₁) (length (l .counts)) r (l .coordinates) out′ out₀ (l .counts) qs) where
-    whole : n * takenBlock + k₁ ≡ n * lineRoom
-    whole = omega arith
-
-    inside : n * takenBlock + k₁ ≤ length w₁
-    inside = omega (arith, room₀)
-
-    pub part-left : Left width (length (l .counts)) (l .coordinates) (l .counts) qs (length (l .counts) * takenBlock) r out′ out₀
-        (putMid (length (l .counts) * takenBlock) (length (l .counts) * lineRoom - length (l .counts) * takenBlock) w₁ sub) w₀
-    part-left =
-        let w₂ = putMid (n * takenBlock) k₁ w₁ sub in
-        record {
-          within = omega arith;
-          held = subst (λ (v : List ℕ). Packed width v 0 n (l .coordinates) out′ (l .counts) qs) (sym (put-mid w₁ sub (n * takenBlock) k₁ inside size)) (R .held);
-          number-is = R .number;
-          copied-is = R .merged-is;
-          rest = ap (λ (i : ℕ). drop i w₂) (sym whole) ∙ put-rest w₁ sub (n * takenBlock) k₁ inside size ∙ ap (λ (i : ℕ). drop i w₁) whole ∙ behind;
-        }
-
   module _ {sub₁ : List ℕ} {m : ℕ} (size₁ : length sub₁ ≡ length (midOf (length (l .counts) * takenBlock) (length (l .counts) * lineRoom - length (l .counts) * takenBlock) w₀))
       (T : Taken sub₁ (midOf (length (l .counts) * takenBlock) (length (l .counts) * lineRoom - length (l .counts) * takenBlock) w₀) (length (l .counts)) (l .counts) (l .kinds) m) where
     abbrev w₁ : List ℕ
@@ -95,9 +67,7 @@ module _ {width : ℕ} {l : Lines} {s : Settings} {out w₀ : List ℕ} (J : Bui
     room₁ = omega (arith, room₀, put-length w₀ sub₁ (n * takenBlock) k₁ room₀ size₁)
 
     rest₁ : drop (n * lineRoom) w₁ ≡ drop (n * lineRoom) w₀
-    rest₁ =
-        let whole : n * takenBlock + k₁ ≡ n * lineRoom = omega arith in
-        ap (λ (i : ℕ). drop i w₁) (sym whole) ∙ put-rest w₀ sub₁ (n * takenBlock) k₁ room₀ size₁ ∙ ap (λ (i : ℕ). drop i w₀) whole
+    rest₁ = put-behind w₀ sub₁ (n * takenBlock) k₁ room₀ size₁ (n * lineRoom) (omega arith)
 
     pub part₁ : midOf (n * takenBlock) k₁ w₁ ≡ sub₁
     part₁ = put-mid w₀ sub₁ (n * takenBlock) k₁ room₀ size₁
@@ -109,19 +79,21 @@ module _ {width : ℕ} {l : Lines} {s : Settings} {out w₀ : List ℕ} (J : Bui
         (length (l .counts)) m s (l .groups) (l .coordinates) (l .coordinates) out
     one-asks =
         record {
-          rounding = record {
-            counts = l .counts;
-            ps = plainOf width l;
-            two = J .adds .two;
-            few = J .few;
-            number = taken-are;
-            room = omega (arith, mid-length w₁ [] (n * takenBlock) k₁ room₁);
-            held =
-                subst (λ (v : List ℕ). Held width v (n * takenBlock) n (l .coordinates) (l .coordinates) (l .counts) plainPieces) (sym part₁)
-                (T .held width (l .coordinates) (l .groups) (l .coordinates) (J .adds));
-            grouped = good-grouped (points width (l .coordinates)) (l .counts) (l .groups) (l .kinds) plainPieces (J .groups-long) good₁;
+          walkable = record {
+            rounding = record {
+              counts = l .counts;
+              ps = plainOf width l;
+              two = J .adds .two;
+              few = J .few;
+              number = taken-are;
+              room = omega (arith, mid-length w₁ [] (n * takenBlock) k₁ room₁);
+              held =
+                  subst (λ (v : List ℕ). Held width v (n * takenBlock) n (l .coordinates) (l .coordinates) (l .counts) plainPieces) (sym part₁)
+                  (T .held width (l .coordinates) (l .groups) (l .coordinates) (J .adds));
+              grouped = good-grouped (points width (l .coordinates)) (l .counts) (l .groups) (l .kinds) plainPieces (J .groups-long) good₁;
+            };
+            fair = limit-fair (s .switch) (s .limit) (J .switched);
           };
-          fair = limit-fair (s .switch) (s .limit) (J .switched);
           fits = omega (arith, plain-fits, J .out-long);
         }
 
@@ -131,4 +103,13 @@ module _ {width : ℕ} {l : Lines} {s : Settings} {out w₀ : List ℕ} (J : Bui
       pub one-left : Left width (length (l .counts)) (l .coordinates) (l .counts) (roundOne s (plainOf width l)) (length (l .counts) * takenBlock) r out′ out
           (putMid (length (l .counts) * takenBlock) (length (l .counts) * lineRoom - length (l .counts) * takenBlock) w₁ sub₂) w₀
       unfolding roundOne
-      one-left = part-left w₁ (put-length w₀ sub₁ (n * takenBlock) k₁ room₀ size₁) rest₁ size₂ R
+      one-left =
+          record {
+            within = omega arith;
+            held =
+                subst (λ (v : List ℕ). Packed width v 0 n (l .coordinates) out′ (l .counts) (join (ruleOf Exact s) (plainOf width l)))
+                (sym (put-mid w₁ sub₂ (n * takenBlock) k₁ room₁ size₂)) (R .held);
+            number-is = R .number;
+            copied-is = R .merged-is;
+            rest = put-behind w₁ sub₂ (n * takenBlock) k₁ room₁ size₂ (n * lineRoom) (omega arith) ∙ rest₁;
+          }

@@ -25,9 +25,13 @@ module _ (w sub : List ℕ) (a k : ℕ) (fits : a + k ≤ length w) where
     pub put-mid : midOf a k (putMid a k w sub) ≡ sub
     put-mid = ap (take k) after ∙ take-at sub (drop k (drop a w)) k size-k
 
-    pub put-rest : drop (a + k) (putMid a k w sub) ≡ drop (a + k) w
+    put-rest : drop (a + k) (putMid a k w sub) ≡ drop (a + k) w
     put-rest =
         sym (drop-drop k a (putMid a k w sub)) ∙ ap (drop k) after ∙ drop-at sub (drop k (drop a w)) k size-k ∙ drop-drop k a w
+
+    -- and beyond it too, where its end goes by another name
+    pub put-behind : (e : ℕ) → a + k ≡ e → drop e (putMid a k w sub) ≡ drop e w
+    put-behind e p = ap (λ (i : ℕ). drop i (putMid a k w sub)) (sym p) ∙ put-rest ∙ ap (λ (i : ℕ). drop i w) p
 
     pub put-length : length (putMid a k w sub) ≡ length w
     put-length =

@@ -14,7 +14,7 @@ use Rattle.chain_pieces.specs.Map.{takenBlock}
 use Rattle.chain_round.specs.Round as round
 use Rattle.chain_round.specs.Round.{Rounded}
 use Rattle.build_chains.specs.Building.{partFrom, Left, Second}
-use Rattle.build_chains.proofs.Parts.{mid-length, put-mid, put-rest, held-shift}
+use Rattle.build_chains.proofs.Parts.{mid-length, put-mid, put-behind, held-shift}
 
 module _ {width n m : ℕ} {s : Settings} {coordinates groups copies merged w₀ : List ℕ} (y : Second width n m s coordinates groups copies merged w₀) where
   abbrev k₂ : ℕ
@@ -32,19 +32,21 @@ module _ {width n m : ℕ} {s : Settings} {coordinates groups copies merged w₀
   unfoldable pub two-asks : round.Joinable width (midOf 0 (n * lineRoom - 0) w₀) n m s groups coordinates copies merged
   two-asks =
       record {
-        rounding = record {
-          counts = y .counts;
-          ps = y .ps;
-          two = y .two;
-          few = y .few;
-          number = y .number;
-          room = omega (arith, mid-length w₀ [] 0 k₂ room₂);
-          held =
-              held-shift width (midOf 0 k₂ w₀) (n * takenBlock) n coordinates copies (y .counts) (y .ps) (omega (arith, mid-length w₀ [] 0 k₂ room₂))
-              (subst (λ (v : List ℕ). Held width v 0 n coordinates copies (y .counts) (y .ps)) (sym inner) (y .held));
-          grouped = y .grouped;
+        walkable = record {
+          rounding = record {
+            counts = y .counts;
+            ps = y .ps;
+            two = y .two;
+            few = y .few;
+            number = y .number;
+            room = omega (arith, mid-length w₀ [] 0 k₂ room₂);
+            held =
+                held-shift width (midOf 0 k₂ w₀) (n * takenBlock) n coordinates copies (y .counts) (y .ps) (omega (arith, mid-length w₀ [] 0 k₂ room₂))
+                (subst (λ (v : List ℕ). Held width v 0 n coordinates copies (y .counts) (y .ps)) (sym inner) (y .held));
+            grouped = y .grouped;
+          };
+          fair = y .fair;
         };
-        fair = y .fair;
         fits = y .fits;
       }
 
@@ -59,11 +61,10 @@ module _ {width n m : ℕ} {s : Settings} {coordinates groups copies merged w₀
 
     pub two-left : Left width n coordinates (y .counts) qs 0 r merged′ merged w₁ w₀
     two-left =
-        let p : 0 + k₂ ≡ n * lineRoom = omega arith in
         record {
           within = omega arith;
           held = subst (λ (v : List ℕ). Packed width v 0 n coordinates merged′ (y .counts) qs) (sym part) (R .held);
           number-is = R .number;
           copied-is = R .merged-is;
-          rest = ap (λ (i : ℕ). drop i w₁) (sym p) ∙ put-rest w₀ sub 0 k₂ room₂ size ∙ ap (λ (i : ℕ). drop i w₀) p;
+          rest = put-behind w₀ sub 0 k₂ room₂ size (n * lineRoom) (omega arith);
         }

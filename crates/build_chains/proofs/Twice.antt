@@ -19,16 +19,16 @@ use Rattle.point_slices.proofs.Laws.{rest-drop}
 use Rattle.chain_pieces.specs.Map.{groupBlock, joinBlock, takenBlock}
 use Rattle.chain_grouping.specs.Group.{sameWords, wordsOf, Nodes}
 use Rattle.chain_round.specs.Round as round
-use Rattle.chain_round.specs.Round.{RoundWalked, EndsStand, RoundEmits, RoundEmitted, Rounded, GroupedRound}
+use Rattle.chain_round.specs.Round.{RoundWalked, EndsStand, Rounded, GroupedRound}
 use Rattle.chain_round.proofs.Joining.{limit-is, grouped-round}
 use Rattle.chain_meeting.specs.Map.{meetingBlock}
 use Rattle.chain_apart.proofs.Rounds.{apart-join}
 use Rattle.build_lines.specs.Taken.{plainOf}
 use Rattle.build_layout.specs.Laying.{leftOf}
 use Rattle.build_walks.specs.Walking.{LinesWalkable, LinesWalked}
-use Rattle.build_chains.specs.Building.{partFrom, Left, Second, Twice, AllLeft}
-use Rattle.build_chains.proofs.Parts.{mid-length, put-mid, put-rest, put-length}
-use Rattle.build_chains.proofs.First.{room₀, plain-fits, part-left}
+use Rattle.build_chains.specs.Building.{partFrom, Left, Layable, WalksLaid, Second, Twice, AllLeft}
+use Rattle.build_chains.proofs.Parts.{mid-length, put-mid, put-behind, put-length}
+use Rattle.build_chains.proofs.First.{room₀, plain-fits}
 use Rattle.build_chains.proofs.Second.{inner, two-asks, two-left}
 use Rattle.build_chains.proofs.Rounds.{two-on, lines-are, second-asks, twice-left}
 
@@ -69,14 +69,11 @@ module _ {width : ℕ} {l : Lines} {s : Settings} {merged spare w₀ : List ℕ}
     pub part₁ : midOf (length (l .counts) * takenBlock) (length (l .counts) * lineRoom - length (l .counts) * takenBlock) w₁ ≡ sub₁
     part₁ = put-mid w₀ sub₁ at k₁ (room₀ (y .buildable)) size₁
 
-    same₁ : length w₁ ≡ length w₀
+    pub same₁ : length w₁ ≡ length w₀
     same₁ = put-length w₀ sub₁ at k₁ (room₀ (y .buildable)) size₁
 
-    whole : at + k₁ ≡ n * lineRoom
-    whole = omega arith
-
     rest₁ : drop (n * lineRoom) w₁ ≡ drop (n * lineRoom) w₀
-    rest₁ = ap (λ (i : ℕ). drop i w₁) (sym whole) ∙ put-rest w₀ sub₁ at k₁ (room₀ (y .buildable)) size₁ ∙ ap (λ (i : ℕ). drop i w₀) whole
+    rest₁ = put-behind w₀ sub₁ at k₁ (room₀ (y .buildable)) size₁ (n * lineRoom) (omega arith)
 
     -- they may be laid into any room that is long enough
     pub walks-stand : RoundWalked width (midOf (length (l .counts) * takenBlock) (length (l .counts) * lineRoom - length (l .counts) * takenBlock) w₁) (length (l .counts)) lines number
@@ -84,33 +81,34 @@ module _ {width : ℕ} {l : Lines} {s : Settings} {merged spare w₀ : List ℕ}
     walks-stand =
         subst (λ (v : List ℕ). RoundWalked width v n lines number (ruleOf Exact s) (l .counts) (plainOf width l) (l .coordinates) (l .coordinates)) (sym part₁) (W .walked)
 
-    abbrev pub emits : {out : List ℕ} → length (l .coordinates) ≤ length out
-        → RoundEmits width (midOf (length (l .counts) * takenBlock) (length (l .counts) * lineRoom - length (l .counts) * takenBlock) w₁) (length (l .counts)) lines number (l .coordinates) (l .coordinates) out
-    emits h =
+    abbrev pub lay-asks : {out : List ℕ} → length (l .coordinates) ≤ length out → Layable width (length (l .counts)) lines number (l .coordinates) out
+        (putMid (length (l .counts) * takenBlock) (length (l .counts) * lineRoom - length (l .counts) * takenBlock) w₀ sub₁)
+    lay-asks h =
         record {
-          rule = ruleOf Exact s;
-          counts = l .counts;
-          ps = plainOf width l;
-          two = y .buildable .adds .two;
-          number = W .lines-are;
-          walked = walks-stand;
-          fits = omega (arith, plain-fits (y .buildable), h);
+          few = y .buildable .few;
+          workspace-long = omega (arith, y .buildable .workspace-long, same₁);
+          emits = record {
+            rule = ruleOf Exact s;
+            counts = l .counts;
+            ps = plainOf width l;
+            two = y .buildable .adds .two;
+            number = W .lines-are;
+            walked = walks-stand;
+            fits = omega (arith, plain-fits (y .buildable), h);
+          };
         }
 
-    module _ {sub₂ out out′ : List ℕ}
-        (size₂ : length sub₂ ≡ length (midOf (length (l .counts) * takenBlock) (length (l .counts) * lineRoom - length (l .counts) * takenBlock) w₁))
-        (E : RoundEmitted width sub₂ (midOf (length (l .counts) * takenBlock) (length (l .counts) * lineRoom - length (l .counts) * takenBlock) w₁) (length (l .counts)) number (l .coordinates) out′ out (l .counts)
-        (join (ruleOf Exact s) (plainOf width l))) where
-      abbrev w₂ : List ℕ
-      w₂ = putMid (length (l .counts) * takenBlock) (length (l .counts) * lineRoom - length (l .counts) * takenBlock) w₁ sub₂
-
+    module _ {w₂ out out′ : List ℕ} (size₂ : length w₂ ≡ length w₁)
+        (D : WalksLaid width (length (l .counts)) number (l .coordinates) (l .counts) (join (ruleOf Exact s) (plainOf width l)) out′ out w₂ w₁) where
       left₁ : Left width n (l .coordinates) (l .counts) first at number out′ out w₂ w₀
       unfolding roundOne
-      left₁ = part-left (y .buildable) w₁ same₁ rest₁ size₂ (E .rounded)
+      left₁ =
+          let R = D .emitted .rounded in
+          record { within = omega arith; held = R .held; number-is = R .number; copied-is = R .merged-is; rest = D .rest ∙ rest₁ }
 
       ends-are : number * 2 ≡ 2 * length first
       unfolding roundOne
-      ends-are = omega (arith, E .rounded .number)
+      ends-are = omega (arith, D .emitted .rounded .number)
 
       keys₁ : (e f : ℕ) → e < number * 2 → f < number * 2
           → sameWords (wordsOf (drop (n * meetingBlock) sub₁) (number * 2) e) (wordsOf (drop (n * meetingBlock) sub₁) (number * 2) f)
@@ -120,13 +118,12 @@ module _ {width : ℕ} {l : Lines} {s : Settings} {merged spare w₀ : List ℕ}
 
       -- ---- nothing to join
 
-      pub apart-left : out ≡ merged → apart ≡ true → AllLeft width l s (length (l .counts) * takenBlock) number lines out′ merged spare spare
-          (putMid (length (l .counts) * takenBlock) (length (l .counts) * lineRoom - length (l .counts) * takenBlock) w₁ sub₂) w₀
+      pub apart-left : out ≡ merged → apart ≡ true → AllLeft width l s (length (l .counts) * takenBlock) number lines out′ merged spare spare w₂ w₀
       unfolding roundOne
       apart-left o t =
           let nothing-joined : join (ruleOf (cellsOf s) s) first ≡ first =
           apart-join (ruleOf (cellsOf s) s) first (drop (n * meetingBlock) sub₁) (number * 2) (eqb (s .switch) 1) (s .limit) ends-are (W .met .nodes) keys₁ (limit-is s)
-          (E .rounded .held .drawn) (sym (W .apart-is) ∙ t) in
+          (D .emitted .rounded .held .drawn) (sym (W .apart-is) ∙ t) in
           record {
             left =
                 subst (λ (m : List ℕ). Left width n (l .coordinates) (l .counts) (leftOf width s l) at number out′ m w₂ w₀) o
@@ -138,14 +135,13 @@ module _ {width : ℕ} {l : Lines} {s : Settings} {merged spare w₀ : List ℕ}
       -- ---- round two
 
       pub same₂ : length w₂ ≡ length w₀
-      same₂ = put-length w₁ sub₂ at k₁ (omega (arith, room₀ (y .buildable), same₁)) size₂ ∙ same₁
+      same₂ = size₂ ∙ same₁
 
       module _ (o : out ≡ spare) where
         pub left₂ : Left width n (l .coordinates) (l .counts) first at number out′ spare w₂ w₀
         left₂ = subst (λ (m : List ℕ). Left width n (l .coordinates) (l .counts) first at number out′ m w₂ w₀) o left₁
 
-        unfoldable pub second : Second width (length (l .counts)) number s (l .coordinates) (l .groups) out′ merged
-            (putMid (length (l .counts) * takenBlock) (length (l .counts) * lineRoom - length (l .counts) * takenBlock) w₁ sub₂)
+        unfoldable pub second : Second width (length (l .counts)) number s (l .coordinates) (l .groups) out′ merged w₂
         second = second-asks (y .buildable) (y .spare-long) same₂ left₂ refl (W .lines-are)
 
         -- where round two looks for its groups, those of the walks' ends stand
@@ -154,16 +150,16 @@ module _ {width : ℕ} {l : Lines} {s : Settings} {merged spare w₀ : List ℕ}
             let p : n * takenBlock + n * meetingBlock ≡ n * groupBlock = omega arith in
             ap (λ (i : ℕ). drop i (midOf 0 (n * lineRoom - 0) w₂)) (sym p)
             ∙ sym (drop-drop (n * meetingBlock) (n * takenBlock) (midOf 0 (n * lineRoom - 0) w₂))
-            ∙ ap (drop (n * meetingBlock)) (inner second ∙ put-mid w₁ sub₂ at k₁ (omega (arith, room₀ (y .buildable), same₁)) size₂)
-            ∙ rest-drop sub₂ (midOf at k₁ w₁) (n * joinBlock) (E .rest) (n * meetingBlock) (omega arith)
+            ∙ ap (drop (n * meetingBlock)) (inner second)
+            ∙ rest-drop (partFrom n at w₂) (partFrom n at w₁) (n * joinBlock) (D .emitted .rest) (n * meetingBlock) (omega arith)
             ∙ ap (drop (n * meetingBlock)) part₁
 
         pub ends-stand : EndsStand width (midOf 0 (n * lineRoom - 0) w₂) n (number * 2) (ruleOf (cellsOf s) s) (l .counts) first (l .coordinates) out′
         unfolding second two-asks second-asks
         ends-stand =
             record {
-              room = two-asks second .rounding .room;
-              held = two-asks second .rounding .held;
+              room = two-asks second .walkable .rounding .room;
+              held = two-asks second .walkable .rounding .held;
               nodes = subst (λ (v : List ℕ). Nodes v v (number * 2)) (sym groups-there) (W .met .nodes);
               keys =
                   subst (λ (v : List ℕ). (e f : ℕ) → e < number * 2 → f < number * 2

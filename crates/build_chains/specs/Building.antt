@@ -22,6 +22,7 @@ use Rattle.box_laws.specs.Sound.{Places}
 use Rattle.chain_pieces.specs.Held.{linesOf, Held, Packed}
 use Rattle.chain_pieces.specs.Map.{takenBlock}
 use Rattle.chain_keys.specs.Tells.{OneGroup}
+use Rattle.chain_round.specs.Round.{RoundEmits, RoundEmitted}
 use Rattle.build_lines.specs.Taken.{Adds}
 use Rattle.build_layout.specs.Laying.{leftOf}
 
@@ -50,6 +51,19 @@ pub record Buildable (width : ℕ) (l : Lines) (s : Settings) (out workspace : L
   pub switched : switchBad (s .switch) (s .limit) ≡ false
   pub out-long : length (l .coordinates) ≤ length out
   pub workspace-long : length (l .counts) * lineRoom ≤ length workspace
+
+-- ---- the walks of round one, before anything is laid
+
+-- r walks of m lines stand in round one's part, and what is laid has room in `out`
+pub record Layable (width n m r : ℕ) (coordinates out workspace : List ℕ) : Type 0 where
+  pub few : n ≤ mostLines
+  pub workspace-long : n * lineRoom ≤ length workspace
+  pub emits : RoundEmits width (partFrom n (n * takenBlock) workspace) n m r coordinates coordinates out
+
+-- the pieces qs stand in their stead; beyond its named length the workspace is as before
+pub record WalksLaid (width n r : ℕ) (coordinates counts : List ℕ) (qs : List Piece) (out′ out workspace′ workspace : List ℕ) : Type 0 where
+  pub emitted : RoundEmitted width (partFrom n (n * takenBlock) workspace′) (partFrom n (n * takenBlock) workspace) n r coordinates out′ out counts qs
+  pub rest : drop (n * lineRoom) workspace′ ≡ drop (n * lineRoom) workspace
 
 -- ---- round two
 

@@ -1,4 +1,5 @@
 // Building: refusals, round one, round two where the tolerance is above 0, the layout, and the zeros that are left.
+use build_walks::Walked;
 use chain_pieces::TAKEN;
 use rules::Answer;
 use rules::Grid;
@@ -13,7 +14,7 @@ ghost use Rattle.rules.specs.Refusals.{rooms, refusalOf};
 ghost use Rattle.rules.specs.Calls.{Built};
 ghost use Rattle.chain_pieces.specs.Map.{takenBlock};
 ghost use Rattle.build_lines.specs.Taken.{plainOf};
-ghost use Rattle.build_chains.specs.Building.{Buildable, Left, Second, Twice, AllLeft};
+ghost use Rattle.build_chains.specs.Building.{Buildable, Left, Layable, WalksLaid, Second, Twice, AllLeft};
 
 // Where the pieces that the rounds leave stand in the workspace, how many there are, and how many lines they have.
 pub struct Pieces {
@@ -93,6 +94,34 @@ pub fn round_two<'a>(
     )
 }
 
+// The walks of round one, laid from its part of the workspace into `out`.
+fn lay_walks(
+    workspace: &mut [u64],
+    n: usize,
+    one: Walked,
+    width: usize,
+    coordinates: &[u64],
+    out: &mut [u64],
+)
+    requires { ⌜ Layable width n (one .lines) (one .number) (now coordinates) (now out) (now workspace) ⌝ }
+    ensures { λ _. ⌜ ((y : Layable width n (one .lines) (one .number) (now (coordinates .entry)) (now (out .entry)) (now (workspace .entry)))
+        → WalksLaid width n (one .number) (now (coordinates .entry)) (y .emits .counts) (join (y .emits .rule) (y .emits .ps))
+        (now (out .exit)) (now (out .entry)) (now (workspace .exit)) (now (workspace .entry))) ⌝ }
+{
+    let at = n * TAKEN;
+    let end = n * LINE_ROOM;
+    chain_round::emit_round(
+        &mut workspace[at..end],
+        n,
+        one.lines,
+        one.number,
+        width,
+        coordinates,
+        coordinates,
+        out,
+    );
+}
+
 // The lines joined in two rounds, where the tolerance is above 0. Where round two can join none of round one's walks, these are laid into `merged`, and it is
 // done; otherwise round one merges into `spare`, and round two from there into `merged`.
 fn join_twice(
@@ -125,32 +154,14 @@ fn join_twice(
         settings,
     );
     if one.apart {
-        chain_round::emit_round(
-            &mut workspace[at..end],
-            n,
-            one.lines,
-            one.number,
-            width,
-            coordinates,
-            coordinates,
-            merged,
-        );
+        lay_walks(workspace, n, one, width, coordinates, merged);
         return Pieces {
             at,
             number: one.number,
             lines: one.lines,
         };
     }
-    chain_round::emit_round(
-        &mut workspace[at..end],
-        n,
-        one.lines,
-        one.number,
-        width,
-        coordinates,
-        coordinates,
-        spare,
-    );
+    lay_walks(workspace, n, one, width, coordinates, spare);
     let number = chain_round::join_grouped(
         &mut workspace[0..end],
         n,

@@ -11,8 +11,7 @@ use borrow.Rule.Slice.PartMut.{midOf}
 use Rattle.rules.specs.declared.Settings.{Settings}
 use Rattle.rules.specs.declared.Grid.the-variants.{Exact}
 use Rattle.rules.specs.Plane.{points}
-use Rattle.rules.specs.Chaining.{Piece, Rule, ruleOf, partner}
-use Rattle.rules.specs.Walking.{walks}
+use Rattle.rules.specs.Chaining.{Piece, Rule, ruleOf}
 use Rattle.rules.specs.Layout.{Lines, linesIn}
 use Rattle.rules.specs.Refusals.{limitBad}
 use Rattle.build_refusals.specs.Tests.{switchBad}

@@ -1,13 +1,12 @@
 // A call with rooms that hold 7 everywhere, and whether what it leaves is what is expected: the written part, 7 beyond it, and zeros where 01 asks for them.
 use rules::Answer;
-use rules::END_ROOM;
 use rules::LINE_ROOM;
 use rules::RECORD;
 use rules::Settings;
 use rules::Window;
 
 // Whether a begins with b and is 7 from there on.
-fn begins_u32(a: &[u32], b: &[u32]) -> bool {
+pub fn begins_u32(a: &[u32], b: &[u32]) -> bool {
     let mut i = 0;
     while i < a.len() {
         let mut v = 7;
@@ -53,7 +52,7 @@ fn begins_u64(a: &[u64], b: &[u64]) -> bool {
 }
 
 // Whether the first n of a are 0, and the others 7.
-fn cleared(a: &[u64], n: usize) -> bool {
+pub fn cleared(a: &[u64], n: usize) -> bool {
     let mut i = 0;
     while i < a.len() {
         let mut v = 7;
@@ -97,7 +96,7 @@ fn in_bits(numbers: &[f64]) -> [u64; 16] {
 }
 
 // Whether the call is accepted with this result.
-fn accepted(answer: Answer, result: usize) -> bool {
+pub fn accepted(answer: Answer, result: usize) -> bool {
     match answer {
         Answer::Accepted(n) => n == result as u64,
         Answer::Refused(_) => false,
@@ -352,79 +351,4 @@ pub fn apart(
         coordinates,
         0,
     )
-}
-
-// Whether a pairing call of d ends, four at most, left these pairs.
-fn paired(answer: Answer, room: &[u32], workspace: &[u64], d: usize, pairs: &[u32]) -> bool {
-    if 4 < d {
-        return false;
-    }
-    accepted(answer, pairs.len() / 2) && begins_u32(room, pairs) && cleared(workspace, d * END_ROOM)
-}
-
-// Whether the plain route gives these pairs, of four present ends at most.
-fn plain(directions: &[f64], pieces: &[u32], limit: f64, pairs: &[u32]) -> bool {
-    let present = [1u8; 4];
-    let mut room = [7u32; 5];
-    let mut workspace = [7u64; 260];
-    let d = pieces.len();
-    if 4 < d {
-        return false;
-    }
-    let answer = pair_calls::pairs_plain(
-        &present[..d],
-        directions,
-        pieces,
-        limit,
-        &mut room,
-        &mut workspace,
-    );
-    paired(answer, &room, &workspace, d, pairs)
-}
-
-// Whether the indexed route gives these pairs, of four present ends at most.
-fn indexed(directions: &[f64], pieces: &[u32], limit: f64, pairs: &[u32]) -> bool {
-    let present = [1u8; 4];
-    let mut room = [7u32; 5];
-    let mut workspace = [7u64; 260];
-    let d = pieces.len();
-    if 4 < d {
-        return false;
-    }
-    let answer = pair_calls::pairs_indexed(
-        &present[..d],
-        directions,
-        pieces,
-        limit,
-        &mut room,
-        &mut workspace,
-    );
-    paired(answer, &room, &workspace, d, pairs)
-}
-
-// Whether the chosen route gives these pairs, of four present ends at most.
-fn chosen(directions: &[f64], pieces: &[u32], limit: f64, pairs: &[u32]) -> bool {
-    let present = [1u8; 4];
-    let mut room = [7u32; 5];
-    let mut workspace = [7u64; 260];
-    let d = pieces.len();
-    if 4 < d {
-        return false;
-    }
-    let answer = pair_calls::pairs_chosen(
-        &present[..d],
-        directions,
-        pieces,
-        limit,
-        &mut room,
-        &mut workspace,
-    );
-    paired(answer, &room, &workspace, d, pairs)
-}
-
-// Whether every route does.
-pub fn pairs(directions: &[f64], pieces: &[u32], limit: f64, expected: &[u32]) -> bool {
-    plain(directions, pieces, limit, expected)
-        && indexed(directions, pieces, limit, expected)
-        && chosen(directions, pieces, limit, expected)
 }

@@ -2,7 +2,7 @@
 -- book's keys do: an end of such a piece has the key of an outer end of its walk (`outer-keys`).
 use Prim.Native.Nat.{ℕ, _+_, _-_, _*_, _/_, _%_, _≤_, _<_}
 use mathlib.Core.Path.{_≡_, refl, sym, ap, ap₂, _∙_, subst}
-use mathlib.Core.List.{List, map}
+use mathlib.Core.List.{List}
 use native.Mathlib.Omega.{arith}
 use lib.ListN.{length, getD, drop, length-drop, length-map}
 use borrow.Rule.Slice.PartMut.{midOf, putMid}
@@ -18,7 +18,7 @@ use Rattle.chain_pieces.proofs.Reading.{getD-part}
 use Rattle.chain_grouping.specs.Group.{Words, sameWords, wordsAt, wordsOf, GroupingRoom, Nodes}
 use Rattle.chain_grouping.proofs.Space.{keys-kept}
 use Rattle.chain_grouping.proofs.Nodes.{nodes-own}
-use Rattle.chain_keys.specs.Keys.{wordsFor, Keyable}
+use Rattle.chain_keys.specs.Keys.{wordsFor}
 use Rattle.chain_keys.proofs.Same.{held-keyable, words-tell}
 use Rattle.chain_junctions.proofs.Laws.{back-drop, back-front, back-length}
 use Rattle.chain_walks.specs.Map.{entryBlock, lengthBlock}

@@ -1,6 +1,6 @@
 -- Reading a piece that is held: the words of its record say where its members, marks, listing and coordinates stand, and there they stand.
 -- It is true because that is what holding is, of the block's words, and these are words of the workspace.
-use Prim.Native.Nat.{ℕ, suc, _+_, _*_, _≤_, _<_}
+use Prim.Native.Nat.{ℕ, _+_, _*_, _≤_, _<_}
 use mathlib.Core.Path.{_≡_, refl, sym, ap, ap₂, subst, _∙_}
 use mathlib.Core.Logic.{_≢_}
 use mathlib.Core.Bool.{true, false}

@@ -55,13 +55,10 @@ module _ (grid : Grid) {width : ℕ} {w₀ : List ℕ} {n m : ℕ} {s : Settings
       }
 
 -- the second half of a round
-abbrev pub walkable : {width : ℕ} {w : List ℕ} {n m : ℕ} {s : Settings} {groups input spare merged : List ℕ} → Joinable width w n m s groups input spare merged → Walkable width w n m s groups input spare
-walkable y = record { rounding = y .rounding; fair = y .fair }
-
 abbrev pub grouped-round : (grid : Grid) {width : ℕ} {w₀ w₁ : List ℕ} {n m : ℕ} {s : Settings} {groups input spare merged : List ℕ}
-    (y : Joinable width w₀ n m s groups input spare merged) → EndsStand width w₁ n (m * 2) (ruleOf grid s) (y .rounding .counts) (y .rounding .ps) input spare
+    (y : Joinable width w₀ n m s groups input spare merged) → EndsStand width w₁ n (m * 2) (ruleOf grid s) (y .walkable .rounding .counts) (y .walkable .rounding .ps) input spare
     → GroupedRound width w₁ n m (eqb (s .switch) 1) (s .limit) input spare merged
-grouped-round grid y E = record { noded = grouped-noded grid (walkable y) E; fits = y .fits }
+grouped-round grid y E = record { noded = grouped-noded grid (y .walkable) E; fits = y .fits }
 
 abbrev pub walked-round : {width : ℕ} {w₀ w₁ : List ℕ} {n m r : ℕ} {on : Bool} {limit : Float} {input spare merged : List ℕ}
     (y : GroupedRound width w₀ n m on limit input spare merged) → RoundWalked width w₁ n m r (y .noded .rule) (y .noded .counts) (y .noded .ps) input spare

@@ -57,9 +57,8 @@ pub record Walkable (width : ℕ) (w : List ℕ) (n m : ℕ) (s : Settings) (gro
 
 -- the whole round: and the pieces' points fit into `merged`
 pub record Joinable (width : ℕ) (w : List ℕ) (n m : ℕ) (s : Settings) (groups input spare merged : List ℕ) : Type 0 where
-  pub rounding : Rounding width w n m groups input spare
-  pub fair : eqb (s .switch) 1 ≡ true → limitBad (s .limit) ≡ false
-  pub fits : total (map (λ (p : Piece). length (p .points)) (rounding .ps)) * width ≤ length merged
+  pub walkable : Walkable width w n m s groups input spare
+  pub fits : total (map (λ (p : Piece). length (p .points)) (walkable .rounding .ps)) * width ≤ length merged
 
 -- its second half, where the ends are grouped
 pub record GroupedRound (width : ℕ) (w : List ℕ) (n m : ℕ) (on : Bool) (limit : Float) (input spare merged : List ℕ) : Type 0 where

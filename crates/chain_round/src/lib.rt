@@ -159,7 +159,7 @@ pub fn join_pieces<'a>(
     requires { ⌜ Joinable width (now w) n m settings (now groups) (now input) (now spare) (now merged) ⌝ }
     ensures { λ r. ⌜ ((y : Joinable width (now (w .entry)) n m settings (now (groups .entry)) (now (input .entry)) (now (spare .entry)) (now (merged .entry)))
         → Rounded width (now (w .exit)) (now (w .entry)) n r (now (input .entry)) (now (merged .exit)) (now (merged .entry))
-        (y .rounding .counts) (join (ruleOf grid settings) (y .rounding .ps))) ⌝ }
+        (y .walkable .rounding .counts) (join (ruleOf grid settings) (y .walkable .rounding .ps))) ⌝ }
 {
     let on = settings.switch == 1;
     group_ends(w, n, m, grid, width, groups, input, spare);

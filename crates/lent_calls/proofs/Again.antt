@@ -23,7 +23,7 @@ module _ {width n m : ℕ} {s : Settings} {coordinates groups copies merged w₀
   unfoldable pub keep-asks : Keepable width (midOf 0 (n * lineRoom - 0) w₀) n m coordinates copies merged
   unfolding two-asks
   keep-asks =
-      let r = two-asks y .rounding in
+      let r = two-asks y .walkable .rounding in
       record { counts = y .counts; ps = y .ps; two = y .two; number = y .number; room = r .room; held = r .held; fits = y .fits }
 
   pub kept-left : lt nought (s .tolerance) ≡ false → {sub merged′ : List ℕ} → length sub ≡ length (midOf 0 (n * lineRoom - 0) w₀)

@@ -8,7 +8,7 @@ use native.Mathlib.Nat.{mul-le-mul-right}
 use lib.ListN.{length}
 use Rattle.rules.specs.Lists.{total}
 use Rattle.rules.specs.Plane.{points}
-use Rattle.rules.specs.Chaining.{Piece, pieces}
+use Rattle.rules.specs.Chaining.{Piece}
 use Rattle.rules.specs.Layout.{Lines, linesIn}
 use Rattle.rules.specs.Refusals.{mostLines, mostPoints}
 use Rattle.rules.specs.Pieces.{plainLines}

@@ -1,6 +1,9 @@
 // Refusal 19: pieces that a call lends, judged with no workspace and with nothing stored. Lines are noted in a small table; a piece of one line is judged
 // without a loop, and its coordinates are places because the input's are. The merged coordinates are looked at together, and piece by piece only where one is
 // none.
+mod clean;
+
+use crate::clean::clean_front;
 use rules::PIECE;
 ghost use mathlib.Core.Path.{_≡_};
 ghost use Prim.Native.Nat.{_+_, _*_, _≤_};
@@ -9,7 +12,7 @@ ghost use Rattle.rules.specs.Layout.{lent};
 ghost use Rattle.rules.specs.Refusals.{mostLines, pieceSize};
 ghost use Rattle.rules.specs.Pieces.{lentPieces, lentBad};
 ghost use Rattle.lent_judging.specs.Judging.{LinesSized, FrameJudged, OneLent, OneJudged, LinesLent, LinesJudged, pointsBad, Judgeable, PieceJudged, OneAsked, MoreAsked};
-ghost use Rattle.lent_judging.specs.Front.{FrontClean, lastEnd, cleanTo};
+ghost use Rattle.lent_judging.specs.Front.{FrontClean};
 
 // Whether a record names no line or no coordinate, or leaves its slices, of which the lengths are given.
 fn frame_bad(
@@ -313,38 +316,6 @@ fn judge(
         clean,
         q,
     )
-}
-
-// Where the coordinates of the last of k pieces end that has merged ones, or 0.
-fn last_end(pieces: &[u32], k: usize) -> usize
-    requires { ⌜ k * pieceSize ≤ length (now pieces) ⌝ }
-    ensures { λ r. ⌜ (r ≡ lastEnd (now (pieces .entry)) k) × (r ≤ 8589934590) ⌝ }
-{
-    let mut q = k;
-    while 0 < q {
-        let at = (q - 1) * PIECE;
-        if pieces[at + 2] != 0 {
-            return pieces[at + 3] as usize + pieces[at + 4] as usize;
-        }
-        q -= 1;
-    }
-    0
-}
-
-// How many of the first merged coordinates are places: all up to the end of the last piece that has some, or none.
-fn clean_front(width: usize, pieces: &[u32], k: usize, merged: &[u64]) -> usize
-    requires { ⌜ (2 ≤ width) × (width ≤ 4) × (k * pieceSize ≤ length (now pieces)) ⌝ }
-    ensures { λ r. ⌜ r ≡ cleanTo width (now (merged .entry)) (lastEnd (now (pieces .entry)) k) ⌝ }
-{
-    let end = last_end(pieces, k);
-    let numbers = end * width;
-    if merged.len() < numbers {
-        return 0;
-    }
-    if build_refusals::any_nowhere(&merged[0..numbers], width) {
-        return 0;
-    }
-    end
 }
 
 // Refusal 19: whether the k pieces that a call lends are refused. The lines are such as their own refusals leave.

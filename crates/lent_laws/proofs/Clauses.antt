@@ -6,7 +6,7 @@ use mathlib.Core.Bool.{Bool, true, false, not, _&&_, _||_, true≢false}
 use mathlib.Core.List.{flatMap}
 use native.Mathlib.Decide.{ℕ-discrete}
 use native.Mathlib.Omega.{arith}
-use lib.Dec.{eqb, ltb}
+use lib.Dec.{eqb}
 use lib.ListN.{getD, take}
 use borrow.Author.Tests.{le-ltb, eq-eqb, ne-eqb, eqb-true, eqb-false, not-false, ltb-false}
 use Rattle.rules.specs.Lists.{count, upto, total, anyOf}

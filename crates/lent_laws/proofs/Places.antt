@@ -7,7 +7,7 @@ use mathlib.Core.List.{[], List, _∷_, map, flatMap, reverse, reverseAux}
 use mathlib.Core.Option.{Option, none, some}
 use native.Mathlib.Omega.{arith}
 use lib.Dec.{eqb}
-use lib.ListN.{length, getD, take, drop, length-append, length-reverse}
+use lib.ListN.{length, take, drop, length-append, length-reverse}
 use Rattle.rules.specs.Lists.{count}
 use Rattle.rules.specs.Plane.{Point, equal}
 use Rattle.rules.specs.Walking.{pieceOf, sideOf, walks}

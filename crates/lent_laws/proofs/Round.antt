@@ -1,6 +1,6 @@
 -- What a round makes of good pieces is good, and the plain lines of a call are good pieces where its coordinates are places. So what round one leaves passes 19,
 -- it stands for what round one left, and finishing it is building.
-use Prim.Native.Nat.{ℕ, zero, suc, _+_, _≤_, _<_}
+use Prim.Native.Nat.{ℕ, suc, _+_, _≤_, _<_}
 use mathlib.Core.Path.{_≡_, refl, sym, ap, _∙_, subst}
 use mathlib.Core.Bool.{Bool, true, false, _&&_, Bool·beq, true≢false}
 use mathlib.Core.List.{[], List, _∷_, _++_}
@@ -9,11 +9,11 @@ use native.Mathlib.Omega.{arith}
 use native.Mathlib.Nat.{add-zero}
 use lib.Dec.{eqb, leb}
 use lib.Ieee.{Float, lt}
-use lib.ListN.{length, getD, take, drop}
+use lib.ListN.{length, getD, take}
 use borrow.Author.Tests.{leb-true}
 use Rattle.rules.specs.declared.Settings.{Settings}
 use Rattle.rules.specs.declared.Grid.the-variants.{Exact}
-use Rattle.rules.specs.Lists.{count, total}
+use Rattle.rules.specs.Lists.{total}
 use Rattle.rules.specs.Plane.{nought, points}
 use Rattle.rules.specs.Chaining.{Piece, Rule, join, Line, plain, alone, pieces, limitOf, cellsOf, ruleOf, roundOne, roundTwo, chains}
 use Rattle.rules.specs.Layout.{Lines, linesIn, laidOut, build}
@@ -22,7 +22,7 @@ use Rattle.rules.specs.Pieces.{LentPieces, plainLines, stoodFor, finishedOf}
 use Rattle.chain_laws.proofs.Counts.{Each, nil, cons, each-weak}
 use Rattle.chain_laws.proofs.Lines.{join-count, pieces-take, pieces-leave}
 use Rattle.chain_laws.proofs.Records.{line-at}
-use Rattle.chain_laws.proofs.Room.{size, join-size, pieces-size, lines-size}
+use Rattle.chain_laws.proofs.Room.{join-size, pieces-size, lines-size}
 use Rattle.chain_laws.proofs.Sound.{noLine, join-sound, alones}
 use Rattle.point_numbers.specs.Width.{AllWide}
 use Rattle.point_numbers.proofs.Points.{points-wide}

@@ -6,7 +6,7 @@ use mathlib.Core.List.{[], List, _∷_, _++_, map, flatMap}
 use native.Mathlib.Omega.{arith}
 use lib.ListN.{length, getD, take, drop}
 use lib.Seq.{slice, getD-take, getD-drop}
-use Rattle.rules.specs.Lists.{count, upto}
+use Rattle.rules.specs.Lists.{upto}
 use Rattle.rules.specs.Plane.{points}
 use Rattle.rules.specs.Chaining.{Piece, nothing}
 use Rattle.rules.specs.Layout.{Lines, lent, linesIn}

@@ -3,7 +3,7 @@
 use Prim.Native.Nat.{ℕ}
 use mathlib.Core.Path.{_≡_, sym, _∙_, subst}
 use mathlib.Core.Bool.{Bool, false}
-use mathlib.Core.List.{List, map}
+use mathlib.Core.List.{List}
 use lib.Ieee.{Float}
 use Rattle.rules.specs.Selecting.{End, Pair, qualifying, before}
 use Rattle.pair_laws.specs.Ranked.{RankedPair, candidates, busy}

@@ -6,7 +6,6 @@ use mathlib.Core.Bool.{Bool, false}
 use mathlib.Core.List.{List}
 use mathlib.Core.Logic.{_⊎_, ⊎-elim}
 use native.Mathlib.Omega.{arith}
-use lib.ListN.{set}
 use Rattle.rules.specs.Selecting.{End}
 use Rattle.pair_laws.specs.Ranked.{RankedPair}
 use Rattle.pair_laws.specs.Ends.{nodeOf}

@@ -16,7 +16,7 @@ use Rattle.rules.specs.Refusals.{endRoom}
 use Rattle.pair_ends.specs.Ends.{endsIn}
 use Rattle.pair_tree.specs.declared.Place.{Place}
 use Rattle.pair_tree.specs.Flat.{changed, own}
-use Rattle.pair_tree.specs.Places.{worth, none}
+use Rattle.pair_tree.specs.Places.{worth}
 use Rattle.pair_tree.specs.Words.{Changes}
 use Rattle.pair_tree.proofs.Flat.{same-or, kept-same}
 use Rattle.pair_tree.proofs.Words.{changes-none, changes-then, changes-wider}

@@ -19,7 +19,7 @@ use Rattle.float_order.specs.Key.{key}
 use Rattle.float_order.proofs.Dot.{measure-sym}
 use Rattle.pair_laws.specs.Ranked as ranked
 use Rattle.pair_laws.specs.Taking as taking
-use Rattle.pair_laws.specs.Ends.{endAt, there, keyOf, nodeOf, ByPlace}
+use Rattle.pair_laws.specs.Ends.{endAt, keyOf, nodeOf, ByPlace}
 use Rattle.pair_laws.proofs.Bridge.{select-count, select-listed}
 
 -- the end that is lent at the place e, where k is the name of the first

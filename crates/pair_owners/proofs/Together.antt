@@ -6,7 +6,7 @@ use mathlib.Core.Bool.{Bool, true, false, cond}
 use mathlib.Core.List.{List, [], _∷_}
 use mathlib.Core.Logic.{⊎-elim}
 use native.Mathlib.Omega.{arith}
-use lib.Ieee.{Float, binary64, add, sub, lt, fits}
+use lib.Ieee.{Float, binary64, add, sub, lt}
 use lib.Ieee.Fits.{add-fits, sub-fits}
 use lib.ListN.{getD}
 use Rattle.rules.specs.declared.Direction.{Direction}

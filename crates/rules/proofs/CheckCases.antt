@@ -4,7 +4,6 @@
 use Prim.Native.Nat.{ℕ}
 use mathlib.Core.Bool.{Bool, true, false, _&&_, not}
 use mathlib.Core.List.{List, [], _∷_, map}
-use mathlib.Core.Option.{none}
 use lib.Dec.{T}
 use lib.ListN.{replicate}
 use lib.Ieee.{lt, eq, sub, div}

@@ -23,6 +23,7 @@ pub mod offset;
 pub mod pieces;
 pub mod random;
 pub mod replay;
+mod shown;
 pub mod styles;
 pub mod wkb;
 

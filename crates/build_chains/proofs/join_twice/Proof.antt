@@ -3,7 +3,7 @@ use borrow.Author.Needs.{needs}
 use Rattle.build_chains.proofs.join_twice.Statement.{statement}
 use Rattle.build_chains.proofs.join_twice.Tie as tie
 use mathlib.Core.Path.{refl}
-use Rattle.build_chains.proofs.Twice.{walks-ask, emits, apart-left, second, grouped, both-left}
+use Rattle.build_chains.proofs.Twice.{walks-ask, lay-asks, apart-left, second, grouped, both-left}
 
 mul-at : tie.Need-mul-at
 mul-at c = search needs
@@ -26,23 +26,11 @@ part-walk-lines-end c = search needs
 walk-lines-requires : tie.Need-walk-lines-requires
 walk-lines-requires c κs = walks-ask (c .before .before .before .before .before .before .before .before .pre)
 
-mul-emit-round : tie.Need-mul-emit-round
-mul-emit-round c = search needs
-
-sub-emit-round : tie.Need-sub-emit-round
-sub-emit-round c = search needs
-
-part-emit-round-start : tie.Need-part-emit-round-start
-part-emit-round-start c = search needs
-
-part-emit-round-end : tie.Need-part-emit-round-end
-part-emit-round-end c = search needs
-
-emit-round-requires : tie.Need-emit-round-requires
-emit-round-requires c κs =
+lay-walks-requires : tie.Need-lay-walks-requires
+lay-walks-requires c κs =
     let s = c .before .before .before .before .before .before .before .before .before .before .before .before .before .before .pre in
     let o = c .before .before .before .before .before .walk-lines in
-    emits s (o .kept .0) (o .ensures) (s .buildable .out-long)
+    lay-asks s (o .kept .0) (o .ensures) (s .buildable .out-long)
 
 same-length : tie.Need-same-length
 same-length c = search needs
@@ -54,26 +42,14 @@ returns : tie.Need-returns
 returns c =
     let s = c .before .before .before .before .before .before .before .before .before .before .before .before .before .before .before .before .before .before .before .pre in
     let o = c .before .before .before .before .before .before .before .before .before .before .walk-lines in
-    let e = c .before .before .before .before .emit-round in
-    apart-left s (o .kept .0) (o .ensures) (e .kept .0) (e .ensures (emits s (o .kept .0) (o .ensures) (s .buildable .out-long))) refl (c .before .before .before .before .before .before .before .if1 .taken)
+    let e = c .before .before .before .before .lay-walks in
+    apart-left s (o .kept .0) (o .ensures) (e .kept .0) (e .ensures (lay-asks s (o .kept .0) (o .ensures) (s .buildable .out-long))) refl (c .before .before .before .before .before .before .before .if1 .taken)
 
-mul-emit-round-2 : tie.Need-mul-emit-round-2
-mul-emit-round-2 c = search needs
-
-sub-emit-round-2 : tie.Need-sub-emit-round-2
-sub-emit-round-2 c = search needs
-
-part-emit-round-start-2 : tie.Need-part-emit-round-start-2
-part-emit-round-start-2 c = search needs
-
-part-emit-round-end-2 : tie.Need-part-emit-round-end-2
-part-emit-round-end-2 c = search needs
-
-emit-round-requires-2 : tie.Need-emit-round-requires-2
-emit-round-requires-2 c κs =
+lay-walks-requires-2 : tie.Need-lay-walks-requires-2
+lay-walks-requires-2 c κs =
     let s = c .before .before .before .before .before .before .before .before .before .before .before .before .before .before .pre in
     let o = c .before .before .before .before .before .walk-lines in
-    emits s (o .kept .0) (o .ensures) (s .spare-long)
+    lay-asks s (o .kept .0) (o .ensures) (s .spare-long)
 
 sub-join-grouped : tie.Need-sub-join-grouped
 sub-join-grouped c = search needs
@@ -88,8 +64,8 @@ join-grouped-requires : tie.Need-join-grouped-requires
 join-grouped-requires c κs =
     let s = c .before .before .before .before .before .before .before .before .before .before .before .before .before .before .before .before .before .before .before .before .before .before .before .pre in
     let o = c .before .before .before .before .before .before .before .before .before .before .before .before .before .before .walk-lines in
-    let e = c .before .before .before .before .before .before .before .before .emit-round2 in
-    grouped s (o .kept .0) (o .ensures) (e .kept .0) (e .ensures (emits s (o .kept .0) (o .ensures) (s .spare-long))) refl
+    let e = c .before .before .before .before .before .before .before .before .lay-walks2 in
+    grouped s (o .kept .0) (o .ensures) (e .kept .0) (e .ensures (lay-asks s (o .kept .0) (o .ensures) (s .spare-long))) refl
 
 same-length-3 : tie.Need-same-length-3
 same-length-3 c = search needs
@@ -105,8 +81,8 @@ unfolding grouped second
 returns-2 c =
     let s = c .before .before .before .before .before .before .before .before .before .before .before .before .before .before .before .before .before .before .before .before .before .before .before .before .before .before .before .before .pre in
     let o = c .before .before .before .before .before .before .before .before .before .before .before .before .before .before .before .before .before .before .before .walk-lines in
-    let e = c .before .before .before .before .before .before .before .before .before .before .before .before .before .emit-round2 in
-    let E = e .ensures (emits s (o .kept .0) (o .ensures) (s .spare-long)) in
+    let e = c .before .before .before .before .before .before .before .before .before .before .before .before .before .lay-walks2 in
+    let E = e .ensures (lay-asks s (o .kept .0) (o .ensures) (s .spare-long)) in
     let j = c .before .before .before .before .join-grouped in
     both-left s (o .kept .0) (o .ensures) (e .kept .0) E refl (j .kept .0) (j .ensures (grouped s (o .kept .0) (o .ensures) (e .kept .0) E refl))
 
@@ -121,19 +97,11 @@ join-twice-spec =
     part-walk-lines-start
     part-walk-lines-end
     walk-lines-requires
-    mul-emit-round
-    sub-emit-round
-    part-emit-round-start
-    part-emit-round-end
-    emit-round-requires
+    lay-walks-requires
     same-length
     same-length-2
     returns
-    mul-emit-round-2
-    sub-emit-round-2
-    part-emit-round-start-2
-    part-emit-round-end-2
-    emit-round-requires-2
+    lay-walks-requires-2
     sub-join-grouped
     part-join-grouped-start
     part-join-grouped-end

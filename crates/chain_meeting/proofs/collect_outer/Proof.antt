@@ -1,7 +1,7 @@
 -- `collect_outer` writes key by key, of the ends that are listed below (`Collecting`).
 use Rattle.chain_meeting.proofs.collect_outer.Statement.{statement}
 use Rattle.chain_meeting.proofs.collect_outer.Tie as tie
-use Prim.Native.Nat.{ℕ, _+_, _-_, _*_, _/_, _≤_, _<_}
+use Prim.Native.Nat.{_+_, _-_, _*_, _/_, _≤_}
 use native.Mathlib.Omega.{arith}
 use lib.ListN.{length, getD}
 use Rattle.rules.specs.declared.Grid.{Grid}

@@ -2,7 +2,6 @@
 use Rattle.chain_meeting.proofs.list_outer.Statement.{statement}
 use Rattle.chain_meeting.proofs.list_outer.Tie as tie
 use Prim.Native.Nat.{ℕ, _+_, _-_, _*_, _/_, _≤_, _<_}
-use mathlib.Core.Path.{_≡_}
 use native.Mathlib.Omega.{arith}
 use lib.ListN.{length, getD, length-set}
 use Rattle.chain_meeting.specs.Meeting.{OuterListable}

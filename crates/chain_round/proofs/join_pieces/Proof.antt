@@ -10,7 +10,7 @@ group-ends-requires c κs = search needs
 join-grouped-requires : tie.Need-join-grouped-requires
 join-grouped-requires c κs =
     let s = c .before .before .before .before .before .before .before .before .before .before .before .before in
-    grouped-round (s .args .grid) (s .pre) (c .before .before .before .before .group-ends .ensures (s .pre .rounding) (s .args .settings))
+    grouped-round (s .args .grid) (s .pre) (c .before .before .before .before .group-ends .ensures (s .pre .walkable .rounding) (s .args .settings))
 
 same-length : tie.Need-same-length
 same-length c = search needs
@@ -23,7 +23,7 @@ returns c =
     λ y.
     let s = c .before .before .before .before .before .before .before .before .before .before .before .before .before .before .before .before .before in
     let g = c .before .before .before .before .before .before .before .before .before .group-ends in
-    rounded-from (g .kept .0) (c .before .before .before .before .join-grouped .ensures (grouped-round (s .args .grid) y (g .ensures (y .rounding) (s .args .settings))))
+    rounded-from (g .kept .0) (c .before .before .before .before .join-grouped .ensures (grouped-round (s .args .grid) y (g .ensures (y .walkable .rounding) (s .args .settings))))
 
 pub join-pieces-spec : {M : Type 1} → statement M
 join-pieces-spec =

@@ -1,7 +1,7 @@
 use Rattle.pair_owners.specs.Tables.{group-at}
 use Prim.Native.Nat.{_+_, _-_, _*_}
 use native.Mathlib.Omega.{arith}
-use lib.ListN.{length, set, length-set}
+use lib.ListN.{set, length-set}
 use Rattle.pair_ends.specs.Blocks.{cursorsFrom}
 use Rattle.pair_indexed.proofs.Keeping.{heap-whole, slot-here}
 use Rattle.pair_indexed.proofs.Handing.{ground-sorted, group-in, due-below, due-end, stale-next, replaces-idle, replaces-none, replaces-next}

@@ -1,6 +1,6 @@
 use Prim.Native.Nat.{_+_, _-_, _*_}
 use native.Mathlib.Omega.{arith}
-use lib.ListN.{length, set, length-set}
+use lib.ListN.{length-set}
 use Rattle.pair_ends.specs.Blocks.{pairsFrom}
 use Rattle.pair_indexed.proofs.Taking.{takes-i, takes-j, hands-i, hands-j, takings}
 use Rattle.pair_indexed.proofs.take.Statement.{statement}

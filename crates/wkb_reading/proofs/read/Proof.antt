@@ -6,7 +6,6 @@ use mathlib.Core.Path.{_≡_, sym, _∙_}
 use mathlib.Core.Bool.{false}
 use native.Mathlib.Omega.{arith}
 use denote.Ref.{now}
-use lib.ListN.{length}
 use Rattle.rules.specs.Wkb.{LentRun, runAs, runRefusal, lentRecords}
 use Rattle.wkb_reading.proofs.Answers.{sound, long, storable, roomShort, type-room, refused-run, refused-room, accepted, read-refused, read-accepted, tell-one}
 
