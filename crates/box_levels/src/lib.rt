@@ -1,5 +1,7 @@
 // The boxes of chains: the extent of a chain's coordinates, and above the chains' boxes, level by level, those of pairs. Boxes are lent as the bits of
 // their numbers; in between they are numbers, of which none is a NaN.
+#![tactic(auto)]
+
 ghost use Rattle.std.specs.Prelude.{◌≡◌, ℕ, ◌+◌, ◌*◌, ◌/◌, ◌≤◌, ◌<◌, length, drop};
 ghost use Rattle.rules.specs.Plane.{point, points, reads};
 ghost use Rattle.rules.specs.Boxes.{spot as spot_of_lem, empty, box_of, four, in_pairs, stacked, box_numbers, box_at, box_size};
@@ -21,7 +23,7 @@ const MINUS_INFINITE: u64 = 0xFFF0_0000_0000_0000;
 const TAKEN: usize = 4;
 
 // A box as numbers.
-#[derive(Drop)]
+#[derive(Clone, Copy)]
 pub struct Extent {
     pub least_x: f64,
     pub least_y: f64,

@@ -1,4 +1,6 @@
 // The window question: which chains' boxes, and all boxes above them, meet a window.
+#![tactic(auto)]
+
 ghost use Rattle.std.specs.Prelude.{◌≡◌, ◌*◌, ◌-◌, ◌≤◌, ◌^◌, length};
 ghost use Rattle.rules.specs.Plane.{float};
 ghost use Rattle.rules.specs.Windows.{overlap as overlap_of, shown as ShownOf, window_bad, in_window, boxes_as, Windowed};
@@ -53,7 +55,7 @@ fn past(x: f64) -> u64
 }
 
 // A window's bounds among the bits of numbers from zero on: the first within its least bounds, and those behind the last within its greatest.
-#[derive(Drop)]
+#[derive(Clone, Copy)]
 pub struct Sides {
     first_x: u64,
     first_y: u64,
@@ -121,7 +123,7 @@ fn shown(boxes: &[u64], w: Window, s: Sides, j: usize) -> bool
 }
 
 // A box among the levels: the level that it is of, and which of that level's it is.
-#[derive(Drop)]
+#[derive(Clone, Copy)]
 pub struct Place {
     level: usize,
     j: usize,

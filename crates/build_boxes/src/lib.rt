@@ -1,4 +1,6 @@
 // The boxes of a table's chains, and above them, level by level, those of pairs.
+#![tactic(auto)]
+
 ghost use Rattle.std.specs.Prelude.{◌≡◌};
 ghost use Rattle.rules.specs.Boxes.{stacked, box_numbers};
 ghost use Rattle.rules.specs.Calls.{written};

@@ -1,4 +1,6 @@
 // Building: refusals, round one, round two where the tolerance is above 0, the layout, and the zeros that are left.
+#![tactic(auto)]
+
 ghost use Rattle.std.specs.Prelude.{◌≡◌, ◌*◌, ◌≤◌, length};
 ghost use Rattle.rules.specs.Chaining.{rule_of, cells_of, join, round_one};
 ghost use Rattle.rules.specs.Layout.{lent};
@@ -13,7 +15,7 @@ use chain_pieces::TAKEN;
 use rules::{Answer, Grid, LINE_ROOM, Settings};
 
 // Where the pieces that the rounds leave stand in the workspace, how many there are, and how many lines they have.
-#[derive(Drop)]
+#[derive(Clone, Copy)]
 pub struct Pieces {
     pub at: usize,
     pub number: usize,

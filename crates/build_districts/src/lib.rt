@@ -1,1 +1,3 @@
 // Laws of districts over building calls: proofs/ has them, and there is no code.
+#![tactic(auto)]
+

@@ -1,4 +1,6 @@
 // The answer of an accepted call: the pieces that its rounds leave, and behind them the lines that pass through, as table, members, marks and listing.
+#![tactic(auto)]
+
 ghost use Rattle.std.specs.Prelude.{◌+◌, ◌*◌, ◌^◌, ◌++◌};
 ghost use Rattle.std.proofs.Math.Seq.{slice};
 ghost use Rattle.rules.specs.Layout.{table as table_of, laid_out, lent};

@@ -1,4 +1,6 @@
 // The plain lines of a call as the pieces that go into its first round.
+#![tactic(auto)]
+
 ghost use Rattle.std.specs.Prelude.{◌≡◌, ◌&&◌, ◌+◌, ◌*◌, leb, eqb};
 ghost use Rattle.build_lines.specs.Taken.{Takable, Taken};
 

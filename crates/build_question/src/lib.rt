@@ -1,4 +1,6 @@
 // The chain question, and the view of a chain's coordinates.
+#![tactic(auto)]
+
 ghost use Rattle.std.specs.Prelude.{◌≡◌, ◌≤◌, ◌^◌, false};
 ghost use Rattle.rules.specs.Refusals.{no_chain};
 ghost use Rattle.rules.specs.Calls.{asked, viewed};

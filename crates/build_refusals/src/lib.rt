@@ -1,4 +1,6 @@
 // The refusals of building, in the order of checking.
+#![tactic(auto)]
+
 ghost use Rattle.std.specs.Prelude.{◌≡◌, not, ◌||◌, ◌+◌, ◌/◌, ◌^◌, ◌≤◌, ◌<◌, eqb, ltb, length, take, drop};
 ghost use Rattle.rules.specs.Lists.{total as total_of};
 ghost use Rattle.rules.specs.Plane.{points};

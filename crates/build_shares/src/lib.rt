@@ -1,5 +1,7 @@
 // What two districts bring to a call, and whether that is more than their shares. Groups below 2^31 are the first district's and the rest the second's, so
 // that the first brings what the second doesn't.
+#![tactic(auto)]
+
 ghost use Rattle.std.specs.Prelude.{◌≡◌, ◌||◌, [], ◌∷◌, ◌-◌, ◌≤◌, ltb, length};
 ghost use Rattle.rules.specs.Lists.{total};
 ghost use Rattle.rules.specs.Districts.{lines_brought, points_brought, over_lines, over_points};
@@ -8,7 +10,7 @@ ghost use Rattle.rules.specs.Refusals.{first_of, most_lines};
 use rules::{BORDER, MOST_DISTRICT_LINES, MOST_DISTRICT_POINTS};
 
 // A district's lines and its coordinates.
-#[derive(Drop)]
+#[derive(Clone, Copy)]
 pub struct Share {
     pub lines: u64,
     pub points: u64,

@@ -1,4 +1,6 @@
 // The walks of a call's lines in round one, before anything is laid, and whether round two can join any of them.
+#![tactic(auto)]
+
 ghost use Rattle.rules.specs.Layout.{lent};
 ghost use Rattle.build_walks.specs.Walking.{LinesWalkable, LinesWalked};
 
@@ -6,7 +8,7 @@ use chain_meeting::MEETING;
 use rules::{Grid, Settings};
 
 // How many lines went in, how many walks there are, and whether cells leave them apart.
-#[derive(Drop)]
+#[derive(Clone, Copy)]
 pub struct Walked {
     pub lines: usize,
     pub number: usize,

@@ -1,4 +1,6 @@
 // Whether a round can join any of the ends that are grouped by key. Where none can be joined, the pieces that go in come out as they are.
+#![tactic(auto)]
+
 ghost use Rattle.std.specs.Prelude.{◌≡◌, ◌<◌};
 ghost use Rattle.chain_grouping.specs.Group.{GroupingRoom, Nodes};
 ghost use Rattle.chain_apart.specs.Apart.{meets_at, apart_to};

@@ -1,4 +1,6 @@
 // Ends grouped by key without a sort: buckets of leaders, and behind each leader the list of its key's ends.
+#![tactic(auto)]
+
 ghost use Rattle.std.specs.Prelude.{◌≡◌, ◌+◌, ◌*◌, ◌≤◌, ◌<◌, length, get_or, set};
 ghost use Rattle.rules.specs.Refusals.{most_ends};
 ghost use Rattle.chain_grouping.specs.Group.{words, same_words, words_at, words_of, half, bucket_of, GroupingRoom, GroupedIn, EndPlaced, Found, Nodes};

@@ -1,4 +1,6 @@
 // Nodes read off grouped ends, and joins put into a table. The table, a list of ends and the groups stand in one workspace.
+#![tactic(auto)]
+
 ghost use Rattle.std.specs.Prelude.{◌+◌, ◌≤◌, ◌<◌, length, drop};
 ghost use Rattle.std.proofs.Math.Seq.{slice};
 ghost use Rattle.chain_laws.specs.Table.{put, fill};

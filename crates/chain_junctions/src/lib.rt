@@ -1,4 +1,6 @@
 // The ends of a junction, for pairing: each end's direction and piece, read off the piece's record and put into the pairing's part of the workspace.
+#![tactic(auto)]
+
 ghost use Rattle.std.specs.Prelude.{◌≡◌, ◌<◌, ◌≤◌};
 ghost use Rattle.rules.specs.Plane.{points, direction_of};
 ghost use Rattle.point_direction.specs.Seen.{seen};

@@ -1,4 +1,6 @@
 // A round that joins none: the pieces that go in come out as they are, one after another, with their copies in `merged`. Each is a walk of its own.
+#![tactic(auto)]
+
 ghost use Rattle.std.specs.Prelude.{◌+◌, ◌≤◌, length};
 ghost use Rattle.chain_keeping.specs.Keeping.{EachWalked, Keepable, Kept};
 

@@ -1,4 +1,6 @@
 // The keys of a round's ends: for each end three words, its group and one word for each number of its coordinate. Equal words are equal keys.
+#![tactic(auto)]
+
 ghost use Rattle.std.specs.Prelude.{◌≡◌, ◌+◌, ◌*◌, ◌/◌, ◌%◌, ◌≤◌, ◌<◌, length, set};
 ghost use Rattle.rules.specs.declared.Grid.TheVariants.{Exact, Cells};
 ghost use Rattle.chain_pieces.specs.Held.{record_of};

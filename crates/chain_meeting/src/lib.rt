@@ -1,4 +1,6 @@
 // Where the ends of a round's walks meet by the cells of the next one, before anything is laid: an end of a walk is an end of a line, and has its key.
+#![tactic(auto)]
+
 ghost use Rattle.std.specs.Prelude.{◌*◌};
 ghost use Rattle.rules.specs.declared.Grid.TheVariants.{Cells};
 ghost use Rattle.chain_outer.specs.Outer.{outer_of};

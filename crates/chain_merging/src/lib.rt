@@ -1,5 +1,7 @@
 // From walks to the pieces that come out of a round: their records, members, marks and listing go into the block at the front of the workspace, and
 // the coordinates of those that are no line alone into `merged`.
+#![tactic(auto)]
+
 ghost use Rattle.std.specs.Prelude.{◌≡◌, ◌+◌, ◌*◌, ◌≤◌, length, take};
 ghost use mathlib.Core.List.{map, flat_map};
 ghost use Rattle.std.proofs.Math.Option.{none};

@@ -1,5 +1,7 @@
 // From grouped ends to joins, node by node. A round's part of the workspace, for n lines, has the table of joins at 8 n, the pieces that went in at 13 n, room
 // for the ends of one node at 21 n and for their pairing at 23 n, and the groups at 151 n.
+#![tactic(auto)]
+
 ghost use mathlib.Core.List.{flat_map};
 ghost use Rattle.std.specs.Prelude.{◌+◌, ◌*◌, ◌<◌, drop};
 ghost use Rattle.std.proofs.Math.Seq.{slice};

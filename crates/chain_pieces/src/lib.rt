@@ -1,4 +1,6 @@
 // Pieces as a round's workspace holds them: specs/ says how, and proofs/ has the laws of reading them.
+#![tactic(auto)]
+
 ghost use Rattle.std.specs.Prelude.{[], ◌∷◌, ◌+◌, ◌≤◌, length, ◌≡◌};
 ghost use Rattle.point_slices.specs.Holds.{HoldsFrom};
 ghost use Rattle.chain_pieces.specs.Held.{coordinates_at, Recorded};

@@ -1,5 +1,7 @@
 // One round of joining: from the pieces that go in, which stand in their block of a round's part of the workspace, for n lines, to those that come out,
 // in the block at its front. chain_pieces has the map.
+#![tactic(auto)]
+
 ghost use Rattle.std.specs.Prelude.{◌*◌};
 ghost use Rattle.rules.specs.declared.Settings.{Settings};
 ghost use Rattle.rules.specs.Chaining.{rule_of, join};

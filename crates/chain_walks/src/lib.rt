@@ -1,4 +1,6 @@
 // From a table of partners to walks, in one workspace of n pieces: 2 n joins, n marks of visited pieces, n entries, n lengths.
+#![tactic(auto)]
+
 ghost use Rattle.std.specs.Prelude.{◌≡◌, ◌<◌};
 ghost use Rattle.chain_laws.specs.Table.{Table, head_of};
 ghost use Rattle.chain_walks.specs.Walks.{Walkable, Walked, WalksReady, AllWalked};

@@ -1,4 +1,6 @@
 // The call that judges a delivery of chains: its refusals in their order, and each chain.
+#![tactic(auto)]
+
 ghost use Rattle.std.specs.Prelude.{◌≡◌, [], ◌∷◌, ◌++◌, map, ℕ, ◌*◌, ◌≤◌, ◌<◌, ltb, length};
 ghost use Rattle.rules.specs.Lists.{upto, any_of};
 ghost use Rattle.rules.specs.Layout.{lent, lines_in};

@@ -1,4 +1,6 @@
 // Whether a choice of directions exists for the lines of a chain, by all places of its coordinates that are still possible, line by line.
+#![tactic(auto)]
+
 ghost use Rattle.std.specs.Prelude.{◌≡◌, ◌+◌, ◌*◌, ◌≤◌, ◌<◌, length};
 ghost use Rattle.rules.specs.Plane.{points};
 ghost use Rattle.rules.specs.Refusals.{most_lines};
@@ -9,7 +11,7 @@ use rules::{MOST_LINES, Meeting};
 
 // What is known behind a line: how many points the lines up to it lay alone, `base`, and between which marks those that are there stand. The mark j is that of the
 // place base - j, where j points were dropped.
-#[derive(Drop)]
+#[derive(Clone, Copy)]
 pub struct Held {
     pub base: usize,
     pub low: usize,

@@ -1,4 +1,6 @@
 // Whether one chain is acceptable: one of no line, of a lone line, or of lines that may be joined.
+#![tactic(auto)]
+
 ghost use Rattle.std.specs.Prelude.{◌≡◌, ◌<◌, length};
 ghost use Rattle.rules.specs.declared.Meeting.{Meeting as Meets};
 ghost use Rattle.rules.specs.Plane.{points};

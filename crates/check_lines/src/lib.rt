@@ -1,4 +1,6 @@
 // The lines that chains list: whether they are plain and of one group, below n, and each listed once; and where their coordinates begin.
+#![tactic(auto)]
+
 ghost use Rattle.std.specs.Prelude.{◌≡◌, ℕ, ◌≤◌, ◌<◌, leb, length, get_or, take, drop};
 ghost use Rattle.rules.specs.Lists.{total, any_of, all_of};
 ghost use Rattle.rules.specs.Refusals.{most_lines, most_points};

@@ -1,4 +1,6 @@
 // The places of a chain that are still possible behind a line, as marks. A mark is a set of directions: 1 has the line as drawn, 2 has it turned, 3 has both.
+#![tactic(auto)]
+
 ghost use Rattle.std.specs.Prelude.{◌≡◌, ◌&&◌, cond, ℕ, ◌-◌, ◌≤◌, ◌<◌, length, get_or};
 ghost use Rattle.rules.specs.declared.Grid.TheVariants.{Exact, Cells};
 ghost use Rattle.rules.specs.Cell.{cell};

@@ -1,5 +1,7 @@
 // Where a line stands in a chain: at a place from which on the chain's points are the line's, laid with repeats dropped, by `==`. A place is how many of
 // the chain's points stand before it.
+#![tactic(auto)]
+
 ghost use Rattle.std.specs.Prelude.{◌≡◌, not, ◌&&◌, cond, ◌+◌, ◌-◌, ◌*◌, ◌≤◌, ◌<◌, leb, eqb, length};
 ghost use Rattle.rules.specs.Lists.{one};
 ghost use Rattle.rules.specs.Plane.{point, points};
@@ -10,7 +12,7 @@ ghost use Rattle.check_places.specs.Places.{far, PlaceGround, number_stands, las
 use rules::MOST_LINES;
 
 // How many of a line's points stand at a place of the chain, whether that is all of them, and else the x and y of the first that doesn't.
-#[derive(Drop)]
+#[derive(Clone, Copy)]
 pub struct Extent {
     pub points: usize,
     pub whole: bool,
@@ -20,7 +22,7 @@ pub struct Extent {
 
 // What is known of the places up to one: how many points stand there, `here`; the first place where as many as anywhere stand, `best`, with what is reached
 // there; and the place `low` behind it whose points go farthest, up to `high`.
-#[derive(Drop)]
+#[derive(Clone, Copy)]
 struct Scan {
     here: usize,
     best: usize,

@@ -1,5 +1,7 @@
 // The door: what a C or Rust host calls. A slice passes as a pointer and a length in elements. Every call answers one 64-bit number: its result,
 // or minus the number of the refusal.
+#![tactic(auto)]
+
 mod building;
 mod chains;
 mod pairing;

@@ -1,4 +1,6 @@
 // Doubles as their 64 bits. Rattle's `f64::from_bits` and `f64::to_bits` are undefined at a NaN, so each of these asks first, and is total.
+#![tactic(auto)]
+
 ghost use Rattle.std.specs.Prelude.{◌≡◌, not, ◌/◌, ◌^◌, ◌<◌};
 ghost use Rattle.rules.specs.Lists.{one};
 ghost use Rattle.std.specs.Float.{binary64};

@@ -1,4 +1,6 @@
 // The cell of a coordinate: the floor of (coordinate - origin) / tolerance as an `i64`. There is no `%` on floats here, which would be a call of the C library.
+#![tactic(auto)]
+
 ghost use Rattle.std.specs.Prelude.{◌≡◌};
 ghost use Rattle.rules.specs.Cell.{floor64, cell};
 ghost use Rattle.float_cell.specs.Lifted.{lifted};

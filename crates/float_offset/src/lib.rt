@@ -1,4 +1,6 @@
 // The limit that an offset of so many millimetres per metre run stands for.
+#![tactic(auto)]
+
 ghost use Rattle.std.specs.Prelude.{◌≡◌, ◌≤◌};
 ghost use Rattle.rules.specs.Offset.{offset_root, offset_asked, limit_for};
 

@@ -1,4 +1,6 @@
 // The measure of two directions, and floats as keys: whole numbers of 64 binary digits that are in order as the floats are.
+#![tactic(auto)]
+
 ghost use Rattle.std.specs.Prelude.{◌≡◌, not, T};
 ghost use Rattle.std.specs.Float.{binary64};
 ghost use Rattle.std.specs.Float.Ieee.{is_nan};

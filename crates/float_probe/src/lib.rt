@@ -1,4 +1,6 @@
 // Doors to the float leaves, for runs against the processor's own operations. They are no part of the library that a host links.
+#![tactic(auto)]
+
 ghost use Rattle.std.specs.Prelude.{◌≡◌};
 ghost use Rattle.std.specs.Float.{binary64};
 ghost use Rattle.std.specs.Float.Ieee.{of_bits, eq};

@@ -1,4 +1,6 @@
 // IEEE 754's squareRoot of an `f64`, worked out from its bits on whole numbers.
+#![tactic(auto)]
+
 ghost use Rattle.std.specs.Prelude.{◌≡◌, ◌*◌, ◌^◌, ◌≤◌, ◌<◌};
 ghost use Rattle.std.specs.Float.{binary64};
 ghost use Rattle.std.specs.Float.Ieee.{of_bits};
@@ -23,7 +25,7 @@ fn assemble(w: u64, k: u64) -> f64
 }
 
 // m * 2^s with 53 binary digits.
-#[derive(Drop)]
+#[derive(Clone, Copy)]
 struct Normal {
     m: u64,
     s: u64,

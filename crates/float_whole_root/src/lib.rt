@@ -1,4 +1,6 @@
 // The whole number nearest to the root of w * 2^52: a guess in floats, and an exact test of it in whole numbers.
+#![tactic(auto)]
+
 ghost use Rattle.std.specs.Prelude.{◌+◌, ◌*◌, ◌^◌, ◌≤◌, ◌<◌, ◌≡◌};
 ghost use Rattle.float_bits.specs.Bits.{bits_of};
 ghost use Rattle.float_whole_root.specs.Near.{Near, Settles};
@@ -13,7 +15,7 @@ const MIDDLE: u64 = 36028797018963968; // 2^55
 const BEYOND: u64 = 36028797018963970; // 2^55 + 2
 
 // high * 2^52 + low.
-#[derive(Drop)]
+#[derive(Clone, Copy)]
 struct Square {
     high: u64,
     low: u64,

@@ -1,5 +1,7 @@
 // One exact round, many zooms: the first call leaves the pieces of round one in lent slices, and the second takes such pieces, with a tolerance and an
 // origin, and finishes them.
+#![tactic(auto)]
+
 ghost use Rattle.std.specs.Prelude.{◌≡◌};
 ghost use Rattle.rules.specs.Chaining.{round_two};
 ghost use Rattle.rules.specs.Layout.{lent};

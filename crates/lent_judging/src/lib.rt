@@ -1,6 +1,8 @@
 // Refusal 19: pieces that a call lends, judged with no workspace and with nothing stored. Lines are noted in a small table; a piece of one line is judged
 // without a loop, and its coordinates are places because the input's are. The merged coordinates are looked at together, and piece by piece only where one is
 // none.
+#![tactic(auto)]
+
 mod clean;
 
 ghost use Rattle.std.specs.Prelude.{◌≡◌, ◌+◌, ◌*◌, ◌≤◌, length, get_or};

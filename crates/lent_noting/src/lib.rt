@@ -1,5 +1,7 @@
 // The lines of lent pieces, noted piece by piece in a table with a byte for each line: 0 where a line wasn't met, 1 where it is a member of the piece at
 // hand and not yet in its listing, 2 where it is in both. So between two pieces no line has a 1, and a line that has one is of the piece at hand.
+#![tactic(auto)]
+
 ghost use Rattle.std.specs.Prelude.{◌≡◌, ◌&&◌, ◌≤◌, eqb, leb, length};
 ghost use Rattle.rules.specs.Lists.{one, total};
 ghost use Rattle.rules.specs.Refusals.{most_lines, most_points};

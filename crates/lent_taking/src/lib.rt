@@ -1,4 +1,6 @@
 // Lent pieces as the pieces that go into a round, and pieces that come out of a round as a call leaves them.
+#![tactic(auto)]
+
 ghost use Rattle.std.specs.Prelude.{◌≡◌, true, ◌+◌, ◌*◌, ◌≤◌, length};
 ghost use Rattle.rules.specs.Refusals.{piece_size};
 ghost use Rattle.point_slices.specs.Holds.{HoldsFrom};

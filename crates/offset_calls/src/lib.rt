@@ -1,4 +1,6 @@
 // The calls with an offset, so many millimetres per metre run, in the limit's place.
+#![tactic(auto)]
+
 ghost use Rattle.std.specs.Prelude.{◌≡◌, true, false};
 ghost use Rattle.rules.specs.Layout.{lent};
 ghost use Rattle.rules.specs.Refusals.{rooms};

@@ -1,4 +1,6 @@
 // One box around all directions of a node: where even its nearest corner is too far from each of them, no pair qualifies, and a route need not look.
+#![tactic(auto)]
+
 ghost use Rattle.std.specs.Prelude.{◌≡◌};
 ghost use Rattle.pair_ends.specs.Ends.{EndsRoom, direction_at};
 ghost use Rattle.pair_all_directions.specs.Around.{Every, tame, round_of, joined_of, around_of, beyond_of, idle_of};

@@ -1,4 +1,6 @@
 // The bounds of a node's directions: the least box around them, with the first of their indexes.
+#![tactic(auto)]
+
 ghost use Rattle.std.specs.Prelude.{◌≡◌, min};
 ghost use Rattle.pair_bounds.specs.Box.{corner as corner_at, gap as gap_at, half_square, least, greatest, round_way, empty_of, union_of, corner_of, gap_of, lower_of};
 
@@ -65,7 +67,7 @@ fn earlier(a: u64, b: u64) -> u64
     if b < a { b } else { a }
 }
 
-#[derive(Drop)]
+#[derive(Clone, Copy)]
 pub struct Bounds {
     pub low_x: f64,
     pub low_y: f64,

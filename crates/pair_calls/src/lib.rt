@@ -1,4 +1,6 @@
 // The public pairing calls. The three differ in their route alone, and the indexed one in a refusal of its own.
+#![tactic(auto)]
+
 ghost use Rattle.std.specs.Prelude.{◌≡◌, true, false};
 ghost use Rattle.float_order.specs.Key.{key};
 ghost use Rattle.pair_ends.specs.Ends.{Selected};
@@ -9,7 +11,7 @@ use pair_ends::PAIRS;
 use rules::{Answer, END_ROOM};
 
 // The routes: every pair is looked at, or the index is asked, or whichever of the two fits.
-#[derive(Drop)]
+#[derive(Clone, Copy)]
 pub enum Route {
     Plain,
     Indexed,

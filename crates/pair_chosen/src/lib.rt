@@ -1,4 +1,6 @@
 // The chosen route: few ends, or a direction that is not finite, go by the plain route, all others by the index.
+#![tactic(auto)]
+
 ghost use Rattle.std.specs.Prelude.{◌≡◌, false};
 ghost use Rattle.rules.specs.Refusals.{limit_bad};
 ghost use Rattle.float_order.specs.Key.{key};

@@ -1,4 +1,6 @@
 // The ends of a pairing, read from its workspace, and the map of that workspace.
+#![tactic(auto)]
+
 ghost use Rattle.std.specs.Prelude.{◌≡◌, ◌<◌};
 ghost use Rattle.pair_laws.specs.Ends.{key_of};
 ghost use Rattle.pair_ends.specs.Ends.{EndsRoom, direction_at, piece_at};

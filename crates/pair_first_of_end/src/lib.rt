@@ -1,4 +1,6 @@
 // The first free pair of a row of a pairing: row i is the pairs (i, j) with j above i.
+#![tactic(auto)]
+
 ghost use Rattle.std.specs.Prelude.{◌≡◌, true, ◌<◌, T};
 ghost use Rattle.std.specs.Float.Ieee.{le};
 ghost use Rattle.rules.specs.Plane.{unity};
@@ -10,14 +12,14 @@ use pair_ends::MARKS;
 use rules::Direction;
 
 // The least measure seen in a row, and the partner; the limit and 0 where there is none yet.
-#[derive(Drop)]
+#[derive(Clone, Copy)]
 pub struct Near {
     pub measure: f64,
     pub partner: usize,
 }
 
 // What a row holds: the key and the partner of a pair; where it holds none, the greatest key and 0.
-#[derive(Drop)]
+#[derive(Clone, Copy)]
 pub struct Held {
     pub key: u64,
     pub partner: usize,

@@ -1,4 +1,6 @@
 // The heap of candidates: a tree in a row of nodes, two words for each from `h` on, with a leaf for each slot, and each node the lesser of its children.
+#![tactic(auto)]
+
 ghost use Rattle.std.specs.Prelude.{◌≡◌, ◌+◌, ◌*◌, ◌<◌, length, get_or};
 ghost use Rattle.rules.specs.Refusals.{most_ends};
 ghost use Rattle.pair_tree.specs.Places.{worth};
@@ -10,7 +12,7 @@ use pair_index::Best;
 use pair_tree::Place;
 
 // A candidate and its owner; none where j is 0.
-#[derive(Drop)]
+#[derive(Clone, Copy)]
 pub struct Entry {
     pub i: usize,
     pub j: usize,

@@ -1,4 +1,6 @@
 // The index of the free ends: a tree of bounds in a row of nodes, five words for each from `t` on, and the search for an end's partner.
+#![tactic(auto)]
+
 ghost use Rattle.std.specs.Prelude.{◌≡◌, ◌+◌, ◌*◌, ◌<◌, length};
 ghost use Rattle.pair_bounds.specs.Box.{Sound};
 ghost use Rattle.pair_tree.specs.Places.{worth, gone};
@@ -14,7 +16,7 @@ use pair_tree::Place;
 use rules::Direction;
 
 // A pair of ends with its key; none where j is 0.
-#[derive(Drop)]
+#[derive(Clone, Copy)]
 pub struct Best {
     pub key: u64,
     pub i: usize,

@@ -1,5 +1,7 @@
 // The indexed route: each owner's first pair among the free ends comes from the index and stands in the heap; the first of these is taken, or made anew where
 // one of its ends is taken.
+#![tactic(auto)]
+
 ghost use Rattle.std.specs.Prelude.{◌≡◌, not, ◌||◌, ◌+◌, ◌*◌, ◌^◌, ◌≤◌, ◌<◌};
 ghost use Rattle.rules.specs.Refusals.{most_ends};
 ghost use Rattle.pair_ends.specs.Blocks.{order_from, heap_from, index_from, note_from};
@@ -19,7 +21,7 @@ use pair_tree::Place;
 use rules::Direction;
 
 // A tree with a leaf for each of some number of things: how many leaves, and how high.
-#[derive(Drop)]
+#[derive(Clone, Copy)]
 pub struct Size {
     pub base: usize,
     pub height: u64,

@@ -1,4 +1,6 @@
 // What a pairing call lends, put into its workspace, and the pairs taken out of it.
+#![tactic(auto)]
+
 ghost use Rattle.std.specs.Prelude.{◌≡◌, ◌++◌, ◌+◌, ◌≤◌, length, drop};
 ghost use Rattle.std.proofs.Math.Seq.{slice};
 ghost use Rattle.point_slices.specs.Holds.{HoldsFrom};

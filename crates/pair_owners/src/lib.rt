@@ -1,5 +1,7 @@
 // The owners: of the free ends of one direction the first two have a slot in the heap each. Ends are ordered by angle, so that those of one direction stand
 // together, and near directions near each other.
+#![tactic(auto)]
+
 ghost use Rattle.std.specs.Prelude.{◌≡◌, cond, ◌+◌, ◌*◌, ◌<◌, ◌≤◌, eqb};
 ghost use Rattle.rules.specs.Refusals.{most_ends};
 ghost use Rattle.pair_ends.specs.Ends.{EndsRoom};

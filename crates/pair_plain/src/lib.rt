@@ -1,6 +1,8 @@
 // The plain route. Each row, the pairs (i, j) of an end i with the ends j above it, holds the first free qualifying pair that was last found there. The least pair
 // held is taken; if its partner has gone meanwhile, its row is gone through again. Rows stand in blocks, and the least key of each block is kept beside them, so
 // that the least pair is found without asking every row; where one block would do there is none.
+#![tactic(auto)]
+
 ghost use Rattle.std.specs.Prelude.{◌≡◌, false, ◌+◌, ◌*◌, ◌/◌, ◌<◌, ◌≤◌, length};
 ghost use Rattle.rules.specs.Refusals.{most_ends, limit_bad};
 ghost use Rattle.float_order.specs.Key.{key};
@@ -17,7 +19,7 @@ use pair_ends::{LOWS, MARKS, PAIRS, PARTNERS, ROW_KEYS, TOPS};
 const BLOCK: usize = 16;
 
 // The least of some keys, and where it stands.
-#[derive(Drop)]
+#[derive(Clone, Copy)]
 pub struct Low {
     pub key: u64,
     pub place: usize,

@@ -1,4 +1,6 @@
 // The refusals of pairing, in the order of checking.
+#![tactic(auto)]
+
 ghost use Rattle.std.specs.Prelude.{◌≡◌, not, ◌&&◌, ◌||◌, ◌*◌, ◌≤◌, ◌<◌, eqb, ltb, length, take};
 ghost use Rattle.std.specs.Float.Ieee.Scale.{finite};
 ghost use Rattle.rules.specs.Lists.{count};

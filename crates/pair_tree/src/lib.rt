@@ -1,11 +1,13 @@
 // Places in an order by key, which a tree in a row of nodes keeps: the index by its bounds, the heap by its candidates.
+#![tactic(auto)]
+
 ghost use Rattle.std.specs.Prelude.{◌≡◌, min, ltb, eqb};
 ghost use Rattle.pair_tree.specs.Places.{worth, none as none_of};
 
 use pair_bounds::GONE;
 
 // A key, and the number that decides between equal keys.
-#[derive(Drop)]
+#[derive(Clone, Copy)]
 pub struct Place {
     pub key: u64,
     pub tie: u64,

@@ -1,4 +1,6 @@
 // Why wasn't this bend joined? The pairs are selected by the chosen route, which has the plain one's contract, and looked at where they were written.
+#![tactic(auto)]
+
 ghost use Rattle.std.specs.Prelude.{◌≡◌, ◌&&◌, eqb};
 ghost use Rattle.rules.specs.Reasons.{no_ends, reason_number, Why};
 ghost use Rattle.pair_why.specs.Looking.{way_at, meets_at, first_meeting, joins_at, MarkedEnd, Questioned, reason_here};

@@ -1,4 +1,6 @@
 // The direction of a piece at one of its ends, from the bits of its coordinates: x, y and the extras of each, which are not looked at.
+#![tactic(auto)]
+
 ghost use Rattle.std.specs.Prelude.{◌≡◌, reverse, ◌≤◌};
 ghost use Rattle.rules.specs.Plane.{point, points, toward as toward_of, straight, direction_of};
 ghost use Rattle.point_numbers.specs.Width.{Whole};

@@ -1,4 +1,6 @@
 // Points of any width: the width of a type, equality, and loops; proofs/ has the laws of reading and writing points as numbers.
+#![tactic(auto)]
+
 ghost use Rattle.std.specs.Prelude.{◌≤◌, ◌≡◌};
 ghost use Rattle.rules.specs.Types.{width_of};
 ghost use Rattle.rules.specs.Lists.{one};

@@ -1,5 +1,7 @@
 // Leaves that write lent slices: runs of points laid one behind another, copies, fills and zeros.
 // A point is `width` numbers in their 64 bits: x, y and its extras.
+#![tactic(auto)]
+
 ghost use Rattle.std.specs.Prelude.{◌≡◌, true, false, [], ◌∷◌, reverse, ◌+◌, ◌≤◌, ◌<◌, length, take, drop, replicate};
 ghost use Rattle.std.proofs.Math.Seq.{slice};
 ghost use Rattle.rules.specs.Calls.{cleared};

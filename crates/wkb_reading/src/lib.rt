@@ -1,4 +1,6 @@
 // WKB in: a run of records and the table of their lengths, to coordinates and counts. All records are looked at before anything is stored.
+#![tactic(auto)]
+
 ghost use Rattle.std.specs.Prelude.{◌+◌, ◌-◌, ◌*◌, ◌/◌, ◌≤◌, ◌<◌, ◌≡◌, ◌||◌, reverse, eqb, ltb, length, take, drop, get_or};
 ghost use Rattle.rules.specs.Lists.{total};
 ghost use Rattle.rules.specs.Wkb.{little, number_by, byte_order, records_of, run_type, record_refusal, records_refusal, run_refusal, run_as, Read};

@@ -1,5 +1,7 @@
 // WKB out: chains of a table as records of one type, in the byte order that the caller chooses, with the table of their lengths.
 // All records and rooms are looked at before anything is stored.
+#![tactic(auto)]
+
 ghost use Rattle.std.specs.Prelude.{◌+◌, ◌-◌, ◌*◌, ◌≤◌, ◌<◌, ◌≡◌, ltb, length};
 ghost use mathlib.Core.List.{◌++◌, reverse, flat_map};
 ghost use Rattle.point_slices.specs.Holds.{HoldsFrom};
