@@ -1,0 +1,97 @@
+-- `collect_outer` writes key by key, of the ends that are listed below (`Collecting`).
+use Prim.Native.Nat.{◌+◌, ◌-◌, ◌*◌, ◌/◌, ◌≤◌}
+use native.Mathlib.Omega.{arith}
+use lib.ListN.{length, get_or}
+use Rattle.rules.specs.declared.Grid.{Grid}
+use Rattle.rules.specs.declared.Grid.TheVariants.{Cells}
+use Rattle.chain_keys.proofs.Laws.{keying_start}
+use Rattle.chain_meeting.specs.Meeting.{Collectable}
+use Rattle.chain_meeting.proofs.Collecting.{Collecting, collecting_done, listed_in, listed_placed, listed_group, listed_fits, collecting_step}
+use Rattle.chain_meeting.proofs.collect_outer.Goals as goal
+
+module _ (i : tie.In-loop invariant-loop decreases-loop) where
+  abbrev l : tie.At-loop invariant-loop decreases-loop
+  l = i.before
+
+  abbrev s : tie.Start invariant-loop decreases-loop
+  s = start l
+
+  abbrev grid : Grid
+  grid = Cells s.args.tolerance s.args.origin-x s.args.origin-y
+
+  abbrev keys_so_far : Collecting s.args.width s.args.records s.args.members s.args.ends s.args.keys s.args.k s.args.groups.now s.args.input.now grid s.args.w.now s.pre l.loop.w l.loop.t
+  keys_so_far = l.loop.inv.1 s.pre
+
+  -- the list, the pieces and the keys are inside the workspace
+  listed_below : s.args.ends + s.args.k ≤ length l.loop.w
+  listed_below = omega (arith, s.pre.below, s.pre.keyable.room, keys_so_far.size)
+
+  record_below : s.args.records + get_or l.loop.w (s.args.ends + l.loop.t) 0 / 2 * 5 + 5 ≤ length l.loop.w
+  record_below =
+      omega (
+        arith,
+        s.pre.keyable.below,
+        s.pre.keyable.room,
+        keys_so_far.size,
+        listed_in s.args.width s.args.records s.args.members s.args.ends s.args.keys s.args.k s.args.groups.now s.args.input.now grid s.args.w.now s.pre l.loop.w l.loop.t keys_so_far i.loop-test.taken,
+      )
+
+  key_fits : s.args.keys + l.loop.t * 3 + 3 ≤ length l.loop.w
+  key_fits = listed_fits s.args.width s.args.records s.args.members s.args.ends s.args.keys s.args.k s.args.groups.now s.args.input.now grid s.args.w.now s.pre l.loop.w l.loop.t keys_so_far i.loop-test.taken
+
+pub loop-t-init : goal.loop-t-init
+loop-t-init c = (omega arith, λ y. keying_start _ _ _ _ _ _ _ _ _ _ _)
+
+pub overflow_add-e : goal.overflow_add-e
+overflow_add-e c = omega (arith, listed_below c, c.loop-t-test.true)
+
+pub offset_bounds-w-ends : goal.offset_bounds-w-ends
+offset_bounds-w-ends c = omega (arith, listed_below c, c.loop-t-test.true)
+
+pub bounds-w-ends : goal.bounds-w-ends
+bounds-w-ends c = omega (arith, listed_below c.before, c.loop-t-test.true)
+
+pub overflow_mul-e : goal.overflow_mul-e
+overflow_mul-e c = omega (arith, record_below c.before.before, (keys_so_far c.before.before).size)
+
+pub overflow_add-records : goal.overflow_add-records
+overflow_add-records c = omega (arith, record_below c.before.before, (keys_so_far c.before.before).size)
+
+pub overflow_mul-t : goal.overflow_mul-t
+overflow_mul-t c = omega (arith, key_fits c.before.before)
+
+pub overflow_add-keys : goal.overflow_add-keys
+overflow_add-keys c = omega (arith, key_fits c.before.before)
+
+pub put_cell-requires : goal.put_cell-requires
+put_cell-requires c =
+    let a = c.args in
+    let g : Grid = Cells a.tolerance a.origin-x a.origin-y in
+    let K = c.loop-t.invariant.1 c.requires in
+    let h = c.loop-t-test.true in (
+      listed_placed a.width a.records a.members a.ends a.keys a.k a.groups.now a.input.now g a.w.now c.requires c.loop-t.w c.loop-t.t K h,
+      listed_group a.width a.records a.members a.ends a.keys a.k a.groups.now a.input.now g a.w.now c.requires c.loop-t.w c.loop-t.t K h,
+      listed_fits a.width a.records a.members a.ends a.keys a.k a.groups.now a.input.now g a.w.now c.requires c.loop-t.w c.loop-t.t K h,
+    )
+
+pub overflow_add-t : goal.overflow_add-t
+overflow_add-t c = omega (arith, c.loop-t-test.true)
+
+pub loop-t-smaller : goal.loop-t-smaller
+loop-t-smaller c = omega (arith, c.loop-t-test.true)
+
+pub loop-t-preserved : goal.loop-t-preserved
+loop-t-preserved c =
+    let a = c.args in (
+      omega (arith, c.loop-t-test.true),
+      λ y. collecting_step a.width a.records a.members a.ends a.keys a.k a.groups.now a.input.now (Cells a.tolerance a.origin-x a.origin-y) a.w.now y c.loop-t.w c.loop-t.t (c.loop-t.invariant.1 y) c.loop-t-test.true
+          _ c.put_cell.ensures,
+    )
+
+pub shape_of-w : goal.shape_of-w
+shape_of-w c = (c.loop-t.invariant.1 c.requires).size
+
+pub returns : goal.returns
+returns c =
+    let a = c.args in
+    collecting_done a.width a.records a.members a.ends a.keys a.k a.groups.now a.input.now (Cells a.tolerance a.origin-x a.origin-y) a.w.now c.requires c.loop-t.w c.loop-t.t (c.loop-t.invariant.1 c.requires) c.loop-t-test.false
