@@ -70,6 +70,7 @@ class Function:
         self.helper = {}  # helper -> place of its parameter
         self.types = {}  # abbrev for a place's type
         self.used = set()
+        self.goal = self.goal_var = None
 
     def up(self, place, n):
         for _ in range(n):
@@ -101,7 +102,7 @@ class Function:
         word = fields[0]
         if word in ("args", "requires", "pre", "ranges", "well_formed", "well-formed", "lifetimes"):
             word = {"pre": "requires", "well-formed": "well_formed"}.get(word, word)
-            return ".".join([var, word] + self.rest(fields[1:]))
+            return ".".join([var, word] + fields[1:])
         found, q = None, own
         words = {norm(word), norm(re.sub("_lem$", "", word))}
         while q is not None and not found:
@@ -122,10 +123,11 @@ class Function:
                 r = r[1:]
             if n < len(params):
                 rest = [{"kept": "new"}.get(rest[0], rest[0]), params[n]] + r
-        return ".".join([var, new] + self.rest(rest))
-
-    def rest(self, fields):
-        return [{"inv": "invariant", "pre": "requires", "taken": "true", "left": "left"}.get(f, f) for f in fields]
+        if rest and norm(self.step[found][0]).startswith("if") and rest[0] in ("taken", "left"):
+            rest[0] = {"taken": "true", "left": "false"}[rest[0]]
+        if rest and found.startswith(("At-", "In-")) and rest[0] == "inv":
+            rest[0] = "invariant"
+        return ".".join([var, new] + rest)
 
     # ---- terms
 
@@ -175,13 +177,16 @@ class Function:
         return None
 
     def written(self, var, place, env):
-        """A place as a value: a chain of `before` from the variable's own record."""
+        """A place as a value: the variable itself, or the record of an earlier place that Goals makes of it."""
         own = self.own(var, env)
-        n = self.depth(own, place) if own else None
-        if n is None:
+        if own is None or self.depth(own, place) is None:
             self.said.append(f"{place} is not above {own}")
-            return f"{var}.before?{place}"
-        return ".".join([var] + ["before"] * n)
+            return f"{var}.{place}"
+        if own == place:
+            return var
+        self.used.add(self.named[place])
+        at = self.goal if var == self.goal_var else self.named[own]
+        return f"(goal.at.{at} {var}).{self.named[place]}"
 
     def turn(self, items, env):
         out = []
@@ -250,11 +255,8 @@ class Function:
             elif isinstance(it, Group):
                 text = it.opener + self.turn(it.items, env) + it.closer
                 if it.fields:
-                    text += "." + ".".join(self.rest(it.fields))
+                    text += "." + ".".join(it.fields)
                 out.append(text)
-            elif isinstance(it, str) and "." in it and not it.startswith("--"):
-                head, *tail = it.split(".")
-                out.append(".".join([head] + self.rest(tail)))
             else:
                 out.append(it)
             i += 1
@@ -475,7 +477,9 @@ def convert(path, of, module, said):
             old, new = needs[j]
             place = of["asked_at"][j][0]
             env = {cvars[0]: (cvars[0], place)} if cvars else {}
+            f.goal, f.goal_var = new, cvars[0] if cvars else None
             out = f.turn(parse(term), env)
+            f.goal = f.goal_var = None
             extra = [v for v in cvars[1:]]
             if len(extra) == 1 and new.split("-requires")[0] != new:
                 extra = []

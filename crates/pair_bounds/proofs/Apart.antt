@@ -56,7 +56,7 @@ module _ (b : Bounds) (s : Sound b) (ax ay x y : Float) (r : T (round_way ax ay)
       let gy = gap ay b.low_y b.high_y in
       go (lt (half_square gx) (half_square gy)) (half_square gx) (half_square gy)
       (near_x ax ay x y fax fay fx fy (round_x ax ay r) (round_y ax ay r) (round_x x y o) (round_y x y o) (round_rim ax ay r) (round_rim x y o)
-      gx (gap_fits ax b.low_x b.high_x) (gap_toward ax b.low_x b.high_x x fax s.low_x_finite s.high_x_finite fx w.low_x w.to_high_x))
+      gx (gap_fits ax b.low_x b.high_x) (gap_toward ax b.low_x b.high_x x fax s.low_x_finite s.high_x_finite fx w.from_low_x w.to_high_x))
       (near_y ax ay x y fax fay fx fy (round_x ax ay r) (round_y ax ay r) (round_x x y o) (round_y x y o) (round_rim ax ay r) (round_rim x y o)
       gy (gap_fits ay b.low_y b.high_y) (gap_toward ay b.low_y b.high_y y fay s.low_y_finite s.high_y_finite fy w.from_low_y w.to_high_y))
     where

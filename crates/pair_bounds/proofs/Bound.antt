@@ -54,7 +54,7 @@ module _ (b : Bounds) (s : Sound b) (ax ay x y : Float) (fax : T (finite ax)) (f
       let cy = corner ay b.low_y b.high_y in
       clamp_mono (dot ax ay cx cy) (dot ax ay x y)
       (add_mono binary64 (mul binary64 ax cx) (mul binary64 ax x) (mul binary64 ay cy) (mul binary64 ay y)
-      (side ax b.low_x b.high_x x fax s.low_x_finite s.high_x_finite fx w.low_x w.to_high_x)
+      (side ax b.low_x b.high_x x fax s.low_x_finite s.high_x_finite fx w.from_low_x w.to_high_x)
       (side ay b.low_y b.high_y y fay s.low_y_finite s.high_y_finite fy w.from_low_y w.to_high_y)
       (clamp_num (dot ax ay cx cy) p) (clamp_num (dot ax ay x y) q))
 

@@ -80,7 +80,7 @@ pub point_holds : (x y : Float) (i : ℕ) → T (finite x) → T (finite y) → 
 point_holds x y i p q =
     let a = refl_le x (finite_num x p) in
     let b = refl_le y (finite_num y q) in
-    record { low_x = a; to_high_x = a; from_low_y = b; to_high_y = b }
+    record { from_low_x = a; to_high_x = a; from_low_y = b; to_high_y = b }
 
 pub union_sound : (a b : Bounds) → Sound a → Sound b → Sound (union_of a b)
 union_sound a b p q =
@@ -95,7 +95,7 @@ module _ (a b : Bounds) (p : Sound a) (q : Sound b) (x y : Float) where
   pub union_left : BoxHolds a x y → BoxHolds (union_of a b) x y
   union_left w =
       record {
-        low_x = under_left a.low_x b.low_x x p.low_x_finite q.low_x_finite w.low_x;
+        from_low_x = under_left a.low_x b.low_x x p.low_x_finite q.low_x_finite w.from_low_x;
         to_high_x = over_left a.high_x b.high_x x p.high_x_finite q.high_x_finite w.to_high_x;
         from_low_y = under_left a.low_y b.low_y y p.low_y_finite q.low_y_finite w.from_low_y;
         to_high_y = over_left a.high_y b.high_y y p.high_y_finite q.high_y_finite w.to_high_y;
@@ -104,7 +104,7 @@ module _ (a b : Bounds) (p : Sound a) (q : Sound b) (x y : Float) where
   pub union_right : BoxHolds b x y → BoxHolds (union_of a b) x y
   union_right w =
       record {
-        low_x = under_right a.low_x b.low_x x p.low_x_finite q.low_x_finite w.low_x;
+        from_low_x = under_right a.low_x b.low_x x p.low_x_finite q.low_x_finite w.from_low_x;
         to_high_x = over_right a.high_x b.high_x x p.high_x_finite q.high_x_finite w.to_high_x;
         from_low_y = under_right a.low_y b.low_y y p.low_y_finite q.low_y_finite w.from_low_y;
         to_high_y = over_right a.high_y b.high_y y p.high_y_finite q.high_y_finite w.to_high_y;

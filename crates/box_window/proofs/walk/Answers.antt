@@ -70,7 +70,7 @@ passed c =
     let l = c.before.before.before.before.before.before.loop in
     let i = c.before.before.before.if1.true in
     ⊎_elim
-    (λ x. passed_as _ _ x.2 x.3 (walked_found _ _ _ _ _ s.requires.0 _ _ _ _ _ x.1.left l.invariant i s.requires.1 (sym c.before.shown.ensures ∙ x.0.true)))
+    (λ x. passed_as _ _ x.2 x.3 (walked_found _ _ _ _ _ s.requires.0 _ _ _ _ _ x.1.left l.invariant i s.requires.1 (sym c.before.shown.ensures ∙ x.0.taken)))
     (λ x. passed_as _ _ x.1 x.2 (walked_hidden _ _ _ _ _ s.requires.0 _ _ _ _ _ l.invariant i (sym c.before.shown.ensures ∙ x.0.left)))
     c.if2.branch
 

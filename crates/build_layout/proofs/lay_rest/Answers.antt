@@ -110,7 +110,7 @@ loop-k-preserved c =
     let tested = sym c.is_plain.ensures in
     λ y.
     ⊎_elim
-    (λ t. resting_passes y (c.loop-k.invariant y) (omega arith) (tested ∙ not-true _ t.0.true) t.2.ensures t.7.ensures t.16 t.17 t.18 t.19 t.20)
+    (λ t. resting_passes y (c.loop-k.invariant y) (omega arith) (tested ∙ not-true _ t.0.taken) t.2.ensures t.7.ensures t.16 t.17 t.18 t.19 t.20)
     (λ t. resting_plain y (c.loop-k.invariant y) (omega arith) (tested ∙ not-false _ t.0.left) t.1 t.2 t.3 t.4 t.5)
     c.if-not-is_plain.branch
 

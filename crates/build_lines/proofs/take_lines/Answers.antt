@@ -96,7 +96,7 @@ loop-k-preserved c =
     let small : get_or c.args.counts.now k 0 ≤ 4294967295 = omega (arith, c.shared_slice_known-in-loop-k-1.given k) in
     let tested = sym c.is_plain.ensures in
     ⊎_elim
-    (λ t. taking_plain c.loop-k.invariant c.requires (omega arith) small (tested ∙ t.0.true) t.2.ensures t.5 t.6)
+    (λ t. taking_plain c.loop-k.invariant c.requires (omega arith) small (tested ∙ t.0.taken) t.2.ensures t.5 t.6)
     (λ t. taking_other c.loop-k.invariant c.requires (omega arith) small (tested ∙ t.0.left) t.1 t.2)
     c.if-is_plain.branch
 

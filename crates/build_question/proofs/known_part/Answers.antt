@@ -8,6 +8,7 @@ use native.Mathlib.Nat.{add-mul}
 use Rattle.rules.specs.Refusals.{entry, record_size}
 use Rattle.build_question.proofs.Laws.{few_numbers, Stands, stands, part_input, part_merged, inside_input, inside_merged, one}
 use Rattle.build_question.proofs.known_part.Goals as goal
+use Rattle.build_question.proofs.known_part.Goals.{Start}
 
 abbrev Begin : Type 0
 Begin = lts.Start reads.Pre reads.Post
@@ -31,7 +32,7 @@ pub offset_bounds-table-k : goal.offset_bounds-table-k
 offset_bounds-table-k c = let s = stood c in omega arith
 
 pub bounds-table-k : goal.bounds-table-k
-bounds-table-k c = let s = stood c.before in omega arith
+bounds-table-k c = let s = stood (goal.at.bounds-table-k c).Start in omega arith
 
 pub overflow_cast-from : goal.overflow_cast-from
 overflow_cast-from c = omega (arith, c.shared_slice_known-1.given (c.args.k * record_size + 3))
@@ -41,16 +42,16 @@ overflow_mul-from-2 c =
     omega (arith, few_numbers (entry c.args.table.now c.args.k 3) c.args.width (omega (arith, c.shared_slice_known-1.given (c.args.k * record_size + 3))) c.requires.0)
 
 pub overflow_mul-to : goal.overflow_mul-to
-overflow_mul-to c = let s = stood c.before in omega arith
+overflow_mul-to c = let s = stood (goal.at.overflow_mul-to c).Start in omega arith
 
 pub overflow_add-to : goal.overflow_add-to
-overflow_add-to c = let s = stood c.before in omega arith
+overflow_add-to c = let s = stood (goal.at.overflow_add-to c).Start in omega arith
 
 pub offset_bounds-table-k-2 : goal.offset_bounds-table-k-2
-offset_bounds-table-k-2 c = let s = stood c.before in omega arith
+offset_bounds-table-k-2 c = let s = stood (goal.at.offset_bounds-table-k-2 c).Start in omega arith
 
 pub bounds-table-k-2 : goal.bounds-table-k-2
-bounds-table-k-2 c = let s = stood c.before.before in omega arith
+bounds-table-k-2 c = let s = stood (goal.at.bounds-table-k-2 c).Start in omega arith
 
 pub overflow_cast-to : goal.overflow_cast-to
 overflow_cast-to c = omega (arith, c.shared_slice_known-2-1.given (c.args.k * record_size + 4))
@@ -66,35 +67,35 @@ overflow_add-to-2 c =
       arith,
       few_numbers (entry t c.args.k 3 + entry t c.args.k 4) c.args.width
           (omega (arith, c.shared_slice_known-2-1.given (c.args.k * record_size + 3), c.shared_slice_known-2-1.given (c.args.k * record_size + 4))) c.requires.0,
-      both c.before.before,
+      both (goal.at.overflow_add-to-2 c).Start,
     )
 
 pub overflow_mul-k : goal.overflow_mul-k
-overflow_mul-k c = let s = stood c.before.before in omega arith
+overflow_mul-k c = let s = stood (goal.at.overflow_mul-k c).Start in omega arith
 
 pub overflow_add-k : goal.overflow_add-k
-overflow_add-k c = let s = stood c.before.before in omega arith
+overflow_add-k c = let s = stood (goal.at.overflow_add-k c).Start in omega arith
 
 pub offset_bounds-table-k-3 : goal.offset_bounds-table-k-3
-offset_bounds-table-k-3 c = let s = stood c.before.before in omega arith
+offset_bounds-table-k-3 c = let s = stood (goal.at.offset_bounds-table-k-3 c).Start in omega arith
 
 pub bounds-table-k-3 : goal.bounds-table-k-3
-bounds-table-k-3 c = let s = stood c.before.before.before in omega arith
+bounds-table-k-3 c = let s = stood (goal.at.bounds-table-k-3 c).Start in omega arith
 
 pub offset_bounds-input-from : goal.offset_bounds-input-from
-offset_bounds-input-from c = let z = stood c.before.before.before.before in omega (arith, both c.before.before.before.before, inside_input _ _ _ _ _ z c.if-table-k-eq0.true)
+offset_bounds-input-from c = let z = stood (goal.at.offset_bounds-input-from c).Start in omega (arith, both (goal.at.offset_bounds-input-from c).Start, inside_input _ _ _ _ _ z c.if-table-k-eq0.true)
 
 pub slice_bounds-result-end : goal.slice_bounds-result-end
-slice_bounds-result-end c = let z = stood c.before.before.before.before in omega (arith, both c.before.before.before.before, inside_input _ _ _ _ _ z c.if-table-k-eq0.true)
+slice_bounds-result-end c = let z = stood (goal.at.slice_bounds-result-end c).Start in omega (arith, both (goal.at.slice_bounds-result-end c).Start, inside_input _ _ _ _ _ z c.if-table-k-eq0.true)
 
 pub returns-then-table-k-eq0 : goal.returns-then-table-k-eq0
 returns-then-table-k-eq0 c = part_input _ _ _ _ _ c.requires.1 c.if-table-k-eq0.true
 
 pub offset_bounds-merged-from : goal.offset_bounds-merged-from
-offset_bounds-merged-from c = let z = stood c.before.before.before.before in omega (arith, both c.before.before.before.before, inside_merged _ _ _ _ _ z (one z c.if-table-k-eq0.false))
+offset_bounds-merged-from c = let z = stood (goal.at.offset_bounds-merged-from c).Start in omega (arith, both (goal.at.offset_bounds-merged-from c).Start, inside_merged _ _ _ _ _ z (one z c.if-table-k-eq0.false))
 
 pub slice_bounds-result-end-2 : goal.slice_bounds-result-end-2
-slice_bounds-result-end-2 c = let z = stood c.before.before.before.before in omega (arith, both c.before.before.before.before, inside_merged _ _ _ _ _ z (one z c.if-table-k-eq0.false))
+slice_bounds-result-end-2 c = let z = stood (goal.at.slice_bounds-result-end-2 c).Start in omega (arith, both (goal.at.slice_bounds-result-end-2 c).Start, inside_merged _ _ _ _ _ z (one z c.if-table-k-eq0.false))
 
 pub returns : goal.returns
-returns c = part_merged _ _ _ _ _ c.requires.1 (one (stood c.before.before.before.before.before) c.if-table-k-eq0.false)
+returns c = part_merged _ _ _ _ _ c.requires.1 (one (stood (goal.at.returns c).Start) c.if-table-k-eq0.false)

@@ -33,20 +33,20 @@ pub overflow_add-i : goal.overflow_add-i
 overflow_add-i c = omega arith
 
 pub offset_bounds-numbers-i-in-loop-i : goal.offset_bounds-numbers-i-in-loop-i
-offset_bounds-numbers-i-in-loop-i c = omega (arith, (next c.before.before).0, c.requires.0)
+offset_bounds-numbers-i-in-loop-i c = omega (arith, (next (goal.at.offset_bounds-numbers-i-in-loop-i c).In-loop-i).0, c.requires.0)
 
 pub bounds-numbers-i-in-loop-i : goal.bounds-numbers-i-in-loop-i
-bounds-numbers-i-in-loop-i c = omega (arith, (next c.before.before.before).0, c.requires.0)
+bounds-numbers-i-in-loop-i c = omega (arith, (next (goal.at.bounds-numbers-i-in-loop-i c).In-loop-i).0, c.requires.0)
 
 pub overflow_add-i-in-loop-i : goal.overflow_add-i-in-loop-i
-overflow_add-i-in-loop-i c = omega (arith, (next c.before.before.before.before).0)
+overflow_add-i-in-loop-i c = omega (arith, (next (goal.at.overflow_add-i-in-loop-i c).In-loop-i).0)
 
 pub loop-i-smaller : goal.loop-i-smaller
-loop-i-smaller c = omega (arith, (next c.before.before.before.before).0, c.requires.0)
+loop-i-smaller c = omega (arith, (next (goal.at.loop-i-smaller c).In-loop-i).0, c.requires.0)
 
 pub loop-i-preserved : goal.loop-i-preserved
 loop-i-preserved c =
-    let more = next c.before.before.before.before in (
+    let more = next (goal.at.loop-i-preserved c).In-loop-i in (
       more.0,
       more.1,
       or_lt 64 c.loop-i.any-x c.raised-any_x.result c.loop-i.invariant.2 c.raised-any_x.ensures.1,

@@ -27,7 +27,7 @@ part_long : (s : Start) → length (part_of_lem s) ≡ s.args.n
 part_long s = length-take-le s.args.n (drop s.args.i s.args.numbers.now) (omega (arith, s.requires, length-drop s.args.i s.args.numbers.now))
 
 pub loop-k-init : goal.loop-k-init
-loop-k-init c = (omega arith, omega arith, ap (ltb 0) (zero-add (wild_of (part_of_lem c.before))))
+loop-k-init c = (omega arith, omega arith, ap (ltb 0) (zero-add (wild_of (part_of_lem (goal.at.loop-k-init c).Start))))
 
 pub overflow_add-i : goal.overflow_add-i
 overflow_add-i c = omega arith
@@ -45,7 +45,7 @@ pub loop-k-smaller : goal.loop-k-smaller
 loop-k-smaller c = omega arith
 
 pub loop-k-preserved : goal.loop-k-preserved
-loop-k-preserved c = let l = c.loop-k in (omega arith, or_lt 64 l.any c.raised-any.result l.invariant.1 c.raised-any.ensures.1, wild_more (part_of_lem c.before.before.before.before.before) l.k l.any c.raised-any.result (omega (arith, part_long c.before.before.before.before.before)) l.invariant.1 (c.raised-any.ensures.0 ∙ ap (λ (x : ℕ). one (not (finite (float x)))) (sym (part_number c.args.numbers.now c.args.i c.args.n l.k c.loop-k-test.true))) ∙ l.invariant.2)
+loop-k-preserved c = let l = c.loop-k in (omega arith, or_lt 64 l.any c.raised-any.result l.invariant.1 c.raised-any.ensures.1, wild_more (part_of_lem (goal.at.loop-k-preserved c).Start) l.k l.any c.raised-any.result (omega (arith, part_long (goal.at.loop-k-preserved c).Start)) l.invariant.1 (c.raised-any.ensures.0 ∙ ap (λ (x : ℕ). one (not (finite (float x)))) (sym (part_number c.args.numbers.now c.args.i c.args.n l.k c.loop-k-test.true))) ∙ l.invariant.2)
 
 pub returns : goal.returns
-returns c = let l = c.loop-k in (l.invariant.1, part_told (part_of_lem c.before.before.before) l.k l.any (omega (arith, part_long c.before.before.before)) l.invariant.2)
+returns c = let l = c.loop-k in (l.invariant.1, part_told (part_of_lem (goal.at.returns c).Start) l.k l.any (omega (arith, part_long (goal.at.returns c).Start)) l.invariant.2)

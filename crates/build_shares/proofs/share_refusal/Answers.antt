@@ -22,7 +22,7 @@ pub over-requires : goal.over-requires
 over-requires c = omega (arith, lines_shared c.args.groups.now, c.second_share-second.ensures.0)
 
 pub returns-then-over : goal.returns-then-over
-returns-then-over c = by_twenty _ _ (lines_told c.before ∙ c.if-over.true)
+returns-then-over c = by_twenty _ _ (lines_told (goal.at.returns-then-over c).After-over ∙ c.if-over.true)
 
 pub over-requires-2 : goal.over-requires-2
 over-requires-2 c =
@@ -34,7 +34,7 @@ over-requires-2 c =
     )
 
 pub returns-then-over-2 : goal.returns-then-over-2
-returns-then-over-2 c = by_twenty_one _ _ (lines_told c.before.before.before ∙ c.if-over.false) (points_told c.before ∙ c.if-over-2.true)
+returns-then-over-2 c = by_twenty_one _ _ (lines_told (goal.at.returns-then-over-2 c).After-over ∙ c.if-over.false) (points_told (goal.at.returns-then-over-2 c).After-over-2 ∙ c.if-over-2.true)
 
 pub returns : goal.returns
-returns c = by_neither _ _ (lines_told c.before.before.before ∙ c.if-over.false) (points_told c.before ∙ c.if-over-2.false)
+returns c = by_neither _ _ (lines_told (goal.at.returns c).After-over ∙ c.if-over.false) (points_told (goal.at.returns c).After-over-2 ∙ c.if-over-2.false)

@@ -57,16 +57,16 @@ pub offset_bounds-v-m-3 : goal.offset_bounds-v-m-3
 offset_bounds-v-m-3 c = omega (arith, c.requires.0.few, there c)
 
 pub bounds-v-m-3 : goal.bounds-v-m-3
-bounds-v-m-3 c = omega (arith, c.requires.0.fits, there c.before)
+bounds-v-m-3 c = omega (arith, c.requires.0.fits, there (goal.at.bounds-v-m-3 c).Else-f-eq0)
 
 pub returns-then-v-m-eq0 : goal.returns-then-v-m-eq0
 returns-then-v-m-eq0 c =
     sym
-    (meets_two c.args.on c.args.v.now c.args.m c.args.e c.requires.1 c.requires.2 c.if-v-m.false (behind c.before.before) refl (omega (arith, c.if-f-eq0.false))
+    (meets_two c.args.on c.args.v.now c.args.m c.args.e c.requires.1 c.requires.2 c.if-v-m.false (behind (goal.at.returns-then-v-m-eq0 c).Else-f-eq0) refl (omega (arith, c.if-f-eq0.false))
     c.if-v-m-eq0.true)
 
 pub returns : goal.returns
 returns c =
     sym
-    (meets_many c.args.on c.args.v.now c.args.m c.args.e c.requires.1 c.requires.2 c.if-v-m.false (behind c.before.before) refl (omega (arith, c.if-f-eq0.false))
+    (meets_many c.args.on c.args.v.now c.args.m c.args.e c.requires.1 c.requires.2 c.if-v-m.false (behind (goal.at.returns c).Else-f-eq0) refl (omega (arith, c.if-f-eq0.false))
     c.if-v-m-eq0.false)

@@ -38,13 +38,13 @@ returns-then-same_key c =
     (same_true _ _ (sym c.same_key.ensures ∙ c.if-same_key.true))
 
 pub overflow_add-c : goal.overflow_add-c
-overflow_add-c c = omega (arith, below c.before.before)
+overflow_add-c c = omega (arith, below (goal.at.overflow_add-c c).In-loop-c)
 
 pub offset_bounds-w-m : goal.offset_bounds-w-m
-offset_bounds-w-m c = omega (arith, below c.before.before)
+offset_bounds-w-m c = omega (arith, below (goal.at.offset_bounds-w-m c).In-loop-c)
 
 pub bounds-w-m : goal.bounds-w-m
-bounds-w-m c = omega (arith, below c.before.before.before)
+bounds-w-m c = omega (arith, below (goal.at.bounds-w-m c).In-loop-c)
 
 pub loop-c-smaller : goal.loop-c-smaller
 loop-c-smaller c =

@@ -66,17 +66,17 @@ overflow_sub-f c = omega arith
 
 pub append-requires : goal.append-requires
 append-requires c =
-    let t = there c.before in
+    let t = there (goal.at.append-requires c).Then-f-gt0 in
     (c.requires.0, c.requires.1, t.0, last_below c.args.w.now c.args.m c.args.e c.requires.0 c.requires.1 c.requires.2 (c.find-f.result - 1) t.0 t.1)
 
 pub returns-then-f-gt0 : goal.returns-then-f-gt0
 returns-then-f-gt0 c =
-    let t = there c.before.before.before.before in
+    let t = there (goal.at.returns-then-f-gt0 c).Then-f-gt0 in
     subst (λ (l : List ℕ). EndPlaced l c.args.w.now c.args.m (c.args.e + 1)) (sym c.append.ensures)
     (append_placed c.args.w.now c.args.m c.args.e c.requires.0 c.requires.1 c.requires.2 (c.find-f.result - 1) t.0 t.1 t.2)
 
 pub returns-else-f-gt0 : goal.returns-else-f-gt0
 returns-else-f-gt0 c =
     subst (λ (l : List ℕ). EndPlaced l c.args.w.now c.args.m (c.args.e + 1)) (sym c.lead.ensures)
-    (lead_placed c.args.w.now c.args.m c.args.e c.requires.0 c.requires.1 c.requires.2 c.bucket-b.result c.bucket-b.ensures.1 (in_bucket c.before.before.before.before.before.before)
+    (lead_placed c.args.w.now c.args.m c.args.e c.requires.0 c.requires.1 c.requires.2 c.bucket-b.result c.bucket-b.ensures.1 (in_bucket (goal.at.returns-else-f-gt0 c).After-bucket-b)
     (c.find-f.ensures.nowhere (omega arith)))

@@ -34,13 +34,13 @@ pub overflow_add-g : goal.overflow_add-g
 overflow_add-g c = omega (arith, c.requires.room)
 
 pub overflow_add-g-in-loop-d : goal.overflow_add-g-in-loop-d
-overflow_add-g-in-loop-d c = omega (arith, below c.before, c.requires.room)
+overflow_add-g-in-loop-d c = omega (arith, below (goal.at.overflow_add-g-in-loop-d c).At-loop-d, c.requires.room)
 
 pub offset_bounds-w-at : goal.offset_bounds-w-at
-offset_bounds-w-at c = omega (arith, below c.before, c.requires.room)
+offset_bounds-w-at c = omega (arith, below (goal.at.offset_bounds-w-at c).At-loop-d, c.requires.room)
 
 pub bounds-w-at : goal.bounds-w-at
-bounds-w-at c = simp length-set (omega (arith, below c.before.before, c.requires.room, c.loop-d.invariant.1))
+bounds-w-at c = simp length-set (omega (arith, below (goal.at.bounds-w-at c).At-loop-d, c.requires.room, c.loop-d.invariant.1))
 
 pub shape_of-w-then-g-eq0 : goal.shape_of-w-then-g-eq0
 shape_of-w-then-g-eq0 c = simp length-set c.loop-d.invariant.1

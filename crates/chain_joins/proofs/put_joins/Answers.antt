@@ -43,32 +43,32 @@ bounds-w-pairs-in-loop-k c = omega (arith, c.requires.room, c.loop-k.invariant.1
 
 pub overflow_add-a : goal.overflow_add-a
 overflow_add-a c =
-    omega (arith, first_place_lem c.requires (here c.before.before.before) c.loop-k-test.true, c.requires.listed, c.requires.room)
+    omega (arith, first_place_lem c.requires (here (goal.at.overflow_add-a c).At-loop-k) c.loop-k-test.true, c.requires.listed, c.requires.room)
 
 pub offset_bounds-w-list : goal.offset_bounds-w-list
 offset_bounds-w-list c =
-    omega (arith, first_place_lem c.requires (here c.before.before.before) c.loop-k-test.true, c.requires.listed, c.requires.room)
+    omega (arith, first_place_lem c.requires (here (goal.at.offset_bounds-w-list c).At-loop-k) c.loop-k-test.true, c.requires.listed, c.requires.room)
 
 pub bounds-w-list : goal.bounds-w-list
 bounds-w-list c =
-    omega (arith, first_place_lem c.requires (here c.before.before.before.before) c.loop-k-test.true, c.requires.listed, c.requires.room, c.loop-k.invariant.1)
+    omega (arith, first_place_lem c.requires (here (goal.at.bounds-w-list c).At-loop-k) c.loop-k-test.true, c.requires.listed, c.requires.room, c.loop-k.invariant.1)
 
 pub overflow_add-b : goal.overflow_add-b
 overflow_add-b c =
-    omega (arith, second_place c.requires (here c.before.before.before.before) c.loop-k-test.true, c.requires.listed, c.requires.room)
+    omega (arith, second_place c.requires (here (goal.at.overflow_add-b c).At-loop-k) c.loop-k-test.true, c.requires.listed, c.requires.room)
 
 pub offset_bounds-w-list-in-loop-k : goal.offset_bounds-w-list-in-loop-k
 offset_bounds-w-list-in-loop-k c =
-    omega (arith, second_place c.requires (here c.before.before.before.before) c.loop-k-test.true, c.requires.listed, c.requires.room)
+    omega (arith, second_place c.requires (here (goal.at.offset_bounds-w-list-in-loop-k c).At-loop-k) c.loop-k-test.true, c.requires.listed, c.requires.room)
 
 pub bounds-w-list-in-loop-k : goal.bounds-w-list-in-loop-k
 bounds-w-list-in-loop-k c =
-    omega (arith, second_place c.requires (here c.before.before.before.before.before) c.loop-k-test.true, c.requires.listed, c.requires.room, c.loop-k.invariant.1)
+    omega (arith, second_place c.requires (here (goal.at.bounds-w-list-in-loop-k c).At-loop-k) c.loop-k-test.true, c.requires.listed, c.requires.room, c.loop-k.invariant.1)
 
 pub put_join-requires : goal.put_join-requires
 put_join-requires c =
     let t = c.loop-k-test.true in
-    (omega (arith, c.requires.below, c.requires.listed, c.requires.room, c.loop-k.invariant.1), first_end c.requires (here c.before.before.before.before.before.before) t, second_end c.requires (here c.before.before.before.before.before.before) t)
+    (omega (arith, c.requires.below, c.requires.listed, c.requires.room, c.loop-k.invariant.1), first_end c.requires (here (goal.at.put_join-requires c).At-loop-k) t, second_end c.requires (here (goal.at.put_join-requires c).At-loop-k) t)
 
 pub overflow_add-k : goal.overflow_add-k
 overflow_add-k c = omega arith
@@ -84,4 +84,4 @@ pub shape_of-w : goal.shape_of-w
 shape_of-w c = c.loop-k.invariant.1
 
 pub returns : goal.returns
-returns c = putting_done c.requires (here c.before) c.loop-k-test.false
+returns c = putting_done c.requires (here (goal.at.returns c).At-loop-k) c.loop-k-test.false

@@ -15,7 +15,7 @@ long c = rw c.coordinates_of-c.ensures (number_long c.args.width c.args.w.now c.
 
 -- src/lib.rt:26:16
 pub bounds-c-axis : goal.bounds-c-axis
-bounds-c-axis c = omega (arith, long c.before.before, c.requires.0.two)
+bounds-c-axis c = omega (arith, long (goal.at.bounds-c-axis c).After-coordinates_of-c, c.requires.0.two)
 
 -- src/lib.rt:26:9
 pub returns-then-side-eq0 : goal.returns-then-side-eq0
@@ -23,11 +23,11 @@ returns-then-side-eq0 c = ap (λ (l : List ℕ). get_or l c.args.axis 0) c.coord
 
 -- src/lib.rt:28:7
 pub overflow_sub-result : goal.overflow_sub-result
-overflow_sub-result c = omega (arith, long c.before)
+overflow_sub-result c = omega (arith, long (goal.at.overflow_sub-result c).After-coordinates_of-c)
 
 -- src/lib.rt:28:5
 pub bounds-c-c : goal.bounds-c-c
-bounds-c-c c = omega (arith, long c.before.before, c.requires.0.two)
+bounds-c-c c = omega (arith, long (goal.at.bounds-c-c c).After-coordinates_of-c, c.requires.0.two)
 
 -- src/lib.rt:20:1
 pub returns : goal.returns

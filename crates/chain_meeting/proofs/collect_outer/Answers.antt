@@ -8,6 +8,7 @@ use Rattle.chain_keys.proofs.Laws.{keying_start}
 use Rattle.chain_meeting.specs.Meeting.{Collectable}
 use Rattle.chain_meeting.proofs.Collecting.{Collecting, collecting_done, listed_in, listed_placed, listed_group, listed_fits, collecting_step}
 use Rattle.chain_meeting.proofs.collect_outer.Goals as goal
+use Rattle.chain_meeting.proofs.collect_outer.Goals.{In-loop-t}
 
 module _ (i : tie.In-loop invariant-loop decreases-loop) where
   abbrev l : tie.At-loop invariant-loop decreases-loop
@@ -49,19 +50,19 @@ pub offset_bounds-w-ends : goal.offset_bounds-w-ends
 offset_bounds-w-ends c = omega (arith, listed_below c, c.loop-t-test.true)
 
 pub bounds-w-ends : goal.bounds-w-ends
-bounds-w-ends c = omega (arith, listed_below c.before, c.loop-t-test.true)
+bounds-w-ends c = omega (arith, listed_below (goal.at.bounds-w-ends c).In-loop-t, c.loop-t-test.true)
 
 pub overflow_mul-e : goal.overflow_mul-e
-overflow_mul-e c = omega (arith, record_below c.before.before, (keys_so_far c.before.before).size)
+overflow_mul-e c = omega (arith, record_below (goal.at.overflow_mul-e c).In-loop-t, (keys_so_far (goal.at.overflow_mul-e c).In-loop-t).size)
 
 pub overflow_add-records : goal.overflow_add-records
-overflow_add-records c = omega (arith, record_below c.before.before, (keys_so_far c.before.before).size)
+overflow_add-records c = omega (arith, record_below (goal.at.overflow_add-records c).In-loop-t, (keys_so_far (goal.at.overflow_add-records c).In-loop-t).size)
 
 pub overflow_mul-t : goal.overflow_mul-t
-overflow_mul-t c = omega (arith, key_fits c.before.before)
+overflow_mul-t c = omega (arith, key_fits (goal.at.overflow_mul-t c).In-loop-t)
 
 pub overflow_add-keys : goal.overflow_add-keys
-overflow_add-keys c = omega (arith, key_fits c.before.before)
+overflow_add-keys c = omega (arith, key_fits (goal.at.overflow_add-keys c).In-loop-t)
 
 pub put_cell-requires : goal.put_cell-requires
 put_cell-requires c =

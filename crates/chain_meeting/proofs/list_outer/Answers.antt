@@ -45,67 +45,67 @@ pub offset_bounds-w-lengths : goal.offset_bounds-w-lengths
 offset_bounds-w-lengths c = let t = turn c in omega (arith, t.within, t.room, t.lengths_below, t.some, t.ends, t.low)
 
 pub bounds-w-lengths : goal.bounds-w-lengths
-bounds-w-lengths c = let t = turn c.before in omega (arith, t.within, t.room, t.lengths_below, t.some, t.ends, t.low)
+bounds-w-lengths c = let t = turn (goal.at.bounds-w-lengths c).In-loop-j in omega (arith, t.within, t.room, t.lengths_below, t.some, t.ends, t.low)
 
 pub overflow_add-to-in-loop-j : goal.overflow_add-to-in-loop-j
-overflow_add-to-in-loop-j c = let t = turn c.before in omega (arith, t.within, t.room, t.lengths_below, t.some, t.ends, t.low)
+overflow_add-to-in-loop-j c = let t = turn (goal.at.overflow_add-to-in-loop-j c).In-loop-j in omega (arith, t.within, t.room, t.lengths_below, t.some, t.ends, t.low)
 
 pub offset_bounds-w-from : goal.offset_bounds-w-from
-offset_bounds-w-from c = let t = turn c.before in omega (arith, t.within, t.room, t.lengths_below, t.some, t.ends, t.low)
+offset_bounds-w-from c = let t = turn (goal.at.offset_bounds-w-from c).In-loop-j in omega (arith, t.within, t.room, t.lengths_below, t.some, t.ends, t.low)
 
 pub bounds-w-from : goal.bounds-w-from
-bounds-w-from c = let t = turn c.before.before in omega (arith, t.within, t.room, t.lengths_below, t.some, t.ends, t.low)
+bounds-w-from c = let t = turn (goal.at.bounds-w-from c).In-loop-j in omega (arith, t.within, t.room, t.lengths_below, t.some, t.ends, t.low)
 
 pub overflow_sub-last : goal.overflow_sub-last
-overflow_sub-last c = let t = turn c.before.before in omega (arith, t.within, t.room, t.lengths_below, t.some, t.ends, t.low)
+overflow_sub-last c = let t = turn (goal.at.overflow_sub-last c).In-loop-j in omega (arith, t.within, t.room, t.lengths_below, t.some, t.ends, t.low)
 
 pub offset_bounds-w-to : goal.offset_bounds-w-to
-offset_bounds-w-to c = let t = turn c.before.before in omega (arith, t.within, t.room, t.lengths_below, t.some, t.ends, t.low)
+offset_bounds-w-to c = let t = turn (goal.at.offset_bounds-w-to c).In-loop-j in omega (arith, t.within, t.room, t.lengths_below, t.some, t.ends, t.low)
 
 pub bounds-w-to : goal.bounds-w-to
-bounds-w-to c = let t = turn c.before.before.before in omega (arith, t.within, t.room, t.lengths_below, t.some, t.ends, t.low)
+bounds-w-to c = let t = turn (goal.at.bounds-w-to c).In-loop-j in omega (arith, t.within, t.room, t.lengths_below, t.some, t.ends, t.low)
 
 pub overflow_mul-w : goal.overflow_mul-w
-overflow_mul-w c = let t = turn c.before.before.before in omega (arith, t.within, t.room, t.lengths_below, t.some, t.ends, t.low)
+overflow_mul-w c = let t = turn (goal.at.overflow_mul-w c).In-loop-j in omega (arith, t.within, t.room, t.lengths_below, t.some, t.ends, t.low)
 
 pub overflow_add-w : goal.overflow_add-w
-overflow_add-w c = let t = turn c.before.before.before in omega (arith, t.within, t.room, t.lengths_below, t.some, t.ends, t.low)
+overflow_add-w c = let t = turn (goal.at.overflow_add-w c).In-loop-j in omega (arith, t.within, t.room, t.lengths_below, t.some, t.ends, t.low)
 
 pub offset_bounds-w-at : goal.offset_bounds-w-at
-offset_bounds-w-at c = let t = turn c.before.before.before in omega (arith, t.within, t.room, t.lengths_below, t.some, t.ends, t.low)
+offset_bounds-w-at c = let t = turn (goal.at.offset_bounds-w-at c).In-loop-j in omega (arith, t.within, t.room, t.lengths_below, t.some, t.ends, t.low)
 
 pub bounds-w-at : goal.bounds-w-at
-bounds-w-at c = let t = turn c.before.before.before in omega (arith, t.within, t.room, t.lengths_below, t.some, t.ends, t.low)
+bounds-w-at c = let t = turn (goal.at.bounds-w-at c).In-loop-j in omega (arith, t.within, t.room, t.lengths_below, t.some, t.ends, t.low)
 
 pub overflow_add-w-in-loop-j : goal.overflow_add-w-in-loop-j
-overflow_add-w-in-loop-j c = let t = turn c.before.before.before in omega (arith, t.within, t.room, t.lengths_below, t.some, t.ends, t.low)
+overflow_add-w-in-loop-j c = let t = turn (goal.at.overflow_add-w-in-loop-j c).In-loop-j in omega (arith, t.within, t.room, t.lengths_below, t.some, t.ends, t.low)
 
 pub overflow_mul-w-in-loop-j : goal.overflow_mul-w-in-loop-j
-overflow_mul-w-in-loop-j c = let t = turn c.before.before.before in omega (arith, t.within, t.room, t.lengths_below, t.some, t.ends, t.low)
+overflow_mul-w-in-loop-j c = let t = turn (goal.at.overflow_mul-w-in-loop-j c).In-loop-j in omega (arith, t.within, t.room, t.lengths_below, t.some, t.ends, t.low)
 
 pub overflow_sub-w : goal.overflow_sub-w
-overflow_sub-w c = let t = turn c.before.before.before in omega (arith, t.within, t.room, t.lengths_below, t.some, t.ends, t.low)
+overflow_sub-w c = let t = turn (goal.at.overflow_sub-w c).In-loop-j in omega (arith, t.within, t.room, t.lengths_below, t.some, t.ends, t.low)
 
 pub overflow_mul-w-in-loop-j-2 : goal.overflow_mul-w-in-loop-j-2
-overflow_mul-w-in-loop-j-2 c = let t = turn c.before.before.before in omega (arith, t.within, t.room, t.lengths_below, t.some, t.ends, t.low)
+overflow_mul-w-in-loop-j-2 c = let t = turn (goal.at.overflow_mul-w-in-loop-j-2 c).In-loop-j in omega (arith, t.within, t.room, t.lengths_below, t.some, t.ends, t.low)
 
 pub overflow_add-w-in-loop-j-2 : goal.overflow_add-w-in-loop-j-2
-overflow_add-w-in-loop-j-2 c = let t = turn c.before.before.before in omega (arith, t.within, t.room, t.lengths_below, t.some, t.ends, t.low)
+overflow_add-w-in-loop-j-2 c = let t = turn (goal.at.overflow_add-w-in-loop-j-2 c).In-loop-j in omega (arith, t.within, t.room, t.lengths_below, t.some, t.ends, t.low)
 
 pub overflow_add-w-in-loop-j-3 : goal.overflow_add-w-in-loop-j-3
-overflow_add-w-in-loop-j-3 c = let t = turn c.before.before.before in omega (arith, t.within, t.room, t.lengths_below, t.some, t.ends, t.low)
+overflow_add-w-in-loop-j-3 c = let t = turn (goal.at.overflow_add-w-in-loop-j-3 c).In-loop-j in omega (arith, t.within, t.room, t.lengths_below, t.some, t.ends, t.low)
 
 pub offset_bounds-w-at-in-loop-j : goal.offset_bounds-w-at-in-loop-j
-offset_bounds-w-at-in-loop-j c = let t = turn c.before.before.before in omega (arith, t.within, t.room, t.lengths_below, t.some, t.ends, t.low)
+offset_bounds-w-at-in-loop-j c = let t = turn (goal.at.offset_bounds-w-at-in-loop-j c).In-loop-j in omega (arith, t.within, t.room, t.lengths_below, t.some, t.ends, t.low)
 
 pub bounds-w-at-in-loop-j : goal.bounds-w-at-in-loop-j
-bounds-w-at-in-loop-j c = let t = turn c.before.before.before in simp length-set (omega (arith, t.within, t.room))
+bounds-w-at-in-loop-j c = let t = turn (goal.at.bounds-w-at-in-loop-j c).In-loop-j in simp length-set (omega (arith, t.within, t.room))
 
 pub overflow_add-j : goal.overflow_add-j
-overflow_add-j c = let t = turn c.before.before.before in omega (arith, t.within, t.room, t.lengths_below, t.some, t.ends, t.low)
+overflow_add-j c = let t = turn (goal.at.overflow_add-j c).In-loop-j in omega (arith, t.within, t.room, t.lengths_below, t.some, t.ends, t.low)
 
 pub loop-j-smaller : goal.loop-j-smaller
-loop-j-smaller c = let t = turn c.before.before.before in omega (arith, t.within, t.room, t.lengths_below, t.some, t.ends, t.low)
+loop-j-smaller c = let t = turn (goal.at.loop-j-smaller c).In-loop-j in omega (arith, t.within, t.room, t.lengths_below, t.some, t.ends, t.low)
 
 pub loop-j-preserved : goal.loop-j-preserved
 loop-j-preserved c =

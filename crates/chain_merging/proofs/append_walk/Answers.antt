@@ -21,7 +21,7 @@ in_record : (i : In-loop-k)
     record_of a.old (piece_of (get_or a.w.now i.loop-k.k 0)) + piece_size ≤ length a.w.now
 in_record i =
     let a = i.args in
-    (entered_recorded a.width a.w.now a.old a.from a.to a.input.now a.spare.now i.requires.entered i.loop-k.k (laying i.before).low i.loop-k-test.true).inside
+    (entered_recorded a.width a.w.now a.old a.from a.to a.input.now a.spare.now i.requires.entered i.loop-k.k (laying (goal.at.In-loop-k i).At-loop-k).low i.loop-k-test.true).inside
 
 pub loop-k-init : goal.loop-k-init
 loop-k-init c = let a = c.args in λ y. laying_start a.width a.w.now a.old a.from a.to a.input.now a.spare.now a.merged.now a.at y
@@ -33,27 +33,27 @@ pub bounds-w-k : goal.bounds-w-k
 bounds-w-k c = omega (arith, c.requires.entered.inside)
 
 pub overflow_mul-e : goal.overflow_mul-e
-overflow_mul-e c = omega (arith, in_record c.before)
+overflow_mul-e c = omega (arith, in_record (goal.at.overflow_mul-e c).In-loop-k)
 
 pub overflow_add-old : goal.overflow_add-old
-overflow_add-old c = omega (arith, in_record c.before)
+overflow_add-old c = omega (arith, in_record (goal.at.overflow_add-old c).In-loop-k)
 
 pub offset_bounds-merged-at : goal.offset_bounds-merged-at
-offset_bounds-merged-at c = omega (arith, (laying c.before.before).ranges, (laying c.before.before).size)
+offset_bounds-merged-at c = omega (arith, (laying (goal.at.offset_bounds-merged-at c).At-loop-k).ranges, (laying (goal.at.offset_bounds-merged-at c).At-loop-k).size)
 
 pub slice_bounds-append_piece-count : goal.slice_bounds-append_piece-count
-slice_bounds-append_piece-count c = omega (arith, (laying c.before.before).ranges, (laying c.before.before).size)
+slice_bounds-append_piece-count c = omega (arith, (laying (goal.at.slice_bounds-append_piece-count c).At-loop-k).ranges, (laying (goal.at.slice_bounds-append_piece-count c).At-loop-k).size)
 
 pub slice_bounds-append_piece-start : goal.slice_bounds-append_piece-start
-slice_bounds-append_piece-start c = omega (arith, (laying c.before.before).ranges, (laying c.before.before).size)
+slice_bounds-append_piece-start c = omega (arith, (laying (goal.at.slice_bounds-append_piece-start c).At-loop-k).ranges, (laying (goal.at.slice_bounds-append_piece-start c).At-loop-k).size)
 
 pub slice_bounds-append_piece-end : goal.slice_bounds-append_piece-end
-slice_bounds-append_piece-end c = omega (arith, (laying c.before.before).ranges, (laying c.before.before).size)
+slice_bounds-append_piece-end c = omega (arith, (laying (goal.at.slice_bounds-append_piece-end c).At-loop-k).ranges, (laying (goal.at.slice_bounds-append_piece-end c).At-loop-k).size)
 
 pub append_piece-have-requires : goal.append_piece-have-requires
 append_piece-have-requires c =
     let a = c.args in
-    laying_asks a.width a.w.now a.old a.from a.to a.input.now a.spare.now a.merged.now a.at c.requires c.loop-k.merged c.loop-k.have c.loop-k.k (laying c.before.before.before) c.loop-k-test.true
+    laying_asks a.width a.w.now a.old a.from a.to a.input.now a.spare.now a.merged.now a.at c.requires c.loop-k.merged c.loop-k.have c.loop-k.k (laying (goal.at.append_piece-have-requires c).At-loop-k) c.loop-k-test.true
 
 pub overflow_add-k : goal.overflow_add-k
 overflow_add-k c = omega (arith, c.requires.entered.inside, c.loop-k-test.true)
@@ -68,7 +68,7 @@ loop-k-preserved c =
     c.append_piece-have.new.rest c.append_piece-have.result c.append_piece-have.ensures
 
 pub shape_of-merged : goal.shape_of-merged
-shape_of-merged c = (laying c.before).size
+shape_of-merged c = (laying (goal.at.shape_of-merged c).At-loop-k).size
 
 pub returns : goal.returns
 returns c =

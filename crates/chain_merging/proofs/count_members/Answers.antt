@@ -26,19 +26,19 @@ pub bounds-w-k : goal.bounds-w-k
 bounds-w-k c = omega (arith, c.requires.entered.inside)
 
 pub overflow_mul-r : goal.overflow_mul-r
-overflow_mul-r c = omega (arith, in_record c.before)
+overflow_mul-r c = omega (arith, in_record (goal.at.overflow_mul-r c).In-loop-k)
 
 pub overflow_add-r : goal.overflow_add-r
-overflow_add-r c = omega (arith, in_record c.before)
+overflow_add-r c = omega (arith, in_record (goal.at.overflow_add-r c).In-loop-k)
 
 pub overflow_add-r-in-loop-k : goal.overflow_add-r-in-loop-k
-overflow_add-r-in-loop-k c = omega (arith, in_record c.before)
+overflow_add-r-in-loop-k c = omega (arith, in_record (goal.at.overflow_add-r-in-loop-k c).In-loop-k)
 
 pub offset_bounds-w-old : goal.offset_bounds-w-old
-offset_bounds-w-old c = omega (arith, in_record c.before)
+offset_bounds-w-old c = omega (arith, in_record (goal.at.offset_bounds-w-old c).In-loop-k)
 
 pub bounds-w-old : goal.bounds-w-old
-bounds-w-old c = omega (arith, in_record c.before.before)
+bounds-w-old c = omega (arith, in_record (goal.at.bounds-w-old c).In-loop-k)
 
 pub overflow_add-r-in-loop-k-2 : goal.overflow_add-r-in-loop-k-2
 overflow_add-r-in-loop-k-2 c =

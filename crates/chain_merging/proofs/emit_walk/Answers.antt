@@ -17,28 +17,28 @@ in_record s =
     first_inside a.width a.w.now a.old a.from a.to a.input.now a.spare.now s.requires.laying.entered
 
 pub overflow_mul-p : goal.overflow_mul-p
-overflow_mul-p c = omega (arith, in_record c.before.before.before.before.before.before)
+overflow_mul-p c = omega (arith, in_record (goal.at.overflow_mul-p c).Start)
 
 pub overflow_add-p : goal.overflow_add-p
-overflow_add-p c = omega (arith, in_record c.before.before.before.before.before.before)
+overflow_add-p c = omega (arith, in_record (goal.at.overflow_add-p c).Start)
 
 pub overflow_add-first : goal.overflow_add-first
-overflow_add-first c = omega (arith, in_record c.before.before.before.before.before.before)
+overflow_add-first c = omega (arith, in_record (goal.at.overflow_add-first c).Start)
 
 pub offset_bounds-w-p : goal.offset_bounds-w-p
-offset_bounds-w-p c = omega (arith, in_record c.before.before.before.before.before.before)
+offset_bounds-w-p c = omega (arith, in_record (goal.at.offset_bounds-w-p c).Start)
 
 pub bounds-w-p : goal.bounds-w-p
-bounds-w-p c = omega (arith, in_record c.before.before.before.before.before.before.before)
+bounds-w-p c = omega (arith, in_record (goal.at.bounds-w-p c).Start)
 
 pub overflow_add-count : goal.overflow_add-count
-overflow_add-count c = omega (arith, in_record c.before.before.before.before.before.before.before)
+overflow_add-count c = omega (arith, in_record (goal.at.overflow_add-count c).Start)
 
 pub offset_bounds-w-p-then-b-eq1 : goal.offset_bounds-w-p-then-b-eq1
-offset_bounds-w-p-then-b-eq1 c = omega (arith, in_record c.before.before.before.before.before.before.before)
+offset_bounds-w-p-then-b-eq1 c = omega (arith, in_record (goal.at.offset_bounds-w-p-then-b-eq1 c).Start)
 
 pub bounds-w-p-then-b-eq1 : goal.bounds-w-p-then-b-eq1
-bounds-w-p-then-b-eq1 c = omega (arith, in_record c.before.before.before.before.before.before.before.before)
+bounds-w-p-then-b-eq1 c = omega (arith, in_record (goal.at.bounds-w-p-then-b-eq1 c).Start)
 
 pub returns-then-b-eq1 : goal.returns-then-b-eq1
 returns-then-b-eq1 c =

@@ -8,7 +8,7 @@ use Rattle.rules.specs.Chaining.{merge}
 use Rattle.chain_merging.specs.Emit.{Walks}
 use Rattle.chain_merging.proofs.Emitting.{Emitting, emitting_start, emitting_done, turn_length, turn_entries, counted, emittable, members_fit, emitting_step}
 use Rattle.chain_merging.proofs.emit_walks.Goals as goal
-use Rattle.chain_merging.proofs.emit_walks.Goals.{After-count_members-b, At-loop-j}
+use Rattle.chain_merging.proofs.emit_walks.Goals.{After-count_members-b, At-loop-j, In-loop-j}
 
 -- the state at the loop's test
 emitting : (l : At-loop-j)
@@ -50,22 +50,22 @@ pub loop-j-init : goal.loop-j-init
 loop-j-init c = let a = c.args in λ y. emitting_start a.width a.w.now a.n a.old a.m a.entries a.lengths a.r a.input.now a.spare.now a.merged.now y
 
 pub overflow_add-to : goal.overflow_add-to
-overflow_add-to c = omega (arith, in_lengths c, (emitting c.before).size_same)
+overflow_add-to c = omega (arith, in_lengths c, (emitting (goal.at.overflow_add-to c).At-loop-j).size_same)
 
 pub offset_bounds-w-lengths : goal.offset_bounds-w-lengths
-offset_bounds-w-lengths c = omega (arith, in_lengths c, (emitting c.before).size_same)
+offset_bounds-w-lengths c = omega (arith, in_lengths c, (emitting (goal.at.offset_bounds-w-lengths c).At-loop-j).size_same)
 
 pub bounds-w-lengths : goal.bounds-w-lengths
-bounds-w-lengths c = omega (arith, in_lengths c.before)
+bounds-w-lengths c = omega (arith, in_lengths (goal.at.bounds-w-lengths c).In-loop-j)
 
 pub overflow_add-to-in-loop-j : goal.overflow_add-to-in-loop-j
-overflow_add-to-in-loop-j c = omega (arith, in_entries c.before, (emitting c.before.before).size_same)
+overflow_add-to-in-loop-j c = omega (arith, in_entries (goal.at.overflow_add-to-in-loop-j c).In-loop-j, (emitting (goal.at.overflow_add-to-in-loop-j c).At-loop-j).size_same)
 
 pub count_members-b-requires : goal.count_members-b-requires
 count_members-b-requires c =
     let a = c.args in
     counted a.width a.w.now a.n a.old a.m a.entries a.lengths a.r a.input.now a.spare.now a.merged.now c.requires
-    c.loop-j.w c.loop-j.merged c.loop-j.from c.loop-j.members c.loop-j.points c.loop-j.j (emitting c.before.before) c.loop-j-test.true
+    c.loop-j.w c.loop-j.merged c.loop-j.from c.loop-j.members c.loop-j.points c.loop-j.j (emitting (goal.at.count_members-b-requires c).At-loop-j) c.loop-j-test.true
 
 pub overflow_mul-j : goal.overflow_mul-j
 overflow_mul-j c = omega (arith, c.loop-j-test.true, c.requires.few, c.requires.front, c.requires.held.room)
@@ -74,8 +74,8 @@ pub emit_walk-points-requires : goal.emit_walk-points-requires
 emit_walk-points-requires c =
     let a = c.args in
     emittable a.width a.w.now a.n a.old a.m a.entries a.lengths a.r a.input.now a.spare.now a.merged.now c.requires
-    c.loop-j.w c.loop-j.merged c.loop-j.from c.loop-j.members c.loop-j.points c.loop-j.j (emitting c.before.before.before.before.before) c.loop-j-test.true
-    c.count_members-b.result (counts c.before.before c.requires)
+    c.loop-j.w c.loop-j.merged c.loop-j.from c.loop-j.members c.loop-j.points c.loop-j.j (emitting (goal.at.emit_walk-points-requires c).At-loop-j) c.loop-j-test.true
+    c.count_members-b.result (counts (goal.at.emit_walk-points-requires c).After-count_members-b c.requires)
 
 pub overflow_add-members : goal.overflow_add-members
 overflow_add-members c =
@@ -83,8 +83,8 @@ overflow_add-members c =
     omega (
       arith,
       members_fit a.width a.w.now a.n a.old a.m a.entries a.lengths a.r a.input.now a.spare.now a.merged.now c.requires
-          c.loop-j.w c.loop-j.merged c.loop-j.from c.loop-j.members c.loop-j.points c.loop-j.j (emitting c.before.before.before.before.before.before.before.before.before.before) c.loop-j-test.true
-          c.count_members-b.result (counts c.before.before.before.before.before.before.before c.requires),
+          c.loop-j.w c.loop-j.merged c.loop-j.from c.loop-j.members c.loop-j.points c.loop-j.j (emitting (goal.at.overflow_add-members c).At-loop-j) c.loop-j-test.true
+          c.count_members-b.result (counts (goal.at.overflow_add-members c).After-count_members-b c.requires),
       c.requires.front,
       c.requires.held.room,
     )
@@ -100,17 +100,17 @@ loop-j-preserved c =
     let a = c.args in
     λ y. emitting_step a.width a.w.now a.n a.old a.m a.entries a.lengths a.r a.input.now a.spare.now a.merged.now y
     c.loop-j.w c.loop-j.merged c.loop-j.from c.loop-j.members c.loop-j.points c.loop-j.j (c.loop-j.invariant y) c.loop-j-test.true
-    c.count_members-b.result (counts c.before.before.before.before.before.before.before y) c.emit_walk-points.new.w c.emit_walk-points.new.merged c.emit_walk-points.result
+    c.count_members-b.result (counts (goal.at.loop-j-preserved c).After-count_members-b y) c.emit_walk-points.new.w c.emit_walk-points.new.merged c.emit_walk-points.result
     (c.emit_walk-points.ensures
     (emittable a.width a.w.now a.n a.old a.m a.entries a.lengths a.r a.input.now a.spare.now a.merged.now y
     c.loop-j.w c.loop-j.merged c.loop-j.from c.loop-j.members c.loop-j.points c.loop-j.j (c.loop-j.invariant y) c.loop-j-test.true
-    c.count_members-b.result (counts c.before.before.before.before.before.before.before y)))
+    c.count_members-b.result (counts (goal.at.loop-j-preserved c).After-count_members-b y)))
 
 pub shape_of-w : goal.shape_of-w
-shape_of-w c = (emitting c.before).size_same
+shape_of-w c = (emitting (goal.at.shape_of-w c).At-loop-j).size_same
 
 pub shape_of-merged : goal.shape_of-merged
-shape_of-merged c = (emitting c.before).merged_size
+shape_of-merged c = (emitting (goal.at.shape_of-merged c).At-loop-j).merged_size
 
 pub returns : goal.returns
 returns c =

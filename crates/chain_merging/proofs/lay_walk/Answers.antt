@@ -22,10 +22,10 @@ in_record s =
     first_inside a.width a.w.now a.old a.from a.to a.input.now a.spare.now s.requires.entered
 
 pub overflow_mul-p : goal.overflow_mul-p
-overflow_mul-p c = omega (arith, in_record c.before.before.before.before.before.before)
+overflow_mul-p c = omega (arith, in_record (goal.at.overflow_mul-p c).Start)
 
 pub overflow_add-p : goal.overflow_add-p
-overflow_add-p c = omega (arith, in_record c.before.before.before.before.before.before)
+overflow_add-p c = omega (arith, in_record (goal.at.overflow_add-p c).Start)
 
 pub coordinates_of-c-requires : goal.coordinates_of-c-requires
 coordinates_of-c-requires c =

@@ -9,7 +9,7 @@ use Rattle.chain_pieces.specs.Held.{record_of}
 use Rattle.chain_merging.specs.Emit.{Listable, PiecesListable}
 use Rattle.chain_merging.proofs.Listing.{Listing, listing_start, listing_done, listing_record, listing_listable, listing_step}
 use Rattle.chain_merging.proofs.list_pieces.Goals as goal
-use Rattle.chain_merging.proofs.list_pieces.Goals.{At-loop-k}
+use Rattle.chain_merging.proofs.list_pieces.Goals.{At-loop-k, In-loop-k}
 
 listing : (l : At-loop-k)
     → let a = l.args in Listing a.w.now a.n a.old a.entries a.m l.requires l.loop-k.w l.loop-k.r l.loop-k.k
@@ -49,37 +49,37 @@ pub offset_bounds-w-entries : goal.offset_bounds-w-entries
 offset_bounds-w-entries c = omega (arith, c.requires.inside, c.loop-k-test.true)
 
 pub bounds-w-entries : goal.bounds-w-entries
-bounds-w-entries c = omega (arith, c.requires.inside, c.loop-k-test.true, (listing c.before.before).size)
+bounds-w-entries c = omega (arith, c.requires.inside, c.loop-k-test.true, (listing (goal.at.bounds-w-entries c).At-loop-k).size)
 
 pub overflow_mul-p : goal.overflow_mul-p
-overflow_mul-p c = omega (arith, in_record c.before)
+overflow_mul-p c = omega (arith, in_record (goal.at.overflow_mul-p c).In-loop-k)
 
 pub overflow_add-p : goal.overflow_add-p
-overflow_add-p c = omega (arith, in_record c.before)
+overflow_add-p c = omega (arith, in_record (goal.at.overflow_add-p c).In-loop-k)
 
 pub overflow_add-count : goal.overflow_add-count
-overflow_add-count c = omega (arith, in_record c.before)
+overflow_add-count c = omega (arith, in_record (goal.at.overflow_add-count c).In-loop-k)
 
 pub offset_bounds-w-p : goal.offset_bounds-w-p
-offset_bounds-w-p c = omega (arith, in_record c.before)
+offset_bounds-w-p c = omega (arith, in_record (goal.at.offset_bounds-w-p c).In-loop-k)
 
 pub bounds-w-p : goal.bounds-w-p
-bounds-w-p c = omega (arith, in_record c.before.before)
+bounds-w-p c = omega (arith, in_record (goal.at.bounds-w-p c).In-loop-k)
 
 pub offset_bounds-w-p-in-loop-k : goal.offset_bounds-w-p-in-loop-k
-offset_bounds-w-p-in-loop-k c = omega (arith, in_record c.before.before)
+offset_bounds-w-p-in-loop-k c = omega (arith, in_record (goal.at.offset_bounds-w-p-in-loop-k c).In-loop-k)
 
 pub bounds-w-p-in-loop-k : goal.bounds-w-p-in-loop-k
-bounds-w-p-in-loop-k c = omega (arith, in_record c.before.before.before)
+bounds-w-p-in-loop-k c = omega (arith, in_record (goal.at.bounds-w-p-in-loop-k c).In-loop-k)
 
 pub overflow_add-from : goal.overflow_add-from
-overflow_add-from c = omega (arith, (in_part c.before.before.before).inside, in_record c.before.before.before)
+overflow_add-from c = omega (arith, (in_part (goal.at.overflow_add-from c).In-loop-k).inside, in_record (goal.at.overflow_add-from c).In-loop-k)
 
 pub list_members-requires : goal.list_members-requires
-list_members-requires c = in_part c.before.before.before.before
+list_members-requires c = in_part (goal.at.list_members-requires c).In-loop-k
 
 pub overflow_add-r : goal.overflow_add-r
-overflow_add-r c = omega (arith, fits c.before.before.before.before.before.before.before, (in_part c.before.before.before.before.before.before.before).inside)
+overflow_add-r c = omega (arith, fits (goal.at.overflow_add-r c).In-loop-k, (in_part (goal.at.overflow_add-r c).In-loop-k).inside)
 
 pub overflow_add-k : goal.overflow_add-k
 overflow_add-k c = omega (arith, c.loop-k-test.true, c.requires.inside)
@@ -94,7 +94,7 @@ loop-k-preserved c =
     c.list_members.new.w c.list_members.ensures
 
 pub shape_of-w : goal.shape_of-w
-shape_of-w c = (listing c.before).size
+shape_of-w c = (listing (goal.at.shape_of-w c).At-loop-k).size
 
 pub returns : goal.returns
 returns c =

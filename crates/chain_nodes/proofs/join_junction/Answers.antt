@@ -31,8 +31,8 @@ overflow_add-n c =
 
 pub put_joins-requires : goal.put_joins-requires
 put_joins-requires c =
-    put_asks c.requires c.list_node-d.ensures c.put_ends.auto.w c.put_ends.ensures c.junction_pairs-r.auto.w c.junction_pairs-r.ensures (fitting c.before.before.before.before.before.before.before.before.before.before.before.before.before.before.before.before)
+    put_asks c.requires c.list_node-d.ensures c.put_ends.auto.w c.put_ends.ensures c.junction_pairs-r.auto.w c.junction_pairs-r.ensures (fitting (goal.at.put_joins-requires c).Start)
 
 pub returns : goal.returns
 returns c =
-    λ J. junction_joined J c.list_node-d.ensures c.put_ends.auto.w c.put_ends.ensures c.junction_pairs-r.auto.w c.junction_pairs-r.ensures (fitting c.before.before.before.before.before.before.before.before.before.before.before.before.before.before.before.before.before.before.before) c.put_joins.ensures
+    λ J. junction_joined J c.list_node-d.ensures c.put_ends.auto.w c.put_ends.ensures c.junction_pairs-r.auto.w c.junction_pairs-r.ensures (fitting (goal.at.returns c).Start) c.put_joins.ensures

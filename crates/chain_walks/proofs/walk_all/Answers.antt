@@ -10,7 +10,7 @@ use Rattle.chain_laws.specs.Table.{head_of}
 use Rattle.chain_walks.specs.Walks.{joins_of, WalksReady}
 use Rattle.chain_walks.proofs.Starts.{Bench, bench_start, bench_skip, bench_done, joins_same, walkable, count_fits, r_fits, walked_size, bench_walk}
 use Rattle.chain_walks.proofs.walk_all.Goals as goal
-use Rattle.chain_walks.proofs.walk_all.Goals.{At-loop-s}
+use Rattle.chain_walks.proofs.walk_all.Goals.{After-walk_on-r, At-loop-s}
 
 -- the state at the loop's test
 bench : (l : At-loop-s) → Bench l.args.w.now l.args.n l.requires l.loop-s.w l.loop-s.s l.loop-s.at l.loop-s.c
@@ -62,44 +62,44 @@ pub offset_bounds-w-n : goal.offset_bounds-w-n
 offset_bounds-w-n c = omega (arith, c.requires.table.small)
 
 pub bounds-w-n : goal.bounds-w-n
-bounds-w-n c = omega (arith, c.requires.room, (bench c.before.before).size, c.loop-s-test.true)
+bounds-w-n c = omega (arith, c.requires.room, (bench (goal.at.bounds-w-n c).At-loop-s).size, c.loop-s-test.true)
 
 pub overflow_mul-n-then-w-n-ne1 : goal.overflow_mul-n-then-w-n-ne1
 overflow_mul-n-then-w-n-ne1 c = omega (arith, c.requires.table.small)
 
 pub slice_bounds-head-end : goal.slice_bounds-head-end
-slice_bounds-head-end c = omega (arith, c.requires.room, (bench c.before.before.before).size)
+slice_bounds-head-end c = omega (arith, c.requires.room, (bench (goal.at.slice_bounds-head-end c).At-loop-s).size)
 
 pub slice_bounds-head-end-then-w-n-ne1 : goal.slice_bounds-head-end-then-w-n-ne1
 slice_bounds-head-end-then-w-n-ne1 c =
-    sym (length-take-le (2 * c.args.n) c.loop-s.w (omega (arith, c.requires.room, (bench c.before.before.before).size)))
+    sym (length-take-le (2 * c.args.n) c.loop-s.w (omega (arith, c.requires.room, (bench (goal.at.slice_bounds-head-end-then-w-n-ne1 c).At-loop-s).size)))
 
 pub head-e-requires : goal.head-e-requires
-head-e-requires c = (rw (same c.before.before.before) c.requires.table, c.loop-s-test.true)
+head-e-requires c = (rw (same (goal.at.head-e-requires c).At-loop-s) c.requires.table, c.loop-s-test.true)
 
 pub walk_on-r-requires : goal.walk_on-r-requires
 walk_on-r-requires c =
-    walkable c.args.w.now c.args.n c.requires c.loop-s.w c.loop-s.s c.loop-s.at c.loop-s.c (bench c.before.before.before.before.before)
+    walkable c.args.w.now c.args.n c.requires c.loop-s.w c.loop-s.s c.loop-s.at c.loop-s.c (bench (goal.at.walk_on-r-requires c).At-loop-s)
     c.loop-s-test.true c.if-w-n-ne1.true c.head-e.result
-    (c.head-e.ensures ∙ ap (λ t. head_of t c.args.n c.loop-s.s) (same c.before.before.before.before.before))
+    (c.head-e.ensures ∙ ap (λ t. head_of t c.args.n c.loop-s.s) (same (goal.at.walk_on-r-requires c).At-loop-s))
 
 pub overflow_mul-w : goal.overflow_mul-w
-overflow_mul-w c = omega (arith, (lent c.before.before).requires.table.small)
+overflow_mul-w c = omega (arith, (lent (goal.at.overflow_mul-w c).After-walk_on-r).pre.table.small)
 
 pub overflow_add-w : goal.overflow_add-w
-overflow_add-w c = omega (arith, (lent c.before.before).requires.table.small, few c.before.before)
+overflow_add-w c = omega (arith, (lent (goal.at.overflow_add-w c).After-walk_on-r).pre.table.small, few (goal.at.overflow_add-w c).After-walk_on-r)
 
 pub offset_bounds-w-n-then-w-n-ne1 : goal.offset_bounds-w-n-then-w-n-ne1
-offset_bounds-w-n-then-w-n-ne1 c = omega (arith, (lent c.before.before).requires.table.small, few c.before.before)
+offset_bounds-w-n-then-w-n-ne1 c = omega (arith, (lent (goal.at.offset_bounds-w-n-then-w-n-ne1 c).After-walk_on-r).pre.table.small, few (goal.at.offset_bounds-w-n-then-w-n-ne1 c).After-walk_on-r)
 
 pub bounds-w-n-then-w-n-ne1 : goal.bounds-w-n-then-w-n-ne1
-bounds-w-n-then-w-n-ne1 c = omega (arith, (lent c.before.before).requires.room, few c.before.before, sized c.before.before)
+bounds-w-n-then-w-n-ne1 c = omega (arith, (lent (goal.at.bounds-w-n-then-w-n-ne1 c).After-walk_on-r).pre.room, few (goal.at.bounds-w-n-then-w-n-ne1 c).After-walk_on-r, sized (goal.at.bounds-w-n-then-w-n-ne1 c).After-walk_on-r)
 
 pub overflow_add-at : goal.overflow_add-at
-overflow_add-at c = omega (arith, (lent c.before.before).requires.table.small, filled c.before.before)
+overflow_add-at c = omega (arith, (lent (goal.at.overflow_add-at c).After-walk_on-r).pre.table.small, filled (goal.at.overflow_add-at c).After-walk_on-r)
 
 pub overflow_add-c : goal.overflow_add-c
-overflow_add-c c = omega (arith, (lent c.before.before).requires.table.small, few c.before.before)
+overflow_add-c c = omega (arith, (lent (goal.at.overflow_add-c c).After-walk_on-r).pre.table.small, few (goal.at.overflow_add-c c).After-walk_on-r)
 
 pub overflow_add-s : goal.overflow_add-s
 overflow_add-s c = omega (arith, c.requires.table.small, c.loop-s-test.true)
@@ -111,15 +111,15 @@ pub loop-s-preserved : goal.loop-s-preserved
 loop-s-preserved c =
     λ y. ⊎_elim
     (λ u. rw (u.7, u.8, u.9)
-    (bench_walk c.args.w.now c.args.n y c.loop-s.w c.loop-s.s c.loop-s.at c.loop-s.c (c.loop-s.invariant y) c.loop-s-test.true u.0.true
-    u.2.result (u.2.ensures ∙ ap (λ t. head_of t c.args.n c.loop-s.s) (same c.before.before.before)) u.4.last.0 u.4.result u.4.ensures))
+    (bench_walk c.args.w.now c.args.n y c.loop-s.w c.loop-s.s c.loop-s.at c.loop-s.c (c.loop-s.invariant y) c.loop-s-test.true u.0.taken
+    u.2.result (u.2.ensures ∙ ap (λ t. head_of t c.args.n c.loop-s.s) (same (goal.at.loop-s-preserved c).At-loop-s)) u.4.last.0 u.4.result u.4.ensures))
     (λ u. rw (u.1, u.2, u.3)
     (bench_skip c.args.w.now c.args.n y c.loop-s.w c.loop-s.s c.loop-s.at c.loop-s.c (c.loop-s.invariant y) c.loop-s-test.true u.0.left))
     c.if-w-n-ne1.branch
 
 pub shape_of-w : goal.shape_of-w
-shape_of-w c = (bench c.before).size
+shape_of-w c = (bench (goal.at.shape_of-w c).At-loop-s).size
 
 pub returns : goal.returns
 returns c =
-    bench_done c.args.w.now c.args.n c.requires c.loop-s.w c.loop-s.s c.loop-s.at c.loop-s.c (bench c.before) c.loop-s-test.false
+    bench_done c.args.w.now c.args.n c.requires c.loop-s.w c.loop-s.s c.loop-s.at c.loop-s.c (bench (goal.at.returns c).At-loop-s) c.loop-s-test.false

@@ -5,6 +5,7 @@ use native.Mathlib.Omega.{arith}
 use lib.ListN.{length, length-set}
 use Rattle.chain_walks.proofs.Go.{Going, going_start, going_done, room, after, after_size, f, f_small, at_free, at_seen, at_next}
 use Rattle.chain_walks.proofs.walk_on.Goals as goal
+use Rattle.chain_walks.proofs.walk_on.Goals.{In-loop-k}
 
 -- in a turn
 module _ (i : tie.In-loop invariant-loop decreases-loop) where
@@ -72,7 +73,7 @@ pub bounds-w-e : goal.bounds-w-e
 bounds-w-e c = simp length-set (omega (arith, c.requires.room, c.loop-k.invariant.size, c.loop-k.invariant.low))
 
 pub shape_of-w-then-f-eq0 : goal.shape_of-w-then-f-eq0
-shape_of-w-then-f-eq0 c = sized c.before.before
+shape_of-w-then-f-eq0 c = sized (goal.at.shape_of-w-then-f-eq0 c).In-loop-k
 
 pub returns-then-f-eq0 : goal.returns-then-f-eq0
 returns-then-f-eq0 c =
@@ -85,16 +86,16 @@ pub overflow_mul-n : goal.overflow_mul-n
 overflow_mul-n c = omega (arith, c.requires.table.small)
 
 pub overflow_add-n : goal.overflow_add-n
-overflow_add-n c = omega (arith, c.requires.table.small, named c.before.before)
+overflow_add-n c = omega (arith, c.requires.table.small, named (goal.at.overflow_add-n c).In-loop-k)
 
 pub offset_bounds-w-n-in-loop-k-2 : goal.offset_bounds-w-n-in-loop-k-2
-offset_bounds-w-n-in-loop-k-2 c = omega (arith, c.requires.table.small, named c.before.before)
+offset_bounds-w-n-in-loop-k-2 c = omega (arith, c.requires.table.small, named (goal.at.offset_bounds-w-n-in-loop-k-2 c).In-loop-k)
 
 pub bounds-w-n-in-loop-k-2 : goal.bounds-w-n-in-loop-k-2
-bounds-w-n-in-loop-k-2 c = omega (arith, c.requires.room, named c.before.before.before, sized c.before.before.before, c.if-f-eq0.false)
+bounds-w-n-in-loop-k-2 c = omega (arith, c.requires.room, named (goal.at.bounds-w-n-in-loop-k-2 c).In-loop-k, sized (goal.at.bounds-w-n-in-loop-k-2 c).In-loop-k, c.if-f-eq0.false)
 
 pub shape_of-w-then-w-n-eq1 : goal.shape_of-w-then-w-n-eq1
-shape_of-w-then-w-n-eq1 c = sized c.before.before.before.before
+shape_of-w-then-w-n-eq1 c = sized (goal.at.shape_of-w-then-w-n-eq1 c).In-loop-k
 
 pub returns-then-w-n-eq1 : goal.returns-then-w-n-eq1
 returns-then-w-n-eq1 c =

@@ -13,6 +13,7 @@ use Rattle.check_places.specs.Places.{number_stands, alike_at, Advanced}
 use Rattle.check_places.proofs.Stretching.{alike_right}
 use Rattle.check_places.proofs.Scanning.{no_better, scan_on, scan_better}
 use Rattle.check_places.proofs.scan_next.Goals as goal
+use Rattle.check_places.proofs.scan_next.Goals.{After-struct_known-1}
 
 -- where the place isn't better, as many of the line's points stand there as of those at the best place
 told : (c : lts.Else1 (alike_reads.Asked, alike_reads.Learnt, better_reads.Asked, better_reads.Learnt, scan_first_reads.Asked, scan_first_reads.Learnt) reads.Pre reads.Post)
@@ -62,7 +63,7 @@ returns-then-s-i c =
     (λ (m : ℕ). Advanced a.width a.chain.now a.line.now a.turned (set a.near.now (a.i - a.s.best) m) a.s
     (record { here = m; best = a.s.best; points = a.s.points; whole = a.s.whole; x = a.s.x; y = a.s.y; low = a.i; high = a.i + m }) a.i)
     (sym n.ensures)
-    (scan_on a.width a.chain.now a.line.now a.turned c.requires.0 a.near.now a.s a.i y a.i _ (inl (refl, refl)) (told c.before.before.before))
+    (scan_on a.width a.chain.now a.line.now a.turned c.requires.0 a.near.now a.s a.i y a.i _ (inl (refl, refl)) (told (goal.at.returns-then-s-i c).After-struct_known-1))
 
 pub returns-else-s-i : goal.returns-else-s-i
 returns-else-s-i c =
@@ -73,4 +74,4 @@ returns-else-s-i c =
     (λ (m : ℕ). Advanced a.width a.chain.now a.line.now a.turned (set a.near.now (a.i - a.s.best) m) a.s
     (record { here = m; best = a.s.best; points = a.s.points; whole = a.s.whole; x = a.s.x; y = a.s.y; low = a.s.low; high = a.s.high }) a.i)
     (sym n.ensures)
-    (scan_on a.width a.chain.now a.line.now a.turned c.requires.0 a.near.now a.s a.i y a.s.low a.s.high (inr (refl, refl)) (told c.before.before.before))
+    (scan_on a.width a.chain.now a.line.now a.turned c.requires.0 a.near.now a.s a.i y a.s.low a.s.high (inr (refl, refl)) (told (goal.at.returns-else-s-i c).After-struct_known-1))

@@ -10,7 +10,7 @@ upper : (c : Else-t-lt0) → Plain c.args.t
 upper c = plain c.args.t c.ranges.t c.if-t-lt0.false
 
 pub overflow_sub-result : goal.overflow_sub-result
-overflow_sub-result c = (lower c).true
+overflow_sub-result c = (lower c).taken
 
 pub overflow_cast-result : goal.overflow_cast-result
 overflow_cast-result c = (lower c).cast

@@ -59,7 +59,7 @@ pub loop-i-preserved : goal.loop-i-preserved
 loop-i-preserved c =
     let p = c.loop-i.invariant in
     let h = c.loop-i-test.true in
-    ⊎_elim (λ w. moved (taken p h w.0.true) w.1 w.2) (λ w. moved (passed_by_lem p h w.0.left) w.1 w.2) c.if-trial-next.branch
+    ⊎_elim (λ w. moved (taken p h w.0.taken) w.1 w.2) (λ w. moved (passed_by_lem p h w.0.left) w.1 w.2) c.if-trial-next.branch
 
 pub returns : goal.returns
 returns c = ended c.args.g c.loop-i.invariant c.loop-i-test.false

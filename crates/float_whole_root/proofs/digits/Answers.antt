@@ -42,7 +42,7 @@ pub loop-i-preserved : goal.loop-i-preserved
 loop-i-preserved c =
     let p = c.loop-i.invariant in
     let h = c.loop-i-test.true in
-    ⊎_elim (λ w. moved (taken p h w.0.true) w.1 w.2) (λ w. moved (passed_by_lem p h w.0.left) w.1 w.2) c.if-trial-next.branch
+    ⊎_elim (λ w. moved (taken p h w.0.taken) w.1 w.2) (λ w. moved (passed_by_lem p h w.0.left) w.1 w.2) c.if-trial-next.branch
 
 pub overflow_add-result : goal.overflow_add-result
 overflow_add-result c = omega (arith, small c.loop-i.invariant)

@@ -36,13 +36,13 @@ pub returns-then-frame_at : goal.returns-then-frame_at
 returns-then-frame_at c = frame_refused _ _ _ c.requires.0 c.frame_at.ensures c.if-frame_at.true
 
 pub one_at-requires : goal.one_at-requires
-one_at-requires c = one_asked c.before
+one_at-requires c = one_asked (goal.at.one_at-requires c).Then-pieces-q-eq1
 
 pub returns-then-pieces-q-eq1 : goal.returns-then-pieces-q-eq1
-returns-then-pieces-q-eq1 c = c.one_at.ensures (one_asked c.before.before)
+returns-then-pieces-q-eq1 c = c.one_at.ensures (one_asked (goal.at.returns-then-pieces-q-eq1 c).Then-pieces-q-eq1)
 
 pub more_at-requires : goal.more_at-requires
-more_at-requires c = more_asked c.before
+more_at-requires c = more_asked (goal.at.more_at-requires c).Else-pieces-q-eq1
 
 pub returns : goal.returns
-returns c = c.more_at.ensures (more_asked c.before.before)
+returns c = c.more_at.ensures (more_asked (goal.at.returns c).Else-pieces-q-eq1)

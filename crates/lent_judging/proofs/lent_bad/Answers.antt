@@ -29,7 +29,7 @@ pub nonzero_div-pieces : goal.nonzero_div-pieces
 nonzero_div-pieces c = omega arith
 
 pub returns-then-pieces-k : goal.returns-then-pieces-k
-returns-then-pieces-k c = records_leave c.args.width (lines_of c.before.before.before.before.before.before.before.before.before.before) (pieces_of c.before.before.before.before.before.before.before.before.before.before) (omega arith)
+returns-then-pieces-k c = records_leave c.args.width (lines_of (goal.at.returns-then-pieces-k c).Start) (pieces_of (goal.at.returns-then-pieces-k c).Start) (omega arith)
 
 pub place_lines-c-requires : goal.place_lines-c-requires
 place_lines-c-requires c = (refl, c.requires.tabled.few, c.requires.small)
@@ -38,10 +38,10 @@ pub overflow_cast-c : goal.overflow_cast-c
 overflow_cast-c c = omega (arith, c.place_lines-c.ensures.0, c.requires.small)
 
 pub clean_front-clean-requires : goal.clean_front-clean-requires
-clean_front-clean-requires c = (c.requires.two, c.requires.four, inside c.before.before)
+clean_front-clean-requires c = (c.requires.two, c.requires.four, inside (goal.at.clean_front-clean-requires c).Else-pieces-k)
 
 pub loop-q-init : goal.loop-q-init
-loop-q-init c = (omega arith, counted_start c.args.width (lines_of c.before.before.before.before.before.before.before.before.before.before.before.before.before) (pieces_of c.before.before.before.before.before.before.before.before.before.before.before.before.before), sum_start c.args.width (lines_of c.before.before.before.before.before.before.before.before.before.before.before.before.before) (pieces_of c.before.before.before.before.before.before.before.before.before.before.before.before.before), omega arith)
+loop-q-init c = (omega arith, counted_start c.args.width (lines_of (goal.at.loop-q-init c).Start) (pieces_of (goal.at.loop-q-init c).Start), sum_start c.args.width (lines_of (goal.at.loop-q-init c).Start) (pieces_of (goal.at.loop-q-init c).Start), omega arith)
 
 pub judge-requires : goal.judge-requires
 judge-requires c = (record { sized = c.requires; inside = omega arith; below = omega arith; places_long = c.place_lines-c.ensures.1; placed = c.place_lines-c.ensures.2; counted = c.loop-q.invariant.1 }, clean_told _ _ _ c.requires.two c.clean_front-clean.ensures)
@@ -50,13 +50,13 @@ pub returns-then-judge : goal.returns-then-judge
 returns-then-judge c = piece_refused _ _ _ c.judge.ensures c.if-judge.true
 
 pub overflow_mul-sum : goal.overflow_mul-sum
-overflow_mul-sum c = omega (arith, inside c.before.before.before.before.before.before.before.before.before, short c.before.before.before.before.before.before.before.before.before, c.loop-q-test.true)
+overflow_mul-sum c = omega (arith, inside (goal.at.overflow_mul-sum c).Else-pieces-k, short (goal.at.overflow_mul-sum c).Else-pieces-k, c.loop-q-test.true)
 
 pub overflow_add-sum : goal.overflow_add-sum
-overflow_add-sum c = omega (arith, inside c.before.before.before.before.before.before.before.before.before, short c.before.before.before.before.before.before.before.before.before, c.loop-q-test.true)
+overflow_add-sum c = omega (arith, inside (goal.at.overflow_add-sum c).Else-pieces-k, short (goal.at.overflow_add-sum c).Else-pieces-k, c.loop-q-test.true)
 
 pub offset_bounds-pieces-q : goal.offset_bounds-pieces-q
-offset_bounds-pieces-q c = omega (arith, inside c.before.before.before.before.before.before.before.before.before, short c.before.before.before.before.before.before.before.before.before, c.loop-q-test.true)
+offset_bounds-pieces-q c = omega (arith, inside (goal.at.offset_bounds-pieces-q c).Else-pieces-k, short (goal.at.offset_bounds-pieces-q c).Else-pieces-k, c.loop-q-test.true)
 
 pub bounds-pieces-q : goal.bounds-pieces-q
 bounds-pieces-q c = omega arith
@@ -77,10 +77,10 @@ pub loop-q-smaller : goal.loop-q-smaller
 loop-q-smaller c = omega arith
 
 pub loop-q-preserved : goal.loop-q-preserved
-loop-q-preserved c = (omega arith, c.judge.ensures.passed c.if-judge.false, sum_next c.args.width (lines_of c.before.before.before.before.before.before.before.before.before.before.before.before.before.before.before.before.before.before.before.before.before) (pieces_of c.before.before.before.before.before.before.before.before.before.before.before.before.before.before.before.before.before.before.before.before.before) c.loop-q.q c.loop-q.sum c.loop-q.invariant.2, c.if-c-sum.false)
+loop-q-preserved c = (omega arith, c.judge.ensures.passed c.if-judge.false, sum_next c.args.width (lines_of (goal.at.loop-q-preserved c).Start) (pieces_of (goal.at.loop-q-preserved c).Start) c.loop-q.q c.loop-q.sum c.loop-q.invariant.2, c.if-c-sum.false)
 
 pub all_noted-requires : goal.all_noted-requires
 all_noted-requires c = (c.loop-q.invariant.1.long, c.requires.tabled.few, c.requires.tabled.kinds_long)
 
 pub returns : goal.returns
-returns c = all_judged c.args.width (lines_of c.before.before.before.before.before.before.before.before.before.before.before.before.before.before.before.before.before) (pieces_of c.before.before.before.before.before.before.before.before.before.before.before.before.before.before.before.before.before) c.all_noted.result c.requires c.loop-q.invariant.1 (omega arith) (inside c.before.before.before.before.before.before.before) (omega (arith, c.loop-q.invariant.2, c.loop-q.invariant.3, c.place_lines-c.ensures.0)) c.all_noted.ensures
+returns c = all_judged c.args.width (lines_of (goal.at.returns c).Start) (pieces_of (goal.at.returns c).Start) c.all_noted.result c.requires c.loop-q.invariant.1 (omega arith) (inside (goal.at.returns c).Else-pieces-k) (omega (arith, c.loop-q.invariant.2, c.loop-q.invariant.3, c.place_lines-c.ensures.0)) c.all_noted.ensures

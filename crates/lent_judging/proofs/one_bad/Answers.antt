@@ -20,7 +20,7 @@ pub returns-then-not-is_fresh : goal.returns-then-not-is_fresh
 returns-then-not-is_fresh c = let s = c.args in one_refuse (λ t. stale s.seen.now s.counts.now s.kinds.now s.line c.is_fresh.ensures (not-true _ c.if-not-is_fresh.true) t.low t.plain t.unmet)
 
 pub bounds-seen-y : goal.bounds-seen-y
-bounds-seen-y c = omega (arith, (met c.before).0, c.requires.1.few)
+bounds-seen-y c = omega (arith, (met (goal.at.bounds-seen-y c).Else-not-is_fresh).0, c.requires.1.few)
 
 pub returns-then-listed-line : goal.returns-then-listed-line
 returns-then-listed-line c = one_refuse (λ t. c.if-listed-line.true t.same)
@@ -32,13 +32,13 @@ pub returns-then-source-ne0 : goal.returns-then-source-ne0
 returns-then-source-ne0 c = one_refuse (λ t. c.if-source-ne0.true t.input)
 
 pub bounds-places-y : goal.bounds-places-y
-bounds-places-y c = omega (arith, (met c.before.before.before.before.before).0, c.requires.1.few)
+bounds-places-y c = omega (arith, (met (goal.at.bounds-places-y c).Else-not-is_fresh).0, c.requires.1.few)
 
 pub returns-then-point-places : goal.returns-then-point-places
-returns-then-point-places c = one_refuse (λ t. c.if-point-places.true (t.first ∙ sym (c.requires.1.placed c.args.line (met c.before.before.before.before.before.before.before).0)))
+returns-then-point-places c = one_refuse (λ t. c.if-point-places.true (t.first ∙ sym (c.requires.1.placed c.args.line (met (goal.at.returns-then-point-places c).Else-not-is_fresh).0)))
 
 pub bounds-counts-y : goal.bounds-counts-y
-bounds-counts-y c = (met c.before.before.before.before.before.before.before.before).0
+bounds-counts-y c = (met (goal.at.bounds-counts-y c).Else-not-is_fresh).0
 
 pub returns : goal.returns
-returns c = one_told (met c.before.before.before.before.before.before.before.before) c.if-listed-line.false c.if-mark-gt1.false c.if-source-ne0.false (c.if-point-places.false ∙ c.requires.1.placed c.args.line (met c.before.before.before.before.before.before.before.before).0)
+returns c = one_told (met (goal.at.returns c).Else-not-is_fresh) c.if-listed-line.false c.if-mark-gt1.false c.if-source-ne0.false (c.if-point-places.false ∙ c.requires.1.placed c.args.line (met (goal.at.returns c).Else-not-is_fresh).0)

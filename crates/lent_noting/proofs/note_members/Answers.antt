@@ -35,7 +35,7 @@ pub offset_bounds-groups-y : goal.offset_bounds-groups-y
 offset_bounds-groups-y c = omega (arith, low c)
 
 pub bounds-groups-y : goal.bounds-groups-y
-bounds-groups-y c = omega (arith, low c.before, c.requires.1.groups_long)
+bounds-groups-y c = omega (arith, low (goal.at.bounds-groups-y c).Else-not-is_fresh, c.requires.1.groups_long)
 
 pub returns-then-groups-y : goal.returns-then-groups-y
 returns-then-groups-y c = record { fit = λ e. absurd (true≢false (sym e)); risen = λ e. absurd (true≢false (sym e)); unfit = λ e. noting_mixed c.loop-i.invariant.1 c.requires.1.few (omega arith) c.if-groups-y.true }
@@ -47,10 +47,10 @@ pub returns-then-marks-i-gt1 : goal.returns-then-marks-i-gt1
 returns-then-marks-i-gt1 c = record { fit = λ e. absurd (true≢false (sym e)); risen = λ e. absurd (true≢false (sym e)); unfit = λ e. noting_above c.loop-i.invariant.1 c.requires.1.few (omega arith) c.requires.2 c.if-marks-i-gt1.true }
 
 pub overflow_cast-seen : goal.overflow_cast-seen
-overflow_cast-seen c = omega (arith, low c.before.before.before.before)
+overflow_cast-seen c = omega (arith, low (goal.at.overflow_cast-seen c).Else-not-is_fresh)
 
 pub bounds-seen-y : goal.bounds-seen-y
-bounds-seen-y c = omega (arith, low c.before.before.before.before.before, c.requires.1.few)
+bounds-seen-y c = omega (arith, low (goal.at.bounds-seen-y c).Else-not-is_fresh, c.requires.1.few)
 
 pub overflow_add-i : goal.overflow_add-i
 overflow_add-i c = omega arith

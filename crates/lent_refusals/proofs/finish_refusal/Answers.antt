@@ -36,37 +36,37 @@ abbrev refused : Start → ℕ
 refused s = finish_refusal_of s.args.wkb-type (lines_of s) (pieces_of s) s.args.settings (rooms_of s)
 
 -- the tests that both calls begin with don't hold, nor then the origin's
-left1 : (c : Else-refused-ne0) → Left (refused c.before.before.before.before.before.before.before.before.before.before.before.before.before.before.before.before.before.before) (rest c.before.before.before.before.before.before.before.before.before.before.before.before.before.before.before.before.before.before)
+left1 : (c : Else-refused-ne0) → Left (refused (goal.at.Else-refused-ne0 c).Start) (rest (goal.at.Else-refused-ne0 c).Start)
 left1 c =
-    climbed (begun c.before.before.before.before.before.before.before.before.before.before.before.before.before.before.before.before.before.before) (rest c.before.before.before.before.before.before.before.before.before.before.before.before.before.before.before.before.before.before) (finish_opened c.args.wkb-type (lines_of c.before.before.before.before.before.before.before.before.before.before.before.before.before.before.before.before.before.before) (pieces_of c.before.before.before.before.before.before.before.before.before.before.before.before.before.before.before.before.before.before) c.args.settings (rooms_of c.before.before.before.before.before.before.before.before.before.before.before.before.before.before.before.before.before.before))
-    (calls_numbered c.args.wkb-type (lines_of c.before.before.before.before.before.before.before.before.before.before.before.before.before.before.before.before.before.before) c.args.settings.switch c.args.settings.limit) c.call_refusal-refused.ensures c.if-refused-ne0.false
+    climbed (begun (goal.at.Else-refused-ne0 c).Start) (rest (goal.at.Else-refused-ne0 c).Start) (finish_opened c.args.wkb-type (lines_of (goal.at.Else-refused-ne0 c).Start) (pieces_of (goal.at.Else-refused-ne0 c).Start) c.args.settings (rooms_of (goal.at.Else-refused-ne0 c).Start))
+    (calls_numbered c.args.wkb-type (lines_of (goal.at.Else-refused-ne0 c).Start) c.args.settings.switch c.args.settings.limit) c.call_refusal-refused.ensures c.if-refused-ne0.false
 
-left2 : (c : Else-origin_bad) → (Left (refused c.before.before.before.before.before.before.before.before.before.before.before.before.before.before.before.before.before.before.before.before) ((19, lent_bad (width_of c.args.wkb-type) (lines_of c.before.before.before.before.before.before.before.before.before.before.before.before.before.before.before.before.before.before.before.before) (pieces_of c.before.before.before.before.before.before.before.before.before.before.before.before.before.before.before.before.before.before.before.before)) ∷ (7, finish_short (lines_of c.before.before.before.before.before.before.before.before.before.before.before.before.before.before.before.before.before.before.before.before) (rooms_of c.before.before.before.before.before.before.before.before.before.before.before.before.before.before.before.before.before.before.before.before)) ∷ []))
-left2 c = rung (left1 c.before.before) (sym c.origin_bad.ensures ∙ c.if-origin_bad.false)
+left2 : (c : Else-origin_bad) → (Left (refused (goal.at.Else-origin_bad c).Start) ((19, lent_bad (width_of c.args.wkb-type) (lines_of (goal.at.Else-origin_bad c).Start) (pieces_of (goal.at.Else-origin_bad c).Start)) ∷ (7, finish_short (lines_of (goal.at.Else-origin_bad c).Start) (rooms_of (goal.at.Else-origin_bad c).Start)) ∷ []))
+left2 c = rung (left1 (goal.at.Else-origin_bad c).Else-refused-ne0) (sym c.origin_bad.ensures ∙ c.if-origin_bad.false)
 
-admitted : (c : Else-refused-ne0) → LinesAdmitted c.args.wkb-type (lines_of c.before.before.before.before.before.before.before.before.before.before.before.before.before.before.before.before.before.before)
+admitted : (c : Else-refused-ne0) → LinesAdmitted c.args.wkb-type (lines_of (goal.at.Else-refused-ne0 c).Start)
 admitted c =
-    (call_admitted c.args.wkb-type (lines_of c.before.before.before.before.before.before.before.before.before.before.before.before.before.before.before.before.before.before) c.args.settings.switch c.args.settings.limit (record { is = sym c.if-refused-ne0.false ∙ c.call_refusal-refused.ensures })).0
+    (call_admitted c.args.wkb-type (lines_of (goal.at.Else-refused-ne0 c).Start) c.args.settings.switch c.args.settings.limit (record { is = sym c.if-refused-ne0.false ∙ c.call_refusal-refused.ensures })).0
 
 pub returns-then-refused-ne0 : goal.returns-then-refused-ne0
-returns-then-refused-ne0 c = stayed (begun c.before.before.before.before.before.before.before.before.before.before.before.before.before.before.before.before.before.before) (rest c.before.before.before.before.before.before.before.before.before.before.before.before.before.before.before.before.before.before) (finish_opened c.args.wkb-type (lines_of c.before.before.before.before.before.before.before.before.before.before.before.before.before.before.before.before.before.before) (pieces_of c.before.before.before.before.before.before.before.before.before.before.before.before.before.before.before.before.before.before) c.args.settings (rooms_of c.before.before.before.before.before.before.before.before.before.before.before.before.before.before.before.before.before.before)) c.call_refusal-refused.ensures c.if-refused-ne0.true
+returns-then-refused-ne0 c = stayed (begun (goal.at.returns-then-refused-ne0 c).Start) (rest (goal.at.returns-then-refused-ne0 c).Start) (finish_opened c.args.wkb-type (lines_of (goal.at.returns-then-refused-ne0 c).Start) (pieces_of (goal.at.returns-then-refused-ne0 c).Start) c.args.settings (rooms_of (goal.at.returns-then-refused-ne0 c).Start)) c.call_refusal-refused.ensures c.if-refused-ne0.true
 
 pub returns-then-origin_bad : goal.returns-then-origin_bad
-returns-then-origin_bad c = halt (left1 c.before.before) (sym c.origin_bad.ensures ∙ c.if-origin_bad.true)
+returns-then-origin_bad c = halt (left1 (goal.at.returns-then-origin_bad c).Else-refused-ne0) (sym c.origin_bad.ensures ∙ c.if-origin_bad.true)
 
 pub lent_bad-bad-requires : goal.lent_bad-bad-requires
-lent_bad-bad-requires c = sized c.args.wkb-type c.width_of.result (lines_of c.before.before.before.before.before.before.before.before.before.before.before.before.before.before.before.before.before.before.before.before.before) (admitted c.before.before.before) c.width_of.ensures.0 c.width_of.ensures.1
+lent_bad-bad-requires c = sized c.args.wkb-type c.width_of.result (lines_of (goal.at.lent_bad-bad-requires c).Start) (admitted (goal.at.lent_bad-bad-requires c).Else-refused-ne0) c.width_of.ensures.0 c.width_of.ensures.1
 
 pub rest_short-requires : goal.rest_short-requires
-rest_short-requires c = (admitted c.before.before.before.before).few
+rest_short-requires c = (admitted (goal.at.rest_short-requires c).Else-refused-ne0).few
 
 pub room_short-short-requires : goal.room_short-short-requires
-room_short-short-requires c = ((admitted c.before.before.before.before.before).few, omega arith)
+room_short-short-requires c = ((admitted (goal.at.room_short-short-requires c).Else-refused-ne0).few, omega arith)
 
 pub returns : goal.returns
 returns c =
-    let l = lines_of c.before.before.before.before.before.before.before.before.before.before.before.before.before.before.before.before.before.before.before.before.before.before.before.before.before in
-    let o = rooms_of c.before.before.before.before.before.before.before.before.before.before.before.before.before.before.before.before.before.before.before.before.before.before.before.before.before in
-    last_two (left2 c.before.before.before.before.before) (c.lent_bad-bad.ensures ∙ ap (λ (w : ℕ). lent_bad w l (pieces_of c.before.before.before.before.before.before.before.before.before.before.before.before.before.before.before.before.before.before.before.before.before.before.before.before.before)) c.width_of.ensures.0)
+    let l = lines_of (goal.at.returns c).Start in
+    let o = rooms_of (goal.at.returns c).Start in
+    last_two (left2 (goal.at.returns c).Else-origin_bad) (c.lent_bad-bad.ensures ∙ ap (λ (w : ℕ). lent_bad w l (pieces_of (goal.at.returns c).Start)) c.width_of.ensures.0)
     (c.room_short-short.ensures ∙ ap (rooms_short (length l.counts) record_size (length l.coordinates) (length o.table) (length o.members) (length o.marks) (length o.listing) (length o.merged)) c.rest_short.ensures)
     c.last_refusal.ensures

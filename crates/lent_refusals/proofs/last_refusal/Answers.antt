@@ -10,10 +10,10 @@ all : (s : Start) → Left (first_of ((19, s.args.bad) ∷ (7, s.args.short) ∷
 all s = record { is = refl }
 
 pub returns-then-bad : goal.returns-then-bad
-returns-then-bad c = halt (all c.before) c.if-bad.true
+returns-then-bad c = halt (all (goal.at.returns-then-bad c).Start) c.if-bad.true
 
 pub returns-then-short : goal.returns-then-short
-returns-then-short c = halt (rung (all c.before.before) c.if-bad.false) c.if-short.true
+returns-then-short c = halt (rung (all (goal.at.returns-then-short c).Start) c.if-bad.false) c.if-short.true
 
 pub returns : goal.returns
-returns c = top (rung (rung (all c.before.before) c.if-bad.false) c.if-short.false)
+returns c = top (rung (rung (all (goal.at.returns c).Start) c.if-bad.false) c.if-short.false)

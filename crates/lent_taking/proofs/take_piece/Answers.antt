@@ -25,7 +25,7 @@ pub overflow_cast-pieces-3 : goal.overflow_cast-pieces-3
 overflow_cast-pieces-3 c = omega (arith, c.shared_slice_known-9-1.given (c.args.q * 5 + 4))
 
 pub take_numbers-requires-2 : goal.take_numbers-requires-2
-take_numbers-requires-2 c = omega (arith, cut_long (first c.before.before.before.before.before.before.before.before.before.before.before.before.before.before.before.before.before.before.before.before.before.before.before.before.before.before) (count c.before.before.before.before.before.before.before.before.before.before.before.before.before.before.before.before.before.before.before.before.before.before.before.before.before.before) c.args.listing.now c.requires.inside.listing_in, c.requires.room, c.requires.members_fit, c.take_marks.auto.w, c.take_numbers.auto.w, c.put_record.auto.w)
+take_numbers-requires-2 c = omega (arith, cut_long (first (goal.at.take_numbers-requires-2 c).Start) (count (goal.at.take_numbers-requires-2 c).Start) c.args.listing.now c.requires.inside.listing_in, c.requires.room, c.requires.members_fit, c.take_marks.auto.w, c.take_numbers.auto.w, c.put_record.auto.w)
 
 pub shape_of-w : goal.shape_of-w
 shape_of-w c = c.take_numbers-2.auto.w ∙ c.take_marks.auto.w ∙ c.take_numbers.auto.w ∙ c.put_record.auto.w
@@ -38,7 +38,7 @@ returns c =
       two = c.take_numbers.new.w;
       three = c.take_marks.new.w;
       row = c.put_record.ensures;
-      listed = cut_holds (first c.before.before.before.before.before.before.before.before.before.before.before.before.before.before.before.before.before.before.before.before.before.before.before.before.before.before.before.before.before) (count c.before.before.before.before.before.before.before.before.before.before.before.before.before.before.before.before.before.before.before.before.before.before.before.before.before.before.before.before.before) c.args.members.now c.requires.inside.members_in c.take_numbers.ensures;
-      turned = cut_holds (first c.before.before.before.before.before.before.before.before.before.before.before.before.before.before.before.before.before.before.before.before.before.before.before.before.before.before.before.before.before) (count c.before.before.before.before.before.before.before.before.before.before.before.before.before.before.before.before.before.before.before.before.before.before.before.before.before.before.before.before.before) c.args.marks.now c.requires.inside.marks_in c.take_marks.ensures;
-      passed = cut_holds (first c.before.before.before.before.before.before.before.before.before.before.before.before.before.before.before.before.before.before.before.before.before.before.before.before.before.before.before.before.before) (count c.before.before.before.before.before.before.before.before.before.before.before.before.before.before.before.before.before.before.before.before.before.before.before.before.before.before.before.before.before) c.args.listing.now c.requires.inside.listing_in c.take_numbers-2.ensures;
+      listed = cut_holds (first (goal.at.returns c).Start) (count (goal.at.returns c).Start) c.args.members.now c.requires.inside.members_in c.take_numbers.ensures;
+      turned = cut_holds (first (goal.at.returns c).Start) (count (goal.at.returns c).Start) c.args.marks.now c.requires.inside.marks_in c.take_marks.ensures;
+      passed = cut_holds (first (goal.at.returns c).Start) (count (goal.at.returns c).Start) c.args.listing.now c.requires.inside.listing_in c.take_numbers-2.ensures;
     }

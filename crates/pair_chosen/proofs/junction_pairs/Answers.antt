@@ -11,7 +11,7 @@ fitting : (s : Start) → T (fits binary64 s.args.limit)
 fitting s = search rules
 
 pub indexed-requires : goal.indexed-requires
-indexed-requires c = asks c.args.limit c.requires.0 (fitting c.before.before.before.before.before.before) c.requires.1 c.requires.2 c.all_finite.ensures (not-false _ c.if-not-all_finite.false) c.key.ensures
+indexed-requires c = asks c.args.limit c.requires.0 (fitting (goal.at.indexed-requires c).Start) c.requires.1 c.requires.2 c.all_finite.ensures (not-false _ c.if-not-all_finite.false) c.key.ensures
 
 pub returns : goal.returns
 returns c = rw c.key.ensures at c.indexed.ensures

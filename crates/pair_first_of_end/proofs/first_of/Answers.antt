@@ -34,33 +34,33 @@ After c = Walk c.args.w.now c.args.d c.args.limit c.args.i c.loop-next.near (c.l
 
 marked : (c : In-loop-next) → (mark c ≡ 0 → ⊥) → After c
 marked c = (let a = c.args in
-    walk_marked a.w.now a.d a.limit a.i c.requires (limit_fits c.before.before.before.before.before.before.before) c.loop-next.near c.loop-next.next c.loop-next.invariant c.loop-next-test.true)
+    walk_marked a.w.now a.d a.limit a.i c.requires (limit_fits (goal.at.In-loop-next c).Start) c.loop-next.near c.loop-next.next c.loop-next.invariant c.loop-next-test.true)
 
 farther : (c : In-loop-next) → closer_to c.loop-next.near (measured c) ≡ false → After c
 farther c = (let a = c.args in
-    walk_farther a.w.now a.d a.limit a.i c.requires (limit_fits c.before.before.before.before.before.before.before) c.loop-next.near c.loop-next.next c.loop-next.invariant c.loop-next-test.true)
+    walk_farther a.w.now a.d a.limit a.i c.requires (limit_fits (goal.at.In-loop-next c).Start) c.loop-next.near c.loop-next.next c.loop-next.invariant c.loop-next-test.true)
 
 same_piece : (c : In-loop-next)
     → piece_at c.args.w.now c.args.d c.loop-next.next ≡ piece_at c.args.w.now c.args.d c.args.i
     → After c
 same_piece c = (let a = c.args in
-    walk_same a.w.now a.d a.limit a.i c.requires (limit_fits c.before.before.before.before.before.before.before) c.loop-next.near c.loop-next.next c.loop-next.invariant c.loop-next-test.true)
+    walk_same a.w.now a.d a.limit a.i c.requires (limit_fits (goal.at.In-loop-next c).Start) c.loop-next.near c.loop-next.next c.loop-next.invariant c.loop-next-test.true)
 
 -- the test of nearness, and the measure, are those of the two ends
-told : (c : After-closer) → closer_to c.loop-next.near (measured c.before.before.before.before) ≡ c.closer.result
+told : (c : After-closer) → closer_to c.loop-next.near (measured (goal.at.After-closer c).In-loop-next) ≡ c.closer.result
 told c = sym (c.closer.ensures ∙ ap₂ (λ (x y : Direction). closer_to c.loop-next.near (measure_of x y)) c.toward-a.ensures c.toward-b.ensures)
 
-found : (c : After-measure-m) → c.measure-m.result ≡ measured c.before.before.before.before.before.before.before.before
+found : (c : After-measure-m) → c.measure-m.result ≡ measured (goal.at.After-measure-m c).In-loop-next
 found c = c.measure-m.ensures ∙ ap₂ measure_of c.toward-a.ensures c.toward-b.ensures
 
 nearer : (c : After-measure-m)
-    → (Walk c.args.w.now c.args.d c.args.limit c.args.i (record { measure = measured c.before.before.before.before.before.before.before.before; partner = c.loop-next.next }) (c.loop-next.next + 1))
+    → (Walk c.args.w.now c.args.d c.args.limit c.args.i (record { measure = measured (goal.at.After-measure-m c).In-loop-next; partner = c.loop-next.next }) (c.loop-next.next + 1))
 nearer c =
     let a = c.args in
-    walk_nearer a.w.now a.d a.limit a.i c.requires (limit_fits c.before.before.before.before.before.before.before.before.before.before.before.before.before.before.before) c.loop-next.near c.loop-next.next c.loop-next.invariant c.loop-next-test.true
+    walk_nearer a.w.now a.d a.limit a.i c.requires (limit_fits (goal.at.After-measure-m c).Start) c.loop-next.near c.loop-next.next c.loop-next.invariant c.loop-next-test.true
     c.if-w-d-ne0.false
     c.if-w-d-ne0-2.false
-    (told c.before.before.before.before ∙ not-false c.closer.result c.if-not-closer.false)
+    (told (goal.at.After-measure-m c).After-closer ∙ not-false c.closer.result c.if-not-closer.false)
     (λ e. c.if-piece_at-piece.false (c.piece_at.ensures ∙ e ∙ sym c.piece_at-piece.ensures))
 
 -- ---- the needs
@@ -73,13 +73,13 @@ pub toward-a-requires : goal.toward-a-requires
 toward-a-requires c = (((c.requires.room, c.requires.row), c.requires.free c.args.i c.requires.row c.if-w-d-ne0.false))
 
 pub loop-next-init : goal.loop-next-init
-loop-next-init c = (walk_start c.args.w.now c.args.d c.args.limit c.args.i c.requires (limit_fits c.before.before.before.before.before))
+loop-next-init c = (walk_start c.args.w.now c.args.d c.args.limit c.args.i c.requires (limit_fits (goal.at.loop-next-init c).Start))
 
 pub loop-next-smaller-then-w-d-ne0-2 : goal.loop-next-smaller-then-w-d-ne0-2
 loop-next-smaller-then-w-d-ne0-2 c = omega arith
 
 pub loop-next-preserved-then-w-d-ne0-2 : goal.loop-next-preserved-then-w-d-ne0-2
-loop-next-preserved-then-w-d-ne0-2 c = marked c.before.before c.if-w-d-ne0-2.true
+loop-next-preserved-then-w-d-ne0-2 c = marked (goal.at.loop-next-preserved-then-w-d-ne0-2 c).In-loop-next c.if-w-d-ne0-2.true
 
 pub toward-b-requires : goal.toward-b-requires
 toward-b-requires c =
@@ -92,22 +92,22 @@ pub loop-next-smaller-then-not-closer : goal.loop-next-smaller-then-not-closer
 loop-next-smaller-then-not-closer c = omega arith
 
 pub loop-next-preserved-then-not-closer : goal.loop-next-preserved-then-not-closer
-loop-next-preserved-then-not-closer c = farther c.before.before.before.before.before (told c.before ∙ not-true c.closer.result c.if-not-closer.true)
+loop-next-preserved-then-not-closer c = farther (goal.at.loop-next-preserved-then-not-closer c).In-loop-next (told (goal.at.loop-next-preserved-then-not-closer c).After-closer ∙ not-true c.closer.result c.if-not-closer.true)
 
 pub loop-next-smaller-then-piece_at-piece : goal.loop-next-smaller-then-piece_at-piece
 loop-next-smaller-then-piece_at-piece c = omega arith
 
 pub loop-next-preserved-then-piece_at-piece : goal.loop-next-preserved-then-piece_at-piece
-loop-next-preserved-then-piece_at-piece c = same_piece c.before.before.before.before.before.before.before (sym c.piece_at.ensures ∙ c.if-piece_at-piece.true ∙ c.piece_at-piece.ensures)
+loop-next-preserved-then-piece_at-piece c = same_piece (goal.at.loop-next-preserved-then-piece_at-piece c).In-loop-next (sym c.piece_at.ensures ∙ c.if-piece_at-piece.true ∙ c.piece_at-piece.ensures)
 
 pub returns-then-m : goal.returns-then-m
 unfolding of_bits neg
 returns-then-m c =
     let a = c.args in
-    let n : Float = measured c.before.before.before.before.before.before.before.before.before.before in
-    let e : c.measure-m.result ≡ n = found c.before.before in
+    let n : Float = measured (goal.at.returns-then-m c).In-loop-next in
+    let e : c.measure-m.result ≡ n = found (goal.at.returns-then-m c).After-measure-m in
     rw (c.hold-then-m.ensures, e)
-    (walk_least a.w.now a.d a.limit a.i (record { measure = n; partner = c.loop-next.next }) c.requires (c.loop-next.next + 1) (nearer c.before.before)
+    (walk_least a.w.now a.d a.limit a.i (record { measure = n; partner = c.loop-next.next }) c.requires (c.loop-next.next + 1) (nearer (goal.at.returns-then-m c).After-measure-m)
     (omega (arith, c.loop-next.invariant.beyond))
     (ap (λ (x : Float). le x minus_unity) (sym e) ∙ c.if-m.true))
 
@@ -115,7 +115,7 @@ pub loop-next-smaller : goal.loop-next-smaller
 loop-next-smaller c = omega arith
 
 pub loop-next-preserved : goal.loop-next-preserved
-loop-next-preserved c = rw (found c.before) (nearer c.before)
+loop-next-preserved c = rw (found (goal.at.loop-next-preserved c).After-measure-m) (nearer (goal.at.loop-next-preserved c).After-measure-m)
 
 pub returns : goal.returns
 returns c =

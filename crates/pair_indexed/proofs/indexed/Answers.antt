@@ -21,7 +21,7 @@ some : (c : Else-apart) → c.args.d ≡ 0 → ⊥
 some c = some_end c.apart.ensures c.if-apart.false
 
 pub note-requires : goal.note-requires
-note-requires c = (c.requires.room, some c.before)
+note-requires c = (c.requires.room, some (goal.at.note-requires c).Else-apart)
 
 pub tree_for-a-requires : goal.tree_for-a-requires
 tree_for-a-requires c = c.requires.room.few
@@ -37,7 +37,7 @@ pub arrange-m-requires : goal.arrange-m-requires
 arrange-m-requires c =
     let x = c.requires in
     let n = c.note.ensures in
-    cleared_room (noted_asks x n) (noted_here x n) (some c.before.before.before.before.before.before.before.before.before.before) c.fill_from.ensures
+    cleared_room (noted_asks x n) (noted_here x n) (some (goal.at.arrange-m-requires c).Else-apart) c.fill_from.ensures
 
 pub tree_for-b-requires : goal.tree_for-b-requires
 tree_for-b-requires c =
@@ -48,7 +48,7 @@ begin-requires c =
     let z = c.arrange-m.ensures in
     let x = c.requires in
     let n = c.note.ensures in
-    (c.tree_for-a.ensures.power, begins (noted_asks x n) (noted_here x n) (some c.before.before.before.before.before.before.before.before.before.before.before.before.before.before.before) c.fill_from.ensures z.0 z.1 c.tree_for-a.ensures c.tree_for-b.ensures)
+    (c.tree_for-a.ensures.power, begins (noted_asks x n) (noted_here x n) (some (goal.at.begin-requires c).Else-apart) c.fill_from.ensures z.0 z.1 c.tree_for-a.ensures c.tree_for-b.ensures)
 
 pub choose-requires : goal.choose-requires
 choose-requires c =
@@ -68,4 +68,4 @@ returns c =
     let x = c.requires in
     let n = c.note.ensures in
     noted_selected x n
-    (selected (noted_asks x n) (noted_here x n) (some c.before.before.before.before.before.before.before.before.before.before.before.before.before.before.before.before.before.before.before.before.before.before) c.fill_from.ensures z.0 z.1 c.begin.ensures.1 c.choose.ensures)
+    (selected (noted_asks x n) (noted_here x n) (some (goal.at.returns c).Else-apart) c.fill_from.ensures z.0 z.1 c.begin.ensures.1 c.choose.ensures)

@@ -39,13 +39,13 @@ pub overflow_mul-k : goal.overflow_mul-k
 overflow_mul-k c = omega (arith, c.requires.owning.ground.room.few)
 
 pub overflow_add-k : goal.overflow_add-k
-overflow_add-k c = let r = c.requires in omega (arith, r.owning.ground.room.few, group_in r.owning _ r.within r.true r.holds)
+overflow_add-k c = let r = c.requires in omega (arith, r.owning.ground.room.few, group_in r.owning _ r.within r.taken r.holds)
 
 pub offset_bounds-w-k : goal.offset_bounds-w-k
-offset_bounds-w-k c = let r = c.requires in omega (arith, r.owning.ground.room.few, group_in r.owning _ r.within r.true r.holds)
+offset_bounds-w-k c = let r = c.requires in omega (arith, r.owning.ground.room.few, group_in r.owning _ r.within r.taken r.holds)
 
 pub bounds-w-k : goal.bounds-w-k
-bounds-w-k c = let r = c.requires in omega (arith, r.owning.ground.room.long, group_in r.owning _ r.within r.true r.holds)
+bounds-w-k c = let r = c.requires in omega (arith, r.owning.ground.room.long, group_in r.owning _ r.within r.taken r.holds)
 
 pub due-c-requires : goal.due-c-requires
 due-c-requires c = ground_sorted c.requires.owning.ground
@@ -69,31 +69,31 @@ pub overflow_mul-o : goal.overflow_mul-o
 overflow_mul-o c = omega (arith, c.requires.owning.ground.room.few)
 
 pub overflow_add-o : goal.overflow_add-o
-overflow_add-o c = let r = c.requires in omega (arith, r.owning.ground.room.few, due_below r.owning _ r.within r.true r.holds c.if-d-s.false c.due-c.ensures c.if-c-d.false)
+overflow_add-o c = let r = c.requires in omega (arith, r.owning.ground.room.few, due_below r.owning _ r.within r.taken r.holds c.if-d-s.false c.due-c.ensures c.if-c-d.false)
 
 pub offset_bounds-w-d-3 : goal.offset_bounds-w-d-3
-offset_bounds-w-d-3 c = let r = c.requires in omega (arith, r.owning.ground.room.few, due_below r.owning _ r.within r.true r.holds c.if-d-s.false c.due-c.ensures c.if-c-d.false)
+offset_bounds-w-d-3 c = let r = c.requires in omega (arith, r.owning.ground.room.few, due_below r.owning _ r.within r.taken r.holds c.if-d-s.false c.due-c.ensures c.if-c-d.false)
 
 pub bounds-w-d-3 : goal.bounds-w-d-3
-bounds-w-d-3 c = let r = c.requires in omega (arith, r.owning.ground.room.long, due_below r.owning _ r.within r.true r.holds c.if-d-s.false c.due-c.ensures c.if-c-d.false)
+bounds-w-d-3 c = let r = c.requires in omega (arith, r.owning.ground.room.long, due_below r.owning _ r.within r.taken r.holds c.if-d-s.false c.due-c.ensures c.if-c-d.false)
 
 pub overflow_add-w : goal.overflow_add-w
-overflow_add-w c = let r = c.requires in omega (arith, r.owning.ground.room.few, due_below r.owning _ r.within r.true r.holds c.if-d-s.false c.due-c.ensures c.if-c-d.false)
+overflow_add-w c = let r = c.requires in omega (arith, r.owning.ground.room.few, due_below r.owning _ r.within r.taken r.holds c.if-d-s.false c.due-c.ensures c.if-c-d.false)
 
 pub offset_bounds-w-k-2 : goal.offset_bounds-w-k-2
-offset_bounds-w-k-2 c = let r = c.requires in omega (arith, r.owning.ground.room.few, group_in r.owning _ r.within r.true r.holds)
+offset_bounds-w-k-2 c = let r = c.requires in omega (arith, r.owning.ground.room.few, group_in r.owning _ r.within r.taken r.holds)
 
 pub bounds-w-k-2 : goal.bounds-w-k-2
-bounds-w-k-2 c = let r = c.requires in omega (arith, r.owning.ground.room.long, group_in r.owning _ r.within r.true r.holds)
+bounds-w-k-2 c = let r = c.requires in omega (arith, r.owning.ground.room.long, group_in r.owning _ r.within r.taken r.holds)
 
 pub overflow_mul-w : goal.overflow_mul-w
 overflow_mul-w c = omega (arith, c.requires.owning.ground.room.few)
 
 pub overflow_add-w-2 : goal.overflow_add-w-2
-overflow_add-w-2 c = let r = c.requires in omega (arith, r.owning.ground.room.few, due_end r.owning _ r.within r.true r.holds c.if-d-s.false c.due-c.ensures c.if-c-d.false)
+overflow_add-w-2 c = let r = c.requires in omega (arith, r.owning.ground.room.few, due_end r.owning _ r.within r.taken r.holds c.if-d-s.false c.due-c.ensures c.if-c-d.false)
 
 pub offset_bounds-w-d-4 : goal.offset_bounds-w-d-4
-offset_bounds-w-d-4 c = let r = c.requires in omega (arith, r.owning.ground.room.few, due_end r.owning _ r.within r.true r.holds c.if-d-s.false c.due-c.ensures c.if-c-d.false)
+offset_bounds-w-d-4 c = let r = c.requires in omega (arith, r.owning.ground.room.few, due_end r.owning _ r.within r.taken r.holds c.if-d-s.false c.due-c.ensures c.if-c-d.false)
 
 pub bounds-w-d-4 : goal.bounds-w-d-4
 bounds-w-d-4 c =
@@ -101,12 +101,12 @@ bounds-w-d-4 c =
     omega (
       arith,
       r.owning.ground.room.long,
-      due_end r.owning _ r.within r.true r.holds c.if-d-s.false c.due-c.ensures c.if-c-d.false,
+      due_end r.owning _ r.within r.taken r.holds c.if-d-s.false c.due-c.ensures c.if-c-d.false,
       length-set c.args.w.now (c.args.d * cursors_from + group_at c.args.w.now c.args.d c.args.x) (c.due-c.result + 1),
     )
 
 pub refresh-requires : goal.refresh-requires
-refresh-requires c = let r = c.requires in stale_next r.owning _ r.within r.true r.holds c.if-d-s.false c.due-c.ensures c.if-c-d.false
+refresh-requires c = let r = c.requires in stale_next r.owning _ r.within r.taken r.holds c.if-d-s.false c.due-c.ensures c.if-c-d.false
 
 pub shape_of-w : goal.shape_of-w
 shape_of-w c = (replaces_next c.requires c.if-d-s.false c.due-c.ensures c.if-c-d.false c.refresh.ensures).kept.long

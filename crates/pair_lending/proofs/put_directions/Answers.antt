@@ -29,10 +29,10 @@ pub overflow_add-w : goal.overflow_add-w
 overflow_add-w c = omega arith
 
 pub offset_bounds-w-at : goal.offset_bounds-w-at
-offset_bounds-w-at c = omega (arith, long c.before.before.before)
+offset_bounds-w-at c = omega (arith, long (goal.at.offset_bounds-w-at c).At-loop-i)
 
 pub bounds-w-at : goal.bounds-w-at
-bounds-w-at c = omega (arith, long c.before.before.before)
+bounds-w-at c = omega (arith, long (goal.at.bounds-w-at c).At-loop-i)
 
 pub overflow_add-i : goal.overflow_add-i
 overflow_add-i c = omega arith
@@ -50,7 +50,7 @@ loop-i-preserved c =
     )
 
 pub shape_of-w : goal.shape_of-w
-shape_of-w c = long c.before
+shape_of-w c = long (goal.at.shape_of-w c).At-loop-i
 
 pub returns : goal.returns
 returns c =

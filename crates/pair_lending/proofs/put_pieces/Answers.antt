@@ -30,7 +30,7 @@ pub offset_bounds-w-at : goal.offset_bounds-w-at
 offset_bounds-w-at c = omega arith
 
 pub bounds-w-at : goal.bounds-w-at
-bounds-w-at c = omega (arith, long c.before.before)
+bounds-w-at c = omega (arith, long (goal.at.bounds-w-at c).At-loop-i)
 
 pub overflow_add-i : goal.overflow_add-i
 overflow_add-i c = omega arith
@@ -43,7 +43,7 @@ loop-i-preserved c =
     (omega arith, copy_more c.loop-i.w c.args.w.now c.args.pieces.now c.args.at c.loop-i.i c.loop-i.invariant.1 (omega arith) (omega arith))
 
 pub shape_of-w : goal.shape_of-w
-shape_of-w c = long c.before
+shape_of-w c = long (goal.at.shape_of-w c).At-loop-i
 
 pub returns : goal.returns
 returns c =

@@ -33,7 +33,7 @@ pub offset_bounds-pairs-i : goal.offset_bounds-pairs-i
 offset_bounds-pairs-i c = omega arith
 
 pub bounds-pairs-i : goal.bounds-pairs-i
-bounds-pairs-i c = omega (arith, long c.before.before)
+bounds-pairs-i c = omega (arith, long (goal.at.bounds-pairs-i c).At-loop-i)
 
 pub overflow_add-i : goal.overflow_add-i
 overflow_add-i c = omega arith
@@ -46,7 +46,7 @@ loop-i-preserved c =
     (omega arith, words_more c.loop-i.pairs c.args.pairs.now c.args.w.now c.args.at c.args.n c.loop-i.i c.loop-i.invariant.1 (omega arith) (omega arith) (omega arith))
 
 pub shape_of-pairs : goal.shape_of-pairs
-shape_of-pairs c = long c.before
+shape_of-pairs c = long (goal.at.shape_of-pairs c).At-loop-i
 
 pub returns : goal.returns
 returns c =

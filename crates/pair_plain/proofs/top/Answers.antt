@@ -19,10 +19,10 @@ some c = omega (arith, c.struct_known-1.given, c.if-low.false)
 
 -- its block is one of them
 inside : (c : Else-low) → c.least-low.result.place < blocks_of c.args.d
-inside c = ((lowest c.before.before).there (some c)).1
+inside c = ((lowest (goal.at.Else-low c).After-least-low).there (some c)).1
 
 pub returns-then-low : goal.returns-then-low
-returns-then-low c = (top_none c.args.w.now c.args.d c.requires.1 c.least-low.result (lowest c.before.before) c.if-low.true)
+returns-then-low c = (top_none c.args.w.now c.args.d c.requires.1 c.least-low.result (lowest (goal.at.returns-then-low c).After-least-low) c.if-low.true)
 
 pub overflow_add-result : goal.overflow_add-result
 overflow_add-result c = omega (arith, inside c)
@@ -31,7 +31,7 @@ pub offset_bounds-w-d : goal.offset_bounds-w-d
 offset_bounds-w-d c = omega (arith, inside c)
 
 pub bounds-w-d : goal.bounds-w-d
-bounds-w-d c = omega (arith, inside c.before)
+bounds-w-d c = omega (arith, inside (goal.at.bounds-w-d c).Else-low)
 
 pub returns : goal.returns
-returns c = (top_row c.args.w.now c.args.d c.requires.1 c.least-low.result (lowest c.before.before.before) (some c.before))
+returns c = (top_row c.args.w.now c.args.d c.requires.1 c.least-low.result (lowest (goal.at.returns c).After-least-low) (some (goal.at.returns c).Else-low))

@@ -16,8 +16,8 @@ pieces_of l = l.args.pieces.now
 
 -- the piece at i stands as often before i as among those up to its bucket's last
 counts : (c : After-bucket-b)
-    → count (get_or (pieces_of c.before.before.before) c.loop-i.i 0) (take c.loop-i.i (pieces_of c.before.before.before))
-    ≡ count (get_or (pieces_of c.before.before.before) c.loop-i.i 0) (take (get_or c.loop-i.last c.bucket-b.result 0) (pieces_of c.before.before.before))
+    → count (get_or (pieces_of (goal.at.After-bucket-b c).At-loop-i) c.loop-i.i 0) (take c.loop-i.i (pieces_of (goal.at.After-bucket-b c).At-loop-i))
+    ≡ count (get_or (pieces_of (goal.at.After-bucket-b c).At-loop-i) c.loop-i.i 0) (take (get_or c.loop-i.last c.bucket-b.result 0) (pieces_of (goal.at.After-bucket-b c).At-loop-i))
 counts c = table_count c.loop-i.invariant.1 _ c.bucket-b.result (sym c.bucket-b.ensures.0) c.bucket-b.ensures.1 (omega arith)
 
 pub loop-i-init : goal.loop-i-init
@@ -42,7 +42,7 @@ times_linked-requires c =
 
 pub returns-then-times_linked-gt1 : goal.returns-then-times_linked-gt1
 returns-then-times_linked-gt1 c =
-    sym (thrice_here (pieces_of c.before.before.before.before.before.before) c.loop-i.i (omega arith) (omega (arith, c.times_linked.ensures, counts c.before.before.before)))
+    sym (thrice_here (pieces_of (goal.at.returns-then-times_linked-gt1 c).At-loop-i) c.loop-i.i (omega arith) (omega (arith, c.times_linked.ensures, counts (goal.at.returns-then-times_linked-gt1 c).After-bucket-b)))
 
 pub offset_bounds-next-i : goal.offset_bounds-next-i
 offset_bounds-next-i c = omega arith
@@ -68,7 +68,7 @@ loop-i-smaller c = omega arith
 pub loop-i-preserved : goal.loop-i-preserved
 loop-i-preserved c =
     let b = c.bucket-b in (
-      twice_step c.loop-i.invariant.0 (omega arith) (omega (arith, c.times_linked.ensures, counts c.before.before.before)),
+      twice_step c.loop-i.invariant.0 (omega arith) (omega (arith, c.times_linked.ensures, counts (goal.at.loop-i-preserved c).After-bucket-b)),
       table_step c.loop-i.invariant.1 _ b.result (sym b.ensures.0) b.ensures.1 refl (omega arith),
     )
 

@@ -32,7 +32,7 @@ loop-k-preserved c =
     let p = c.args.p in
     let pieces = c.args.pieces.now in
     ⊎_elim
-    (λ w. omega (arith, count_same p pieces c.loop-k.k (omega arith) w.0.true))
+    (λ w. omega (arith, count_same p pieces c.loop-k.k (omega arith) w.0.taken))
     (λ w. omega (arith, count_other p pieces c.loop-k.k (omega arith) w.0.left))
     c.if-pieces-k.branch
 

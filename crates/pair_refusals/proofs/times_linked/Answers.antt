@@ -40,17 +40,17 @@ pub bounds-next-k : goal.bounds-next-k
 bounds-next-k c = omega arith
 
 pub overflow_cast-k-in-loop-k : goal.overflow_cast-k-in-loop-k
-overflow_cast-k-in-loop-k c = omega (arith, less c.before.before.before.before.before (omega arith))
+overflow_cast-k-in-loop-k c = omega (arith, less (goal.at.overflow_cast-k-in-loop-k c).At-loop-k (omega arith))
 
 pub loop-k-smaller : goal.loop-k-smaller
-loop-k-smaller c = less c.before.before.before.before.before (omega arith)
+loop-k-smaller c = less (goal.at.loop-k-smaller c).At-loop-k (omega arith)
 
 pub loop-k-preserved : goal.loop-k-preserved
 loop-k-preserved c =
     let h : 0 < c.loop-k.k = omega arith in (
       chain_next c.loop-k.invariant.0 h,
       ⊎_elim
-          (λ w. omega (arith, count_met c.loop-k.invariant.0 h w.0.true))
+          (λ w. omega (arith, count_met c.loop-k.invariant.0 h w.0.taken))
           (λ w. omega (arith, count_passed c.loop-k.invariant.0 h w.0.left))
           c.if-pieces-k.branch,
     )

@@ -21,36 +21,36 @@ lent s = record {
 
 -- the plain route has been called, for two ends
 called : (c : After-pairs_chosen)
-    → Called (lent c.before.before.before.before.before.before.before.before.before.before) c.args.i c.args.j c.pairs_chosen.result
+    → Called (lent (goal.at.After-pairs_chosen c).Start) c.args.i c.args.j c.pairs_chosen.result
     c.pairs_chosen.new.pairs c.pairs_chosen.new.workspace
 called c =
     record { two_ends = sym c.no_ends.ensures ∙ c.if-no_ends.false; fitting = search rules; paired = c.pairs_chosen.ensures }
 
 pub returns-then-refused-ne0 : goal.returns-then-refused-ne0
 returns-then-refused-ne0 c =
-    refused_plain (lent c.before.before.before.before.before.before.before.before.before) c.args.i c.args.j c.pair_refusal-refused.result c.pair_refusal-refused.ensures c.if-refused-ne0.true
+    refused_plain (lent (goal.at.returns-then-refused-ne0 c).Start) c.args.i c.args.j c.pair_refusal-refused.result c.pair_refusal-refused.ensures c.if-refused-ne0.true
 
 pub returns-then-no_ends : goal.returns-then-no_ends
 returns-then-no_ends c =
-    refused_ends (lent c.before.before.before.before.before.before.before.before.before) c.args.i c.args.j c.pair_refusal-refused.result c.pair_refusal-refused.ensures c.if-refused-ne0.false
+    refused_ends (lent (goal.at.returns-then-no_ends c).Start) c.args.i c.args.j c.pair_refusal-refused.result c.pair_refusal-refused.ensures c.if-refused-ne0.false
     (sym c.no_ends.ensures ∙ c.if-no_ends.true)
 
 pub overflow_mul-n : goal.overflow_mul-n
-overflow_mul-n c = omega (arith, few_words (called c.before.before.before.before.before.before.before) c.n-1.given.1)
+overflow_mul-n c = omega (arith, few_words (called (goal.at.overflow_mul-n c).After-pairs_chosen) c.n-1.given.1)
 
 pub slice_bounds-reason-end : goal.slice_bounds-reason-end
-slice_bounds-reason-end c = words_within (called c.before.before.before.before.before.before.before) c.n-1.given.1
+slice_bounds-reason-end c = words_within (called (goal.at.slice_bounds-reason-end c).After-pairs_chosen) c.n-1.given.1
 
 pub slice_bounds-reason-end-in-Accepted : goal.slice_bounds-reason-end-in-Accepted
-slice_bounds-reason-end-in-Accepted c = words_there (called c.before.before.before.before.before.before.before) c.n-1.given.1
+slice_bounds-reason-end-in-Accepted c = words_there (called (goal.at.slice_bounds-reason-end-in-Accepted c).After-pairs_chosen) c.n-1.given.1
 
 pub reason-requires : goal.reason-requires
-reason-requires c = asks (called c.before.before.before.before.before.before.before) c.n-1.given.1
+reason-requires c = asks (called (goal.at.reason-requires c).After-pairs_chosen) c.n-1.given.1
 
 pub returns-in-Refused : goal.returns-in-Refused
-returns-in-Refused c = passed_on (called c.before.before.before.before.before.before.before) c.k-1.given.1
+returns-in-Refused c = passed_on (called (goal.at.returns-in-Refused c).After-pairs_chosen) c.k-1.given.1
 
 pub returns-in-Accepted : goal.returns-in-Accepted
 returns-in-Accepted c =
-    answered (called c.before.before.before.before.before.before.before.before.before) c.n-1.given.1
+    answered (called (goal.at.returns-in-Accepted c).After-pairs_chosen) c.n-1.given.1
     c.reason.result c.number.result c.reason.ensures c.number.ensures

@@ -24,6 +24,6 @@ returns c =
     let a = c.args in
     more_two a.rest.now a.have a.x a.y c.requires
     (⊎_elim
-    (λ w. last_two a.rest.now a.have (point a.x a.y) (omega arith) w.0.true ∙ sym w.3.ensures ∙ w.4.left)
+    (λ w. last_two a.rest.now a.have (point a.x a.y) (omega arith) w.0.taken ∙ sym w.3.ensures ∙ w.4.left)
     (λ w. last_none 2 two_two a.rest.now a.have (point a.x a.y) (omega (arith, w.left)))
     c.if-have-ge2.branch)

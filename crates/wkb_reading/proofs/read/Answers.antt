@@ -12,38 +12,38 @@ abbrev lent : Start → LentRun
 lent s = run_as s.args.run.now s.args.lengths.now s.args.coordinates.now s.args.counts.now s.args.wkb-type.now
 
 abbrev given : Else-refused-ne0 → LentRun
-given c = lent c.before.before.before.before.before.before.before
+given c = lent (goal.at.Else-refused-ne0 c).Start
 
 -- the run is not refused
 passed : (c : Else-refused-ne0) → run_refusal (given c).run (given c).lengths ≡ 0
 passed c = sym c.run_refusal-refused.ensures ∙ c.if-refused-ne0.false
 
 -- and there is room
-fits : (c : Else-room_short) → room_short (given c.before.before) ≡ false
+fits : (c : Else-room_short) → room_short (given (goal.at.Else-room_short c).Else-refused-ne0) ≡ false
 fits c = sym c.room_short.ensures ∙ c.if-room_short.false
 
 pub returns-then-refused-ne0 : goal.returns-then-refused-ne0
-returns-then-refused-ne0 c = let i = lent c.before.before.before.before.before.before.before in read_refused i _ (refused_run i c.run_refusal-refused.ensures c.if-refused-ne0.true) c.if-refused-ne0.true
+returns-then-refused-ne0 c = let i = lent (goal.at.returns-then-refused-ne0 c).Start in read_refused i _ (refused_run i c.run_refusal-refused.ensures c.if-refused-ne0.true) c.if-refused-ne0.true
 
 pub room_short-requires : goal.room_short-requires
 room_short-requires c = long (sound _ _ (passed c))
 
 pub returns-then-room_short : goal.returns-then-room_short
 returns-then-room_short c =
-    let i = given c.before.before in
-    read_refused i _ (refused_room i (passed c.before.before) (sym c.room_short.ensures ∙ c.if-room_short.true)) (λ e. absurd (omega arith))
+    let i = given (goal.at.returns-then-room_short c).Else-refused-ne0 in
+    read_refused i _ (refused_room i (passed (goal.at.returns-then-room_short c).Else-refused-ne0) (sym c.room_short.ensures ∙ c.if-room_short.true)) (λ e. absurd (omega arith))
 
 pub store-requires : goal.store-requires
-store-requires c = storable (sound _ _ (passed c.before.before.before.before)) (given c.before.before.before.before).type (fits c.before.before)
+store-requires c = storable (sound _ _ (passed (goal.at.store-requires c).Else-refused-ne0)) (given (goal.at.store-requires c).Else-refused-ne0).type (fits (goal.at.store-requires c).Else-room_short)
 
 pub run_type-requires : goal.run_type-requires
-run_type-requires c = (sound _ _ (passed c.before.before.before.before.before.before.before.before.before)).adds
+run_type-requires c = (sound _ _ (passed (goal.at.run_type-requires c).Else-refused-ne0)).adds
 
 pub bounds-wkb_type-0 : goal.bounds-wkb_type-0
-bounds-wkb_type-0 c = type_room (given c.before.before.before.before.before.before.before.before.before.before) (fits c.before.before.before.before.before.before.before.before)
+bounds-wkb_type-0 c = type_room (given (goal.at.bounds-wkb_type-0 c).Else-refused-ne0) (fits (goal.at.bounds-wkb_type-0 c).Else-room_short)
 
 pub returns : goal.returns
 unfolding lent_records
 returns c =
-    let i = given c.before.before.before.before.before.before.before.before.before.before in
-    read_accepted i (accepted i (passed c.before.before.before.before.before.before.before.before.before.before) (fits c.before.before.before.before.before.before.before.before)) c.store.ensures (tell_one _ _ i.type (type_room i (fits c.before.before.before.before.before.before.before.before)) c.run_type.ensures)
+    let i = given (goal.at.returns c).Else-refused-ne0 in
+    read_accepted i (accepted i (passed (goal.at.returns c).Else-refused-ne0) (fits (goal.at.returns c).Else-room_short)) c.store.ensures (tell_one _ _ i.type (type_room i (fits (goal.at.returns c).Else-room_short)) c.run_type.ensures)

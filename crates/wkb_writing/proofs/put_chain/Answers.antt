@@ -13,16 +13,16 @@ row : (s : Start) → s.args.k * record_size + record_size ≤ length s.args.tab
 row s = (stands _ _ _ _ _ s.requires.there).row
 
 pub overflow_mul-count : goal.overflow_mul-count
-overflow_mul-count c = omega (arith, row c.before.before.before.before)
+overflow_mul-count c = omega (arith, row (goal.at.overflow_mul-count c).Start)
 
 pub overflow_add-count : goal.overflow_add-count
-overflow_add-count c = omega (arith, row c.before.before.before.before)
+overflow_add-count c = omega (arith, row (goal.at.overflow_add-count c).Start)
 
 pub offset_bounds-table-k : goal.offset_bounds-table-k
-offset_bounds-table-k c = omega (arith, row c.before.before.before.before)
+offset_bounds-table-k c = omega (arith, row (goal.at.offset_bounds-table-k c).Start)
 
 pub bounds-table-k : goal.bounds-table-k
-bounds-table-k c = omega (arith, row c.before.before.before.before.before)
+bounds-table-k c = omega (arith, row (goal.at.bounds-table-k c).Start)
 
 pub put_record-requires : goal.put_record-requires
 put_record-requires c = view_room c.requires c.known_part-numbers.ensures

@@ -8,6 +8,7 @@ use lib.ListN.{length, set, length-set}
 use Rattle.point_slices.specs.Holds.{HoldsFrom}
 use Rattle.wkb_writing.proofs.Laws.{record_put, put_whole, after_type, after_count, after_all}
 use Rattle.wkb_writing.proofs.put_record.Goals as goal
+use Rattle.wkb_writing.proofs.put_record.Goals.{Start}
 
 -- the bytes that there are before each store
 module _ (s : tie.Start) where
@@ -18,7 +19,7 @@ pub put_word-requires : goal.put_word-requires
 put_word-requires c = simp length-set (omega arith)
 
 pub put_word-requires-2 : goal.put_word-requires-2
-put_word-requires-2 c = omega (arith, typed c.before.before.before.before.before.before.before c.put_word.ensures, c.requires)
+put_word-requires-2 c = omega (arith, typed (goal.at.put_word-requires-2 c).Start c.put_word.ensures, c.requires)
 
 pub put_numbers-requires : goal.put_numbers-requires
 put_numbers-requires c =

@@ -20,7 +20,7 @@ pub overflow_mul-numbers : goal.overflow_mul-numbers
 overflow_mul-numbers c = omega (arith, four c.last_end-end.result c.args.width c.requires.1, c.last_end-end.ensures.1)
 
 pub returns-then-merged-numbers : goal.returns-then-merged-numbers
-returns-then-merged-numbers c = ends c.before (clean_short c.args.width c.args.merged.now c.last_end-end.result c.if-merged-numbers.true)
+returns-then-merged-numbers c = ends (goal.at.returns-then-merged-numbers c).After-last_end-end (clean_short c.args.width c.args.merged.now c.last_end-end.result c.if-merged-numbers.true)
 
 pub slice_bounds-any_nowhere-count : goal.slice_bounds-any_nowhere-count
 slice_bounds-any_nowhere-count c = omega arith
@@ -35,7 +35,7 @@ pub any_nowhere-requires : goal.any_nowhere-requires
 any_nowhere-requires c = (c.requires.0, front_whole c.args.width c.args.merged.now c.last_end-end.result c.if-merged-numbers.false)
 
 pub returns-then-any_nowhere : goal.returns-then-any_nowhere
-returns-then-any_nowhere c = ends c.before.before.before.before (clean_none c.args.width c.args.merged.now c.last_end-end.result c.if-merged-numbers.false c.any_nowhere.ensures c.if-any_nowhere.true)
+returns-then-any_nowhere c = ends (goal.at.returns-then-any_nowhere c).After-last_end-end (clean_none c.args.width c.args.merged.now c.last_end-end.result c.if-merged-numbers.false c.any_nowhere.ensures c.if-any_nowhere.true)
 
 pub returns : goal.returns
-returns c = ends c.before.before.before.before (clean_all c.args.width c.args.merged.now c.last_end-end.result c.if-merged-numbers.false c.any_nowhere.ensures c.if-any_nowhere.false)
+returns c = ends (goal.at.returns c).After-last_end-end (clean_all c.args.width c.args.merged.now c.last_end-end.result c.if-merged-numbers.false c.any_nowhere.ensures c.if-any_nowhere.false)
