@@ -7,7 +7,7 @@ use Rattle.float_cell.proofs.floor_far.Goals as goal
 
 pub truncating_f64_to_i64-t-requires : goal.truncating_f64_to_i64-t-requires
 unfolding of_bits neg
-truncating_f64_to_i64-t-requires c = (subst T (sym c.if-x.true) tt, subst T (sym c.if-x-2.true) tt)
+truncating_f64_to_i64-t-requires c = record { lower_bound = subst T (sym c.if-x.true) tt; upper_bound = subst T (sym c.if-x-2.true) tt }
 
 pub overflow_sub-result : goal.overflow_sub-result
 unfolding of_bits neg

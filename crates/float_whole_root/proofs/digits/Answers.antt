@@ -1,9 +1,9 @@
 -- `whole_root::digits` meets its contract. The loop's invariant is `Passed`, and its measure the digits to come.
 use Prim.Native.Nat.{◌-◌}
-use mathlib.Core.Logic.{⊎_elim}
 use native.Mathlib.Omega.{arith}
 use Rattle.float_whole_root.proofs.Digit.{Passed, start, below, small, taken, passed_by_lem, moved, upward, downward}
 use Rattle.float_whole_root.proofs.digits.Goals as goal
+use Rattle.float_whole_root.proofs.digits.Goals.{then-trial-next, else-trial-next}
 
 pub loop-i-init : goal.loop-i-init
 loop-i-init c = start _ c.requires.1
@@ -42,7 +42,10 @@ pub loop-i-preserved : goal.loop-i-preserved
 loop-i-preserved c =
     let p = c.loop-i.invariant in
     let h = c.loop-i-test.true in
-    ⊎_elim (λ w. moved (taken p h w.0.taken) w.1 w.2) (λ w. moved (passed_by_lem p h w.0.left) w.1 w.2) c.if-trial-next.branch
+    elim c.if-trial-next.branch [
+      then-trial-next w ↦ moved (taken p h w.if-trial-next.true) w.q-is w.rem-is
+    | else-trial-next w ↦ moved (passed_by_lem p h w.if-trial-next.false) w.q-is w.rem-is
+    ]
 
 pub overflow_add-result : goal.overflow_add-result
 overflow_add-result c = omega (arith, small c.loop-i.invariant)

@@ -8,15 +8,12 @@ use Rattle.pair_ends.proofs.pair_key.Goals as goal
 
 pub returns-in_default : goal.returns-in_default
 unfolding key_of
-returns-in_default c = sym (ap (λ (a : Direction). key_of a c.args.b) c.enum_told-1.given.1)
+returns-in_default c = sym (ap (λ (a : Direction). key_of a c.args.b) c.in_default.is)
 
 pub returns-in_default-b : goal.returns-in_default-b
 unfolding key_of
-returns-in_default-b c = sym (ap₂ key_of c.a-1.given.1 c.enum_told-in_default-b-1.given.1)
+returns-in_default-b c = sym (ap₂ key_of c.in-Toward.is c.in_default-b.is)
 
 pub returns : goal.returns
 unfolding key_of
-returns c =
-    c.key.ensures
-    ∙ ap key c.measure.ensures
-    ∙ sym (ap₂ key_of c.a-1.given.1 c.b-1.given.1)
+returns c = c.key.ensures ∙ ap key c.measure.ensures ∙ sym (ap₂ key_of c.in-Toward.is c.in-Toward-b.is)
