@@ -49,12 +49,12 @@ loop-i-preserved c =
     let more = next (goal.at.loop-i-preserved c).In-loop-i in (
       more.0,
       more.1,
-      or_lt 64 c.loop-i.any-x c.raised-any_x.result c.loop-i.invariant.2 c.raised-any_x.ensures.1,
-      or_lt 64 c.loop-i.any-y c.raised-any_y.result c.loop-i.invariant.3 c.raised-any_y.ensures.1,
-      told_more c.args.width c.args.numbers.now c.loop-i.i c.requires.0 more.0 c.loop-i.any-x c.loop-i.any-y c.raised-any_x.result c.raised-any_y.result
+      or_lt 64 c.loop-i.any_x c.raised-any_x.result c.loop-i.invariant.2 c.raised-any_x.ensures.1,
+      or_lt 64 c.loop-i.any_y c.raised-any_y.result c.loop-i.invariant.3 c.raised-any_y.ensures.1,
+      told_more c.args.width c.args.numbers.now c.loop-i.i c.requires.0 more.0 c.loop-i.any_x c.loop-i.any_y c.raised-any_x.result c.raised-any_y.result
           c.loop-i.invariant.2 c.loop-i.invariant.3 c.raised-any_x.ensures.0 c.raised-any_y.ensures.0 ∙ c.loop-i.invariant.4,
     )
 
 pub returns : goal.returns
 returns c =
-    told_all c.args.width c.args.numbers.now c.loop-i.i c.loop-i.any-x c.loop-i.any-y c.requires.0 c.loop-i-test.false c.loop-i.invariant.2 c.loop-i.invariant.3 ∙ c.loop-i.invariant.4
+    told_all c.args.width c.args.numbers.now c.loop-i.i c.loop-i.any_x c.loop-i.any_y c.requires.0 c.loop-i-test.false c.loop-i.invariant.2 c.loop-i.invariant.3 ∙ c.loop-i.invariant.4

@@ -16,7 +16,7 @@ lines_of s = lent s.args.coordinates.now s.args.counts.now s.args.groups.now s.a
 
 -- after k tests that don't hold, the refusal is that of the others
 abbrev After : ℕ → Start → Type 0
-After k s = Left (first_of (line_tests s.args.wkb-type (lines_of s))) (drop k (line_tests s.args.wkb-type (lines_of s)))
+After k s = Left (first_of (line_tests s.args.wkb_type (lines_of s))) (drop k (line_tests s.args.wkb_type (lines_of s)))
 
 all : (s : Start) → After 0 s
 all s = record { is = refl }

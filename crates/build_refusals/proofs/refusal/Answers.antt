@@ -20,20 +20,20 @@ rooms_of s =
     s.args.spare.now s.args.workspace.now
 
 abbrev refused : Start → ℕ
-refused s = refusal_of s.args.wkb-type (lines_of s) s.args.settings (rooms_of s)
+refused s = refusal_of s.args.wkb_type (lines_of s) s.args.settings (rooms_of s)
 
 -- after the tests of the lines and k more that don't hold, the refusal is that of the others
 abbrev After : ℕ → Start → Type 0
 After k s = Left (refused s) (drop k (rest_tests (lines_of s) s.args.settings (rooms_of s)))
 
-all : (s : Start) → Left (refused s) (line_tests s.args.wkb-type (lines_of s) ++ rest_tests (lines_of s) s.args.settings (rooms_of s))
-all s = opened s.args.wkb-type (lines_of s) s.args.settings (rooms_of s)
+all : (s : Start) → Left (refused s) (line_tests s.args.wkb_type (lines_of s) ++ rest_tests (lines_of s) s.args.settings (rooms_of s))
+all s = opened s.args.wkb_type (lines_of s) s.args.settings (rooms_of s)
 
 left1 : (c : Else-refused-ne0) → After 0 (goal.at.Else-refused-ne0 c).Start
 left1 c =
-    climbed (line_tests c.args.wkb-type (lines_of (goal.at.Else-refused-ne0 c).Start)) (rest_tests (lines_of (goal.at.Else-refused-ne0 c).Start) c.args.settings (rooms_of (goal.at.Else-refused-ne0 c).Start))
+    climbed (line_tests c.args.wkb_type (lines_of (goal.at.Else-refused-ne0 c).Start)) (rest_tests (lines_of (goal.at.Else-refused-ne0 c).Start) c.args.settings (rooms_of (goal.at.Else-refused-ne0 c).Start))
     (all (goal.at.Else-refused-ne0 c).Start)
-    (lines_numbered c.args.wkb-type (lines_of (goal.at.Else-refused-ne0 c).Start)) c.line_refusal-refused.ensures c.if-refused-ne0.false
+    (lines_numbered c.args.wkb_type (lines_of (goal.at.Else-refused-ne0 c).Start)) c.line_refusal-refused.ensures c.if-refused-ne0.false
 
 left2 : (c : Else-switch_bad) → After 1 (goal.at.Else-switch_bad c).Start
 left2 c = rung (left1 (goal.at.Else-switch_bad c).Else-refused-ne0) (sym c.switch_bad.ensures ∙ c.if-switch_bad.false)
@@ -41,12 +41,12 @@ left2 c = rung (left1 (goal.at.Else-switch_bad c).Else-refused-ne0) (sym c.switc
 left3 : (c : Else-origin_bad) → After 2 (goal.at.Else-origin_bad c).Start
 left3 c = rung (left2 (goal.at.Else-origin_bad c).Else-switch_bad) (sym c.origin_bad.ensures ∙ c.if-origin_bad.false)
 
-admitted_lines : (c : Else-refused-ne0) → LinesAdmitted c.args.wkb-type (lines_of (goal.at.Else-refused-ne0 c).Start)
-admitted_lines c = lines_admitted c.args.wkb-type (lines_of (goal.at.Else-refused-ne0 c).Start) (record { is = sym c.if-refused-ne0.false ∙ c.line_refusal-refused.ensures })
+admitted_lines : (c : Else-refused-ne0) → LinesAdmitted c.args.wkb_type (lines_of (goal.at.Else-refused-ne0 c).Start)
+admitted_lines c = lines_admitted c.args.wkb_type (lines_of (goal.at.Else-refused-ne0 c).Start) (record { is = sym c.if-refused-ne0.false ∙ c.line_refusal-refused.ensures })
 
 pub returns-then-refused-ne0 : goal.returns-then-refused-ne0
 returns-then-refused-ne0 c =
-    stayed (line_tests c.args.wkb-type (lines_of (goal.at.returns-then-refused-ne0 c).Start)) (rest_tests (lines_of (goal.at.returns-then-refused-ne0 c).Start) c.args.settings (rooms_of (goal.at.returns-then-refused-ne0 c).Start)) (all (goal.at.returns-then-refused-ne0 c).Start) c.line_refusal-refused.ensures c.if-refused-ne0.true
+    stayed (line_tests c.args.wkb_type (lines_of (goal.at.returns-then-refused-ne0 c).Start)) (rest_tests (lines_of (goal.at.returns-then-refused-ne0 c).Start) c.args.settings (rooms_of (goal.at.returns-then-refused-ne0 c).Start)) (all (goal.at.returns-then-refused-ne0 c).Start) c.line_refusal-refused.ensures c.if-refused-ne0.true
 
 pub returns-then-switch_bad : goal.returns-then-switch_bad
 returns-then-switch_bad c = halt (left1 (goal.at.returns-then-switch_bad c).Else-refused-ne0) (sym c.switch_bad.ensures ∙ c.if-switch_bad.true)

@@ -18,7 +18,7 @@ module _ (i : tie.In-loop invariant-loop decreases-loop) where
   s = start l
 
   abbrev grid : Grid
-  grid = Cells s.args.tolerance s.args.origin-x s.args.origin-y
+  grid = Cells s.args.tolerance s.args.origin_x s.args.origin_y
 
   abbrev keys_so_far : Collecting s.args.width s.args.records s.args.members s.args.ends s.args.keys s.args.k s.args.groups.now s.args.input.now grid s.args.w.now s.pre l.loop.w l.loop.t
   keys_so_far = l.loop.inv.1 s.pre
@@ -67,7 +67,7 @@ overflow_add-keys c = omega (arith, key_fits (goal.at.overflow_add-keys c).In-lo
 pub put_cell-requires : goal.put_cell-requires
 put_cell-requires c =
     let a = c.args in
-    let g : Grid = Cells a.tolerance a.origin-x a.origin-y in
+    let g : Grid = Cells a.tolerance a.origin_x a.origin_y in
     let K = c.loop-t.invariant.1 c.requires in
     let h = c.loop-t-test.true in (
       listed_placed a.width a.records a.members a.ends a.keys a.k a.groups.now a.input.now g a.w.now c.requires c.loop-t.w c.loop-t.t K h,
@@ -85,7 +85,7 @@ pub loop-t-preserved : goal.loop-t-preserved
 loop-t-preserved c =
     let a = c.args in (
       omega (arith, c.loop-t-test.true),
-      λ y. collecting_step a.width a.records a.members a.ends a.keys a.k a.groups.now a.input.now (Cells a.tolerance a.origin-x a.origin-y) a.w.now y c.loop-t.w c.loop-t.t (c.loop-t.invariant.1 y) c.loop-t-test.true
+      λ y. collecting_step a.width a.records a.members a.ends a.keys a.k a.groups.now a.input.now (Cells a.tolerance a.origin_x a.origin_y) a.w.now y c.loop-t.w c.loop-t.t (c.loop-t.invariant.1 y) c.loop-t-test.true
           _ c.put_cell.ensures,
     )
 
@@ -95,4 +95,4 @@ shape_of-w c = (c.loop-t.invariant.1 c.requires).size
 pub returns : goal.returns
 returns c =
     let a = c.args in
-    collecting_done a.width a.records a.members a.ends a.keys a.k a.groups.now a.input.now (Cells a.tolerance a.origin-x a.origin-y) a.w.now c.requires c.loop-t.w c.loop-t.t (c.loop-t.invariant.1 c.requires) c.loop-t-test.false
+    collecting_done a.width a.records a.members a.ends a.keys a.k a.groups.now a.input.now (Cells a.tolerance a.origin_x a.origin_y) a.w.now c.requires c.loop-t.w c.loop-t.t (c.loop-t.invariant.1 c.requires) c.loop-t-test.false

@@ -39,15 +39,15 @@ module _ (k : tie.After-walk-on invariant-loop decreases-loop) where
   few : loop-of.loop.c < lent.args.n
   few = count_fits lent.args.w.now lent.args.n lent.pre loop-of.loop.w loop-of.loop.s loop-of.loop.at loop-of.loop.c (bench loop-of) below unmarked
 
-  filled : loop-of.loop.at + k.walk-on.result ≤ lent.args.n
+  filled : loop-of.loop.at + k.walk_on.result ≤ lent.args.n
   filled =
       r_fits lent.args.w.now lent.args.n lent.pre loop-of.loop.w loop-of.loop.s loop-of.loop.at loop-of.loop.c (bench loop-of) below unmarked
-      k.before.before.head.result headed k.walk-on.last.0 k.walk-on.result k.walk-on.ensures
+      k.before.before.head.result headed k.walk_on.last.0 k.walk_on.result k.walk_on.ensures
 
-  sized : length k.walk-on.last.0 ≡ length lent.args.w.now
+  sized : length k.walk_on.last.0 ≡ length lent.args.w.now
   sized =
       walked_size lent.args.w.now lent.args.n lent.pre loop-of.loop.w loop-of.loop.s loop-of.loop.at loop-of.loop.c (bench loop-of) below unmarked
-      k.before.before.head.result headed k.walk-on.last.0 k.walk-on.result k.walk-on.ensures
+      k.before.before.head.result headed k.walk_on.last.0 k.walk_on.result k.walk_on.ensures
 
 pub loop-s-init : goal.loop-s-init
 loop-s-init c = λ y. bench_start c.args.w.now c.args.n y

@@ -14,7 +14,7 @@ pub returns-then-refused-ne0 : goal.returns-then-refused-ne0
 returns-then-refused-ne0 c =
     let a = c.args in
     let f = c.refusal-refused in
-    refused (delivery a.wkb-type (lent a.coordinates.now a.counts.now a.groups.now a.kinds.now) a.m a.table.now a.k a.listing.now a.merged.now a.workspace.now) f.result (first_refused (delivery a.wkb-type (lent a.coordinates.now a.counts.now a.groups.now a.kinds.now) a.m a.table.now a.k a.listing.now a.merged.now a.workspace.now) f.result f.ensures c.if-refused-ne0.true) c.if-refused-ne0.true
+    refused (delivery a.wkb_type (lent a.coordinates.now a.counts.now a.groups.now a.kinds.now) a.m a.table.now a.k a.listing.now a.merged.now a.workspace.now) f.result (first_refused (delivery a.wkb_type (lent a.coordinates.now a.counts.now a.groups.now a.kinds.now) a.m a.table.now a.k a.listing.now a.merged.now a.workspace.now) f.result f.ensures c.if-refused-ne0.true) c.if-refused-ne0.true
 
 pub returns-then-any_bad : goal.returns-then-any_bad
 returns-then-any_bad c =
@@ -22,7 +22,7 @@ returns-then-any_bad c =
     let f = c.refusal-refused in
     let w = c.width_of-width in
     let b = c.any_bad in
-    refused (delivery a.wkb-type (lent a.coordinates.now a.counts.now a.groups.now a.kinds.now) a.m a.table.now a.k a.listing.now a.merged.now a.workspace.now) 23 (record_refused (delivery a.wkb-type (lent a.coordinates.now a.counts.now a.groups.now a.kinds.now) a.m a.table.now a.k a.listing.now a.merged.now a.workspace.now) f.result f.ensures c.if-refused-ne0.false w.result w.ensures.0 b.result b.ensures c.if-any_bad.true) (λ z. omega arith)
+    refused (delivery a.wkb_type (lent a.coordinates.now a.counts.now a.groups.now a.kinds.now) a.m a.table.now a.k a.listing.now a.merged.now a.workspace.now) 23 (record_refused (delivery a.wkb_type (lent a.coordinates.now a.counts.now a.groups.now a.kinds.now) a.m a.table.now a.k a.listing.now a.merged.now a.workspace.now) f.result f.ensures c.if-refused-ne0.false w.result w.ensures.0 b.result b.ensures c.if-any_bad.true) (λ z. omega arith)
 
 pub acceptable-requires : goal.acceptable-requires
 acceptable-requires c =
@@ -30,7 +30,7 @@ acceptable-requires c =
     let f = c.refusal-refused in
     let w = c.width_of-width in
     let b = c.any_bad in (
-      lined a.wkb-type w.result (lent a.coordinates.now a.counts.now a.groups.now a.kinds.now) w.ensures.0 (first_none a.wkb-type (lent a.coordinates.now a.counts.now a.groups.now a.kinds.now) a.m (length a.workspace.now) (sym c.if-refused-ne0.false ∙ f.ensures)).0,
+      lined a.wkb_type w.result (lent a.coordinates.now a.counts.now a.groups.now a.kinds.now) w.ensures.0 (first_none a.wkb_type (lent a.coordinates.now a.counts.now a.groups.now a.kinds.now) a.m (length a.workspace.now) (sym c.if-refused-ne0.false ∙ f.ensures)).0,
       all_recorded w.result (length a.counts.now) a.coordinates.now a.merged.now a.table.now a.listing.now a.k (sym b.ensures ∙ c.if-any_bad.false),
     )
 
@@ -41,19 +41,19 @@ returns-then-not-acceptable c =
     let w = c.width_of-width in
     let b = c.any_bad in
     let g = c.acceptable in
-    refused (delivery a.wkb-type (lent a.coordinates.now a.counts.now a.groups.now a.kinds.now) a.m a.table.now a.k a.listing.now a.merged.now a.workspace.now) 24 (chain_refused (delivery a.wkb-type (lent a.coordinates.now a.counts.now a.groups.now a.kinds.now) a.m a.table.now a.k a.listing.now a.merged.now a.workspace.now) f.result f.ensures c.if-refused-ne0.false w.result w.ensures.0 b.result b.ensures c.if-any_bad.false g.result g.ensures (not-true _ c.if-not-acceptable.true)) (λ z. omega arith)
+    refused (delivery a.wkb_type (lent a.coordinates.now a.counts.now a.groups.now a.kinds.now) a.m a.table.now a.k a.listing.now a.merged.now a.workspace.now) 24 (chain_refused (delivery a.wkb_type (lent a.coordinates.now a.counts.now a.groups.now a.kinds.now) a.m a.table.now a.k a.listing.now a.merged.now a.workspace.now) f.result f.ensures c.if-refused-ne0.false w.result w.ensures.0 b.result b.ensures c.if-any_bad.false g.result g.ensures (not-true _ c.if-not-acceptable.true)) (λ z. omega arith)
 
 pub overflow_mul-n : goal.overflow_mul-n
 overflow_mul-n c =
     let a = c.args in
     let f = c.refusal-refused in
-    omega (arith, (first_none a.wkb-type (lent a.coordinates.now a.counts.now a.groups.now a.kinds.now) a.m (length a.workspace.now) (sym c.if-refused-ne0.false ∙ f.ensures)).0.few)
+    omega (arith, (first_none a.wkb_type (lent a.coordinates.now a.counts.now a.groups.now a.kinds.now) a.m (length a.workspace.now) (sym c.if-refused-ne0.false ∙ f.ensures)).0.few)
 
 pub clear-requires : goal.clear-requires
 clear-requires c =
     let a = c.args in
     let f = c.refusal-refused in
-    (first_none a.wkb-type (lent a.coordinates.now a.counts.now a.groups.now a.kinds.now) a.m (length a.workspace.now) (sym c.if-refused-ne0.false ∙ f.ensures)).1
+    (first_none a.wkb_type (lent a.coordinates.now a.counts.now a.groups.now a.kinds.now) a.m (length a.workspace.now) (sym c.if-refused-ne0.false ∙ f.ensures)).1
 
 pub returns : goal.returns
 returns c =
@@ -62,5 +62,5 @@ returns c =
     let w = c.width_of-width in
     let b = c.any_bad in
     let g = c.acceptable in
-    admitted (delivery a.wkb-type (lent a.coordinates.now a.counts.now a.groups.now a.kinds.now) a.m a.table.now a.k a.listing.now a.merged.now a.workspace.now) _ (none_refused (delivery a.wkb-type (lent a.coordinates.now a.counts.now a.groups.now a.kinds.now) a.m a.table.now a.k a.listing.now a.merged.now a.workspace.now) f.result f.ensures c.if-refused-ne0.false w.result w.ensures.0 b.result b.ensures c.if-any_bad.false g.result g.ensures (not-false _ c.if-not-acceptable.false))
+    admitted (delivery a.wkb_type (lent a.coordinates.now a.counts.now a.groups.now a.kinds.now) a.m a.table.now a.k a.listing.now a.merged.now a.workspace.now) _ (none_refused (delivery a.wkb_type (lent a.coordinates.now a.counts.now a.groups.now a.kinds.now) a.m a.table.now a.k a.listing.now a.merged.now a.workspace.now) f.result f.ensures c.if-refused-ne0.false w.result w.ensures.0 b.result b.ensures c.if-any_bad.false g.result g.ensures (not-false _ c.if-not-acceptable.false))
     c.clear.ensures

@@ -13,7 +13,7 @@ overflow_add-j c = omega (arith, c.requires.0.inside)
 pub loop-j-init : goal.loop-j-init
 loop-j-init c =
     let a = c.args in
-    moving_start (points a.width a.chain.now) a.base a.low a.end a.drawn a.turned a.drawn-fits.now a.turned-fits.now a.marks.now c.requires.0.order c.requires.1
+    moving_start (points a.width a.chain.now) a.base a.low a.end a.drawn a.turned a.drawn_fits.now a.turned_fits.now a.marks.now c.requires.0.order c.requires.1
 
 pub overflow_sub-j : goal.overflow_sub-j
 overflow_sub-j c = omega arith
@@ -53,10 +53,10 @@ loop-j-preserved c =
     let a = c.args in
     let o = c.loop-j in
     let e : o.j ≡ suc (o.j - 1) = omega arith in
-    let v : Moving (points a.width a.chain.now) a.base a.low a.end a.drawn a.turned a.drawn-fits.now a.turned-fits.now a.marks.now (suc (o.j - 1)) o.marks =
-    subst (λ (n : ℕ). Moving (points a.width a.chain.now) a.base a.low a.end a.drawn a.turned a.drawn-fits.now a.turned-fits.now a.marks.now n o.marks) e o.invariant in
-    moving_next (points a.width a.chain.now) a.base a.low a.end a.drawn a.turned a.drawn-fits.now a.turned-fits.now a.marks.now (o.j - 1) o.marks v (omega arith) c.requires.0.inside c.set_of.result
-    (put_told (points a.width a.chain.now) a.base a.low a.end a.drawn a.turned a.drawn-fits.now a.turned-fits.now a.marks.now (o.j - 1) o.marks v (omega arith) c.requires.0.inside
+    let v : Moving (points a.width a.chain.now) a.base a.low a.end a.drawn a.turned a.drawn_fits.now a.turned_fits.now a.marks.now (suc (o.j - 1)) o.marks =
+    subst (λ (n : ℕ). Moving (points a.width a.chain.now) a.base a.low a.end a.drawn a.turned a.drawn_fits.now a.turned_fits.now a.marks.now n o.marks) e o.invariant in
+    moving_next (points a.width a.chain.now) a.base a.low a.end a.drawn a.turned a.drawn_fits.now a.turned_fits.now a.marks.now (o.j - 1) o.marks v (omega arith) c.requires.0.inside c.set_of.result
+    (put_told (points a.width a.chain.now) a.base a.low a.end a.drawn a.turned a.drawn_fits.now a.turned_fits.now a.marks.now (o.j - 1) o.marks v (omega arith) c.requires.0.inside
     c.fresh_at-fresh.result c.mark_here-here.result c.mark_before-before.result c.goes_on-as_drawn.result c.goes_on-as_turned.result c.set_of.result
     c.fresh_at-fresh.ensures c.mark_here-here.ensures c.mark_before-before.ensures c.goes_on-as_drawn.ensures c.goes_on-as_turned.ensures c.set_of.ensures)
 

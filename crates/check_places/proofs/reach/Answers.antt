@@ -25,7 +25,7 @@ pub overflow_sub-left : goal.overflow_sub-left
 overflow_sub-left c =
     let a = c.args in
     let l = c.loop-left in
-    omega (arith, (left_next a.width a.chain.now a.line.now a.turned a.at c.requires.0 l.c l.points l.last-x l.last-y l.left l.invariant (omega arith)).0)
+    omega (arith, (left_next a.width a.chain.now a.line.now a.turned a.at c.requires.0 l.c l.points l.last_x l.last_y l.left l.invariant (omega arith)).0)
 
 pub next_point-p-requires : goal.next_point-p-requires
 next_point-p-requires c =
@@ -37,44 +37,44 @@ pub offset_bounds-line-p : goal.offset_bounds-line-p
 offset_bounds-line-p c =
     let a = c.args in
     let l = c.loop-left in
-    omega (arith, c.requires.0.two, c.next_point-p.ensures, next_inside a.width a.chain.now a.line.now a.turned a.at c.requires.0 l.c l.points l.last-x l.last-y l.left l.invariant (omega arith))
+    omega (arith, c.requires.0.two, c.next_point-p.ensures, next_inside a.width a.chain.now a.line.now a.turned a.at c.requires.0 l.c l.points l.last_x l.last_y l.left l.invariant (omega arith))
 
 pub bounds-line-p : goal.bounds-line-p
 bounds-line-p c =
     let a = c.args in
     let l = c.loop-left in
-    omega (arith, c.requires.0.two, c.next_point-p.ensures, next_inside a.width a.chain.now a.line.now a.turned a.at c.requires.0 l.c l.points l.last-x l.last-y l.left l.invariant (omega arith))
+    omega (arith, c.requires.0.two, c.next_point-p.ensures, next_inside a.width a.chain.now a.line.now a.turned a.at c.requires.0 l.c l.points l.last_x l.last_y l.left l.invariant (omega arith))
 
 pub overflow_add-y : goal.overflow_add-y
 overflow_add-y c =
     let a = c.args in
     let l = c.loop-left in
-    omega (arith, c.requires.0.two, c.next_point-p.ensures, next_inside a.width a.chain.now a.line.now a.turned a.at c.requires.0 l.c l.points l.last-x l.last-y l.left l.invariant (omega arith))
+    omega (arith, c.requires.0.two, c.next_point-p.ensures, next_inside a.width a.chain.now a.line.now a.turned a.at c.requires.0 l.c l.points l.last_x l.last_y l.left l.invariant (omega arith))
 
 pub offset_bounds-line-p-in-loop-left : goal.offset_bounds-line-p-in-loop-left
 offset_bounds-line-p-in-loop-left c =
     let a = c.args in
     let l = c.loop-left in
-    omega (arith, c.requires.0.two, c.next_point-p.ensures, next_inside a.width a.chain.now a.line.now a.turned a.at c.requires.0 l.c l.points l.last-x l.last-y l.left l.invariant (omega arith))
+    omega (arith, c.requires.0.two, c.next_point-p.ensures, next_inside a.width a.chain.now a.line.now a.turned a.at c.requires.0 l.c l.points l.last_x l.last_y l.left l.invariant (omega arith))
 
 pub bounds-line-p-in-loop-left : goal.bounds-line-p-in-loop-left
 bounds-line-p-in-loop-left c =
     let a = c.args in
     let l = c.loop-left in
-    omega (arith, c.requires.0.two, c.next_point-p.ensures, next_inside a.width a.chain.now a.line.now a.turned a.at c.requires.0 l.c l.points l.last-x l.last-y l.left l.invariant (omega arith))
+    omega (arith, c.requires.0.two, c.next_point-p.ensures, next_inside a.width a.chain.now a.line.now a.turned a.at c.requires.0 l.c l.points l.last_x l.last_y l.left l.invariant (omega arith))
 
 pub loop-left-smaller-then-repeats : goal.loop-left-smaller-then-repeats
 loop-left-smaller-then-repeats c =
     let a = c.args in
     let l = c.loop-left in
-    omega (arith, c.requires.0.two, (left_next a.width a.chain.now a.line.now a.turned a.at c.requires.0 l.c l.points l.last-x l.last-y l.left l.invariant (omega arith)).0)
+    omega (arith, c.requires.0.two, (left_next a.width a.chain.now a.line.now a.turned a.at c.requires.0 l.c l.points l.last_x l.last_y l.left l.invariant (omega arith)).0)
 
 pub loop-left-preserved-then-repeats : goal.loop-left-preserved-then-repeats
 loop-left-preserved-then-repeats c =
     let a = c.args in
     let l = c.loop-left in
     let p = c.next_point-p in
-    reading_repeat a.width a.chain.now a.line.now a.turned a.at c.requires.0 l.c l.points l.last-x l.last-y l.left l.invariant (omega arith) (get_or a.line.now p.result 0) (get_or a.line.now (p.result + 1) 0) (ap (λ (i : ℕ). get_or a.line.now i 0) p.ensures) (ap (λ (i : ℕ). get_or a.line.now (i + 1) 0) p.ensures)
+    reading_repeat a.width a.chain.now a.line.now a.turned a.at c.requires.0 l.c l.points l.last_x l.last_y l.left l.invariant (omega arith) (get_or a.line.now p.result 0) (get_or a.line.now (p.result + 1) 0) (ap (λ (i : ℕ). get_or a.line.now i 0) p.ensures) (ap (λ (i : ℕ). get_or a.line.now (i + 1) 0) p.ensures)
     (sym c.repeats.ensures ∙ c.if-repeats.true)
 
 pub stands-requires : goal.stands-requires
@@ -89,7 +89,7 @@ returns-then-not-stands c =
     let a = c.args in
     let l = c.loop-left in
     let p = c.next_point-p in
-    reading_stop a.width a.chain.now a.line.now a.turned a.at c.requires.0 l.c l.points l.last-x l.last-y l.left l.invariant (omega arith) (get_or a.line.now p.result 0) (get_or a.line.now (p.result + 1) 0) (ap (λ (i : ℕ). get_or a.line.now i 0) p.ensures) (ap (λ (i : ℕ). get_or a.line.now (i + 1) 0) p.ensures)
+    reading_stop a.width a.chain.now a.line.now a.turned a.at c.requires.0 l.c l.points l.last_x l.last_y l.left l.invariant (omega arith) (get_or a.line.now p.result 0) (get_or a.line.now (p.result + 1) 0) (ap (λ (i : ℕ). get_or a.line.now i 0) p.ensures) (ap (λ (i : ℕ). get_or a.line.now (i + 1) 0) p.ensures)
     (sym c.repeats.ensures ∙ c.if-repeats.false) (sym c.stands.ensures ∙ not-true _ c.if-not-stands.true)
 
 pub overflow_add-points : goal.overflow_add-points
@@ -109,18 +109,18 @@ pub loop-left-smaller : goal.loop-left-smaller
 loop-left-smaller c =
     let a = c.args in
     let l = c.loop-left in
-    omega (arith, c.requires.0.two, (left_next a.width a.chain.now a.line.now a.turned a.at c.requires.0 l.c l.points l.last-x l.last-y l.left l.invariant (omega arith)).0)
+    omega (arith, c.requires.0.two, (left_next a.width a.chain.now a.line.now a.turned a.at c.requires.0 l.c l.points l.last_x l.last_y l.left l.invariant (omega arith)).0)
 
 pub loop-left-preserved : goal.loop-left-preserved
 loop-left-preserved c =
     let a = c.args in
     let l = c.loop-left in
     let p = c.next_point-p in
-    reading_next a.width a.chain.now a.line.now a.turned a.at c.requires.0 l.c l.points l.last-x l.last-y l.left l.invariant (omega arith) (get_or a.line.now p.result 0) (get_or a.line.now (p.result + 1) 0) (ap (λ (i : ℕ). get_or a.line.now i 0) p.ensures) (ap (λ (i : ℕ). get_or a.line.now (i + 1) 0) p.ensures)
+    reading_next a.width a.chain.now a.line.now a.turned a.at c.requires.0 l.c l.points l.last_x l.last_y l.left l.invariant (omega arith) (get_or a.line.now p.result 0) (get_or a.line.now (p.result + 1) 0) (ap (λ (i : ℕ). get_or a.line.now i 0) p.ensures) (ap (λ (i : ℕ). get_or a.line.now (i + 1) 0) p.ensures)
     (sym c.repeats.ensures ∙ c.if-repeats.false) (sym c.stands.ensures ∙ not-false _ c.if-not-stands.false)
 
 pub returns : goal.returns
 returns c =
     let a = c.args in
     let l = c.loop-left in
-    reading_end a.width a.chain.now a.line.now a.turned a.at c.requires.0 l.c l.points l.last-x l.last-y l.left 0 0 l.invariant (omega arith)
+    reading_end a.width a.chain.now a.line.now a.turned a.at c.requires.0 l.c l.points l.last_x l.last_y l.left 0 0 l.invariant (omega arith)

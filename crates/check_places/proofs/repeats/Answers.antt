@@ -6,9 +6,9 @@ use Rattle.check_places.proofs.Keeping.{kept_none, kept_some}
 use Rattle.check_places.proofs.repeats.Goals as goal
 
 pub returns-then-points-eq0 : goal.returns-then-points-eq0
-returns-then-points-eq0 c = let a = c.args in kept_none a.points a.last-x a.last-y (point a.x a.y) c.if-points-eq0.true
+returns-then-points-eq0 c = let a = c.args in kept_none a.points a.last_x a.last_y (point a.x a.y) c.if-points-eq0.true
 
 pub returns : goal.returns
 returns c =
     let a = c.args in
-    c.equal.ensures ∙ kept_some a.points a.last-x a.last-y (point a.x a.y) c.if-points-eq0.false
+    c.equal.ensures ∙ kept_some a.points a.last_x a.last_y (point a.x a.y) c.if-points-eq0.false

@@ -21,41 +21,41 @@ abbrev lines_of : Start → Lines
 lines_of s = lent s.args.coordinates.now s.args.counts.now s.args.groups.now s.args.kinds.now
 
 abbrev pieces_of : Start → LentPieces
-pieces_of s = lent_pieces s.args.pieces.now s.args.piece-members.now s.args.piece-marks.now s.args.piece-listing.now s.args.piece-merged.now s.args.k
+pieces_of s = lent_pieces s.args.pieces.now s.args.piece_members.now s.args.piece_marks.now s.args.piece_listing.now s.args.piece_merged.now s.args.k
 
 abbrev rooms_of : Start → FinishRooms
 rooms_of s = finish_rooms s.args.table.now s.args.members.now s.args.marks.now s.args.listing.now s.args.merged.now s.args.boxes.now s.args.workspace.now
 
 abbrev begun : Start → List (ℕ × Bool)
-begun s = call_tests s.args.wkb-type (lines_of s) s.args.settings.switch s.args.settings.limit
+begun s = call_tests s.args.wkb_type (lines_of s) s.args.settings.switch s.args.settings.limit
 
 abbrev rest : Start → List (ℕ × Bool)
-rest s = finish_rest s.args.wkb-type (lines_of s) (pieces_of s) s.args.settings (rooms_of s)
+rest s = finish_rest s.args.wkb_type (lines_of s) (pieces_of s) s.args.settings (rooms_of s)
 
 abbrev refused : Start → ℕ
-refused s = finish_refusal_of s.args.wkb-type (lines_of s) (pieces_of s) s.args.settings (rooms_of s)
+refused s = finish_refusal_of s.args.wkb_type (lines_of s) (pieces_of s) s.args.settings (rooms_of s)
 
 -- the tests that both calls begin with don't hold, nor then the origin's
 left1 : (c : Else-refused-ne0) → Left (refused (goal.at.Else-refused-ne0 c).Start) (rest (goal.at.Else-refused-ne0 c).Start)
 left1 c =
-    climbed (begun (goal.at.Else-refused-ne0 c).Start) (rest (goal.at.Else-refused-ne0 c).Start) (finish_opened c.args.wkb-type (lines_of (goal.at.Else-refused-ne0 c).Start) (pieces_of (goal.at.Else-refused-ne0 c).Start) c.args.settings (rooms_of (goal.at.Else-refused-ne0 c).Start))
-    (calls_numbered c.args.wkb-type (lines_of (goal.at.Else-refused-ne0 c).Start) c.args.settings.switch c.args.settings.limit) c.call_refusal-refused.ensures c.if-refused-ne0.false
+    climbed (begun (goal.at.Else-refused-ne0 c).Start) (rest (goal.at.Else-refused-ne0 c).Start) (finish_opened c.args.wkb_type (lines_of (goal.at.Else-refused-ne0 c).Start) (pieces_of (goal.at.Else-refused-ne0 c).Start) c.args.settings (rooms_of (goal.at.Else-refused-ne0 c).Start))
+    (calls_numbered c.args.wkb_type (lines_of (goal.at.Else-refused-ne0 c).Start) c.args.settings.switch c.args.settings.limit) c.call_refusal-refused.ensures c.if-refused-ne0.false
 
-left2 : (c : Else-origin_bad) → (Left (refused (goal.at.Else-origin_bad c).Start) ((19, lent_bad (width_of c.args.wkb-type) (lines_of (goal.at.Else-origin_bad c).Start) (pieces_of (goal.at.Else-origin_bad c).Start)) ∷ (7, finish_short (lines_of (goal.at.Else-origin_bad c).Start) (rooms_of (goal.at.Else-origin_bad c).Start)) ∷ []))
+left2 : (c : Else-origin_bad) → (Left (refused (goal.at.Else-origin_bad c).Start) ((19, lent_bad (width_of c.args.wkb_type) (lines_of (goal.at.Else-origin_bad c).Start) (pieces_of (goal.at.Else-origin_bad c).Start)) ∷ (7, finish_short (lines_of (goal.at.Else-origin_bad c).Start) (rooms_of (goal.at.Else-origin_bad c).Start)) ∷ []))
 left2 c = rung (left1 (goal.at.Else-origin_bad c).Else-refused-ne0) (sym c.origin_bad.ensures ∙ c.if-origin_bad.false)
 
-admitted : (c : Else-refused-ne0) → LinesAdmitted c.args.wkb-type (lines_of (goal.at.Else-refused-ne0 c).Start)
+admitted : (c : Else-refused-ne0) → LinesAdmitted c.args.wkb_type (lines_of (goal.at.Else-refused-ne0 c).Start)
 admitted c =
-    (call_admitted c.args.wkb-type (lines_of (goal.at.Else-refused-ne0 c).Start) c.args.settings.switch c.args.settings.limit (record { is = sym c.if-refused-ne0.false ∙ c.call_refusal-refused.ensures })).0
+    (call_admitted c.args.wkb_type (lines_of (goal.at.Else-refused-ne0 c).Start) c.args.settings.switch c.args.settings.limit (record { is = sym c.if-refused-ne0.false ∙ c.call_refusal-refused.ensures })).0
 
 pub returns-then-refused-ne0 : goal.returns-then-refused-ne0
-returns-then-refused-ne0 c = stayed (begun (goal.at.returns-then-refused-ne0 c).Start) (rest (goal.at.returns-then-refused-ne0 c).Start) (finish_opened c.args.wkb-type (lines_of (goal.at.returns-then-refused-ne0 c).Start) (pieces_of (goal.at.returns-then-refused-ne0 c).Start) c.args.settings (rooms_of (goal.at.returns-then-refused-ne0 c).Start)) c.call_refusal-refused.ensures c.if-refused-ne0.true
+returns-then-refused-ne0 c = stayed (begun (goal.at.returns-then-refused-ne0 c).Start) (rest (goal.at.returns-then-refused-ne0 c).Start) (finish_opened c.args.wkb_type (lines_of (goal.at.returns-then-refused-ne0 c).Start) (pieces_of (goal.at.returns-then-refused-ne0 c).Start) c.args.settings (rooms_of (goal.at.returns-then-refused-ne0 c).Start)) c.call_refusal-refused.ensures c.if-refused-ne0.true
 
 pub returns-then-origin_bad : goal.returns-then-origin_bad
 returns-then-origin_bad c = halt (left1 (goal.at.returns-then-origin_bad c).Else-refused-ne0) (sym c.origin_bad.ensures ∙ c.if-origin_bad.true)
 
 pub lent_bad-bad-requires : goal.lent_bad-bad-requires
-lent_bad-bad-requires c = sized c.args.wkb-type c.width_of.result (lines_of (goal.at.lent_bad-bad-requires c).Start) (admitted (goal.at.lent_bad-bad-requires c).Else-refused-ne0) c.width_of.ensures.0 c.width_of.ensures.1
+lent_bad-bad-requires c = sized c.args.wkb_type c.width_of.result (lines_of (goal.at.lent_bad-bad-requires c).Start) (admitted (goal.at.lent_bad-bad-requires c).Else-refused-ne0) c.width_of.ensures.0 c.width_of.ensures.1
 
 pub rest_short-requires : goal.rest_short-requires
 rest_short-requires c = (admitted (goal.at.rest_short-requires c).Else-refused-ne0).few

@@ -18,18 +18,18 @@ abbrev rooms_of : Start → FirstRooms
 rooms_of s = first_rooms s.args.pieces.now s.args.members.now s.args.marks.now s.args.listing.now s.args.merged.now s.args.workspace.now
 
 -- the tests that both calls begin with don't hold
-left1 : (c : Else-refused-ne0) → (Left (first_refusal_of c.args.wkb-type (lines_of (goal.at.Else-refused-ne0 c).Start) c.args.switch c.args.limit (rooms_of (goal.at.Else-refused-ne0 c).Start)) (first_rest (lines_of (goal.at.Else-refused-ne0 c).Start) (rooms_of (goal.at.Else-refused-ne0 c).Start)))
+left1 : (c : Else-refused-ne0) → (Left (first_refusal_of c.args.wkb_type (lines_of (goal.at.Else-refused-ne0 c).Start) c.args.switch c.args.limit (rooms_of (goal.at.Else-refused-ne0 c).Start)) (first_rest (lines_of (goal.at.Else-refused-ne0 c).Start) (rooms_of (goal.at.Else-refused-ne0 c).Start)))
 left1 c =
-    climbed (call_tests c.args.wkb-type (lines_of (goal.at.Else-refused-ne0 c).Start) c.args.switch c.args.limit) (first_rest (lines_of (goal.at.Else-refused-ne0 c).Start) (rooms_of (goal.at.Else-refused-ne0 c).Start))
-    (first_opened c.args.wkb-type (lines_of (goal.at.Else-refused-ne0 c).Start) c.args.switch c.args.limit (rooms_of (goal.at.Else-refused-ne0 c).Start))
-    (calls_numbered c.args.wkb-type (lines_of (goal.at.Else-refused-ne0 c).Start) c.args.switch c.args.limit) c.call_refusal-refused.ensures c.if-refused-ne0.false
+    climbed (call_tests c.args.wkb_type (lines_of (goal.at.Else-refused-ne0 c).Start) c.args.switch c.args.limit) (first_rest (lines_of (goal.at.Else-refused-ne0 c).Start) (rooms_of (goal.at.Else-refused-ne0 c).Start))
+    (first_opened c.args.wkb_type (lines_of (goal.at.Else-refused-ne0 c).Start) c.args.switch c.args.limit (rooms_of (goal.at.Else-refused-ne0 c).Start))
+    (calls_numbered c.args.wkb_type (lines_of (goal.at.Else-refused-ne0 c).Start) c.args.switch c.args.limit) c.call_refusal-refused.ensures c.if-refused-ne0.false
 
-admitted : (c : Else-refused-ne0) → LinesAdmitted c.args.wkb-type (lines_of (goal.at.Else-refused-ne0 c).Start)
+admitted : (c : Else-refused-ne0) → LinesAdmitted c.args.wkb_type (lines_of (goal.at.Else-refused-ne0 c).Start)
 admitted c =
-    (call_admitted c.args.wkb-type (lines_of (goal.at.Else-refused-ne0 c).Start) c.args.switch c.args.limit (record { is = sym c.if-refused-ne0.false ∙ c.call_refusal-refused.ensures })).0
+    (call_admitted c.args.wkb_type (lines_of (goal.at.Else-refused-ne0 c).Start) c.args.switch c.args.limit (record { is = sym c.if-refused-ne0.false ∙ c.call_refusal-refused.ensures })).0
 
 pub returns-then-refused-ne0 : goal.returns-then-refused-ne0
-returns-then-refused-ne0 c = stayed (call_tests c.args.wkb-type (lines_of (goal.at.returns-then-refused-ne0 c).Start) c.args.switch c.args.limit) (first_rest (lines_of (goal.at.returns-then-refused-ne0 c).Start) (rooms_of (goal.at.returns-then-refused-ne0 c).Start)) (first_opened c.args.wkb-type (lines_of (goal.at.returns-then-refused-ne0 c).Start) c.args.switch c.args.limit (rooms_of (goal.at.returns-then-refused-ne0 c).Start)) c.call_refusal-refused.ensures c.if-refused-ne0.true
+returns-then-refused-ne0 c = stayed (call_tests c.args.wkb_type (lines_of (goal.at.returns-then-refused-ne0 c).Start) c.args.switch c.args.limit) (first_rest (lines_of (goal.at.returns-then-refused-ne0 c).Start) (rooms_of (goal.at.returns-then-refused-ne0 c).Start)) (first_opened c.args.wkb_type (lines_of (goal.at.returns-then-refused-ne0 c).Start) c.args.switch c.args.limit (rooms_of (goal.at.returns-then-refused-ne0 c).Start)) c.call_refusal-refused.ensures c.if-refused-ne0.true
 
 pub overflow_mul-n : goal.overflow_mul-n
 overflow_mul-n c = omega (arith, (admitted c).few)

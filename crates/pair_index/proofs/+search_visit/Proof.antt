@@ -74,8 +74,8 @@ known t = (
 small : (t : ℕ) (a : search_lts.Start (learnt t) (search_at t) search'.Post)
     → (a.args.at.tie ≤ gone) × ((a.args.best.key ≤ gone) × (a.args.best.tie ≤ gone))
 small t a =
-    let p = a.well-formed.1.1.1.1.1.1.1.1.0 in
-    let q = a.well-formed.1.1.1.1.1.1.1.1.1.0 in
+    let p = a.well_formed.1.1.1.1.1.1.1.1.0 in
+    let q = a.well_formed.1.1.1.1.1.1.1.1.1.0 in
     (omega (arith, p), (omega (arith, q), omega (arith, q)))
 
 search_pair_with_requires : (t : ℕ) → search_lts.Need-pair-with-requires (learnt t) (search_at t) search'.Post
@@ -88,7 +88,7 @@ search_returns : (t : ℕ) → search_lts.Need-returns (learnt t) (search_at t) 
 search_returns t c =
     let a = c.before.before.before.before in
     c.lesser.ensures ∙ ap (min (worth a.args.best))
-    (leaf_pair a.requires.1.0 a.args.own _ _ _ _ (small t a).0 (small t a).1 a.requires.1.1 a.requires.1.2 c.before.before.if1.true _ c.before.pair-with.ensures)
+    (leaf_pair a.requires.1.0 a.args.own _ _ _ _ (small t a).0 (small t a).1 a.requires.1.1 a.requires.1.2 c.before.before.if1.true _ c.before.pair_with.ensures)
 
 search_settled_requires : (t : ℕ) → search_lts.Need-settled-requires (learnt t) (search_at t) search'.Post
 search_settled_requires t c κs =
@@ -104,10 +104,10 @@ search_returns_2 t c =
     at_bound a.requires.1.0 a.args.own _ _ _ _ (small t a).0 (small t a).1 a.requires.1.1 a.requires.1.2 _ (settled_either a.args.w.now a.args.t a.args.n a.args.d a.args.ax a.args.ay a.args.own a.args.at.tie c.before.before.settled.ensures) (test_same _ _ c.before.same.ensures c.if2.true)
 
 search_mul_l : (t : ℕ) → search_lts.Need-overflow-mul-l (learnt t) (search_at t) search'.Post
-search_mul_l t c = let a = c.before.before.before.before.before in omega (arith, (has (ready_right a.requires.1.0 (pos_of_ne-zero c.before.before.before.if1.false))).inside, a.well-formed.0.1)
+search_mul_l t c = let a = c.before.before.before.before.before in omega (arith, (has (ready_right a.requires.1.0 (pos_of_ne-zero c.before.before.before.if1.false))).inside, a.well_formed.0.1)
 
 search_add_r : (t : ℕ) → search_lts.Need-overflow-add-r (learnt t) (search_at t) search'.Post
-search_add_r t c = let a = c.before.before.before.before.before in omega (arith, (has (ready_right a.requires.1.0 (pos_of_ne-zero c.before.before.before.if1.false))).inside, a.well-formed.0.1)
+search_add_r t c = let a = c.before.before.before.before.before in omega (arith, (has (ready_right a.requires.1.0 (pos_of_ne-zero c.before.before.before.if1.false))).inside, a.well_formed.0.1)
 
 search_sub_down : (t : ℕ) → search_lts.Need-overflow-sub-down (learnt t) (search_at t) search'.Post
 search_sub_down t c = omega (arith, pos_of_ne-zero c.before.before.before.if1.false)

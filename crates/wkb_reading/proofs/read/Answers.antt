@@ -9,7 +9,7 @@ use Rattle.wkb_reading.proofs.read.Goals as goal
 use Rattle.wkb_reading.proofs.read.Goals.{Else-refused-ne0, Else-room_short, Start}
 
 abbrev lent : Start → LentRun
-lent s = run_as s.args.run.now s.args.lengths.now s.args.coordinates.now s.args.counts.now s.args.wkb-type.now
+lent s = run_as s.args.run.now s.args.lengths.now s.args.coordinates.now s.args.counts.now s.args.wkb_type.now
 
 abbrev given : Else-refused-ne0 → LentRun
 given c = lent (goal.at.Else-refused-ne0 c).Start

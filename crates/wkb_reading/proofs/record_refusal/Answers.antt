@@ -12,7 +12,7 @@ use Rattle.wkb_reading.proofs.record_refusal.Goals as goal
 use Rattle.wkb_reading.proofs.record_refusal.Goals.{Else-bytes-gt1, Else-bytes-lt-HEADER, Else-own-wkb_type, Else-width-eq0, Start}
 
 abbrev After : ℕ → Start → Type 0
-After k s = Left (record_refusal s.args.wkb-type s.args.bytes.now) (drop k (tests s.args.wkb-type s.args.bytes.now))
+After k s = Left (record_refusal s.args.wkb_type s.args.bytes.now) (drop k (tests s.args.wkb_type s.args.bytes.now))
 
 left1 : (c : Else-bytes-lt-HEADER) → After 1 (goal.at.Else-bytes-lt-HEADER c).Start
 left1 c = rung (opened _ _) (le-ltb _ _ c.if-bytes-lt-HEADER.false)

@@ -33,7 +33,7 @@ pub record_refusal-refused-requires : goal.record_refusal-refused-requires
 record_refusal-refused-requires c = tt
 
 pub returns-then-refused-ne0 : goal.returns-then-refused-ne0
-returns-then-refused-ne0 c = let a = c.args in stops a.wkb-type a.lengths.now a.run.now c.loop-i.i c.loop-i.at _ _ c.loop-i-test.true c.loop-i.invariant.2 c.record_refusal-refused.ensures c.if-refused-ne0.true
+returns-then-refused-ne0 c = let a = c.args in stops a.wkb_type a.lengths.now a.run.now c.loop-i.i c.loop-i.at _ _ c.loop-i-test.true c.loop-i.invariant.2 c.record_refusal-refused.ensures c.if-refused-ne0.true
 
 pub overflow_add-i : goal.overflow_add-i
 overflow_add-i c = omega arith
@@ -46,8 +46,8 @@ loop-i-preserved c =
     let a = c.args in (
       omega arith,
       omega (arith, total_drop a.lengths.now c.loop-i.i c.loop-i-test.true),
-      passes a.wkb-type a.lengths.now a.run.now c.loop-i.i c.loop-i.at _ _ c.loop-i-test.true c.loop-i.invariant.2 c.record_refusal-refused.ensures c.if-refused-ne0.false,
+      passes a.wkb_type a.lengths.now a.run.now c.loop-i.i c.loop-i.at _ _ c.loop-i-test.true c.loop-i.invariant.2 c.record_refusal-refused.ensures c.if-refused-ne0.false,
     )
 
 pub returns : goal.returns
-returns c = let a = c.args in sym (c.loop-i.invariant.2 ∙ nothing_refused a.wkb-type a.lengths.now _ c.loop-i.i c.loop-i-test.false)
+returns c = let a = c.args in sym (c.loop-i.invariant.2 ∙ nothing_refused a.wkb_type a.lengths.now _ c.loop-i.i c.loop-i-test.false)

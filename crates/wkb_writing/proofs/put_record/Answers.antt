@@ -33,6 +33,6 @@ shape_of-run c =
 
 pub returns : goal.returns
 returns c =
-    let p = record_put c.args.order c.args.wkb-type c.args.count c.args.at c.args.numbers.now c.requires
+    let p = record_put c.args.order c.args.wkb_type c.args.count c.args.at c.args.numbers.now c.requires
     c.put_word.ensures c.put_word-2.ensures c.put_numbers.ensures in
-    put_whole c.args.order c.args.wkb-type c.args.count c.args.numbers.now refl p
+    put_whole c.args.order c.args.wkb_type c.args.count c.args.numbers.now refl p

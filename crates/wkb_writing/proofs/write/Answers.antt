@@ -15,7 +15,7 @@ use Rattle.wkb_writing.proofs.write.Goals.{Else-any_missing, Else-order-gt1, Els
 
 abbrev lent : Start → LentChains
 lent s = record {
-  type = s.args.wkb-type;
+  type = s.args.wkb_type;
   input = s.args.coordinates.now;
   merged = s.args.merged.now;
   table = s.args.table.now;
