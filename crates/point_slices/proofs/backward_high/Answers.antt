@@ -78,7 +78,7 @@ loop-i-preserved c =
       omega (arith, l.invariant.0, next.0),
       call.ensures.there,
       omega (arith, m.1, l.invariant.2, next.0),
-      call.auto.0 ∙ l.invariant.3,
+      call.auto.rest ∙ l.invariant.3,
       m.0,
       next.1,
       near_at two a.src.now (l.i - a.width) call.ensures,

@@ -66,7 +66,7 @@ loop-i-preserved c =
     let call = c.next_high-h in
     let next = multiple_next l.invariant.5 c.loop-i-test.true in
     let m = way_step two (rw (points_from a.width a.src.now l.i (omega (arith, c.requires.0)) next.0) at l.invariant.4) call.ensures.holds in
-    (next.0, call.ensures.there, omega (arith, m.1, l.invariant.2), call.auto.0 ∙ l.invariant.3, m.0, next.1, near_at two a.src.now l.i call.ensures)
+    (next.0, call.ensures.there, omega (arith, m.1, l.invariant.2), call.auto.rest ∙ l.invariant.3, m.0, next.1, near_at two a.src.now l.i call.ensures)
 
 pub shape_of-rest : goal.shape_of-rest
 shape_of-rest c = c.loop-i.invariant.3 ∙ c.push_high-h.auto.rest

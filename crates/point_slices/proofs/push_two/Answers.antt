@@ -4,10 +4,10 @@ use native.Mathlib.Omega.{arith}
 use lib.ListN.{length-set}
 use Prim.Native.Nat.{◌≤◌}
 use mathlib.Core.Path.{sym, ◌∙◌}
-use mathlib.Core.Logic.{⊎_elim}
 use Rattle.rules.specs.Plane.{point}
 use Rattle.point_slices.proofs.Runs.{two_two, last_two, last_none, kept, more_two}
 use Rattle.point_slices.proofs.push_two.Goals as goal
+use Rattle.point_slices.proofs.push_two.Goals.{then-have-ge2+else-equal, else-have-ge2}
 
 pub returns-then-equal : goal.returns-then-equal
 returns-then-equal c =
@@ -23,7 +23,7 @@ pub returns : goal.returns
 returns c =
     let a = c.args in
     more_two a.rest.now a.have a.x a.y c.requires
-    (⊎_elim
-    (λ w. last_two a.rest.now a.have (point a.x a.y) (omega arith) w.0.taken ∙ sym w.3.ensures ∙ w.4.left)
-    (λ w. last_none 2 two_two a.rest.now a.have (point a.x a.y) (omega (arith, w.left)))
-    c.if-have-ge2.branch)
+    (elim c.if-have-ge2.branch [
+      then-have-ge2+else-equal w ↦ last_two a.rest.now a.have (point a.x a.y) (omega arith) w.if-have-ge2.true ∙ sym w.equal.ensures ∙ w.if-equal.false
+    | else-have-ge2 w ↦ last_none 2 two_two a.rest.now a.have (point a.x a.y) (omega (arith, w.if-have-ge2.false))
+    ])
