@@ -1,7 +1,8 @@
 -- Boxes, their levels and window questions, computed on the book: both sides of each edge.
+use Rattle.std.specs.Prelude.{◌*◌, ◌≡◌, ◌∷◌, ◌++◌}
 use mathlib.Core.Path.{refl}
 use lib.Ieee.{lt, le, eq, of_bits}
-use Rattle.rules.specs.Library.{ℕ, ◌*◌, ◌≡◌, true, false, List, [], ◌∷◌, ◌++◌, map, length, replicate, Settings, Box, Window}
+use Rattle.rules.specs.Library.{ℕ, true, false, List, [], map, length, replicate, Settings, Box, Window}
 use Rattle.rules.specs.Lists.{from, upto, keep}
 use Rattle.rules.specs.Plane.{Point, point, float}
 use Rattle.rules.specs.Boxes.{lesser, greater, union, spot, grown, box_of, in_pairs, levels, stacked, four, box_numbers, box_at}

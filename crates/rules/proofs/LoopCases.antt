@@ -1,7 +1,8 @@
 -- Loops, computed on the book: which points are one, and that every chain's record says so, whether it is a line alone, a line that passes through, or merged.
+use Rattle.std.specs.Prelude.{◌≡◌, ◌∷◌}
 use mathlib.Core.Path.{refl}
 use lib.Ieee.{lt, eq, sub}
-use Rattle.rules.specs.Library.{ℕ, ◌≡◌, true, false, [], ◌∷◌, replicate}
+use Rattle.rules.specs.Library.{ℕ, true, false, [], replicate}
 use Rattle.rules.specs.Plane.{points, float}
 use Rattle.rules.specs.Layout.{Lines, lent, loop}
 use Rattle.rules.specs.Refusals.{rooms, refusal_of}

@@ -1,7 +1,8 @@
 -- Offsets, computed on the book: limits of some, and each refusal of the calls with an offset in the limit's place.
+use Rattle.std.specs.Prelude.{◌*◌, ◌≡◌}
 use mathlib.Core.Path.{refl}
 use lib.Ieee.{nan, inf, of_bits, size, round, to_bits}
-use Rattle.rules.specs.Library.{ℕ, ◌*◌, ◌≡◌, true, false, replicate, Accepted, Refused}
+use Rattle.rules.specs.Library.{ℕ, true, false, replicate, Accepted, Refused}
 use Rattle.rules.specs.Lists.{total, count}
 use Rattle.rules.specs.Root.{digits, floor_root}
 use Rattle.rules.specs.Plane.{reads, points, float}

@@ -1,7 +1,8 @@
 -- The reasons of a few bends, computed on the book: each of the five, in either order of the ends, and refusal 26 on both sides of its edges.
+use Rattle.std.specs.Prelude.{◌≡◌, ◌∷◌}
 use mathlib.Core.Path.{refl}
 use lib.Ieee.{add, mul, le}
-use Rattle.rules.specs.Library.{ℕ, ◌≡◌, List, [], ◌∷◌, map}
+use Rattle.rules.specs.Library.{ℕ, List, [], map}
 use Rattle.rules.specs.Lists.{any_of, first_place}
 use Rattle.rules.specs.Refusals.{LentEnds}
 use Rattle.rules.specs.Calls.{unless}

@@ -1,7 +1,8 @@
 -- Small records, computed on the book: both byte orders, each refusal, what is read and what is written.
+use Rattle.std.specs.Prelude.{◌*◌, ◌≡◌, ◌∷◌, ◌++◌}
 use mathlib.Core.Path.{refl}
 use mathlib.Core.List.{flat_map}
-use Rattle.rules.specs.Library.{ℕ, ◌*◌, ◌≡◌, List, [], ◌∷◌, ◌++◌, replicate}
+use Rattle.rules.specs.Library.{ℕ, List, [], replicate}
 use Rattle.rules.specs.Lists.{total, from}
 use Rattle.rules.specs.Refusals.{first_of, source_of, no_chain, chain_refusal_of}
 use Rattle.rules.specs.Types.{width_of}

@@ -1,6 +1,7 @@
 -- 02, What lies in this window? "Boxes of least x, least y, greatest x, greatest y (of equal values the earlier one's bits): first the chains', then level by
 -- level those of pairs, an odd last one alone, up to one for all." A box's numbers are doubles as their 64 bits, as coordinates are.
-use Rattle.rules.specs.Library.{ℕ, zero, suc, ◌+◌, ◌*◌, true, false, cond, List, [], ◌∷◌, ◌++◌, length, get_or, leb, lt, Box}
+use Rattle.std.specs.Prelude.{◌+◌, ◌*◌, ◌∷◌, ◌++◌}
+use Rattle.rules.specs.Library.{ℕ, zero, suc, true, false, cond, List, [], length, get_or, leb, lt, Box}
 use Rattle.rules.specs.Plane.{Point, float}
 
 -- ---- the box of a chain

@@ -1,6 +1,7 @@
 -- 01, How much a contract has to say: what each public call determines, its answer and every lent slice at return. A refused call stores nothing.
 -- In each record the plain names are what is lent, as it stands at entry, and the names with a prime what it is at return.
-use Rattle.rules.specs.Library.{ℕ, zero, suc, ◌-◌, ◌*◌, ◌^◌, ◌≡◌, Bool, List, [], ◌++◌, length, take, drop, replicate, Answer, Accepted, Refused, Settings}
+use Rattle.std.specs.Prelude.{◌-◌, ◌*◌, ◌^◌, ◌≡◌, ◌++◌}
+use Rattle.rules.specs.Library.{ℕ, zero, suc, Bool, List, [], length, take, drop, replicate, Answer, Accepted, Refused, Settings}
 use Rattle.rules.specs.Selecting.{End, Pair, select}
 use Rattle.rules.specs.Layout.{Lines, Laid, build, ends, listed}
 use Rattle.rules.specs.Types.{width_of}

@@ -1,6 +1,7 @@
 -- 02 [12], Chains made elsewhere: which deliveries of chains are acceptable, and what the call that judges one determines. Each definition is a clause
 -- of the request.
-use Rattle.rules.specs.Library.{ℕ, zero, suc, ◌+◌, ◌*◌, ◌≡◌, Bool, true, false, not, ◌&&◌, ◌||◌, cond, List, [], ◌∷◌, ◌++◌, map, flat_map, reverse, none, length, take, drop, get_or, leb, eqb, ltb, lt, Answer, Meeting, Grid, Exact, Cells}
+use Rattle.std.specs.Prelude.{◌+◌, ◌*◌, ◌≡◌, ◌&&◌, ◌||◌, ◌∷◌, ◌++◌}
+use Rattle.rules.specs.Library.{ℕ, zero, suc, Bool, true, false, not, cond, List, [], map, flat_map, reverse, none, length, take, drop, get_or, leb, eqb, ltb, lt, Answer, Meeting, Grid, Exact, Cells}
 use Rattle.rules.specs.Lists.{count, upto, any_of, all_of}
 use Rattle.rules.specs.Plane.{Point, point, points, equal, same_key, key_of, nought}
 use Rattle.rules.specs.Chaining.{Line, plain, lay}

@@ -1,6 +1,7 @@
 -- 02 [10]: two districts in one call. Which groups are whose, and how much a district brings: every line and every coordinate counts, those of lines that
 -- pass through too. District 0 is the first, and 1 the second.
-use Rattle.rules.specs.Library.{ℕ, ◌+◌, ◌^◌, Bool, true, false, ◌||◌, List, [], ◌∷◌, length, get_or, drop, ltb, eqb}
+use Rattle.std.specs.Prelude.{◌+◌, ◌^◌, ◌||◌, ◌∷◌}
+use Rattle.rules.specs.Library.{ℕ, Bool, true, false, List, [], length, get_or, drop, ltb, eqb}
 use Rattle.rules.specs.Lists.{keep}
 
 -- the second district's first group

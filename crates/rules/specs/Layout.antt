@@ -1,5 +1,6 @@
 -- 01, Input and output: numbers read as lines and ends, and chains and pairs written as numbers.
-use Rattle.rules.specs.Library.{ℕ, suc, ◌+◌, ◌-◌, Bool, true, false, ◌&&◌, List, [], ◌∷◌, ◌++◌, map, flat_map, leb, eqb, Float, nan, length, get_or, take, drop, Direction, Absent, Toward, Settings}
+use Rattle.std.specs.Prelude.{◌+◌, ◌-◌, ◌&&◌, ◌∷◌, ◌++◌}
+use Rattle.rules.specs.Library.{ℕ, suc, Bool, true, false, List, [], map, flat_map, leb, eqb, Float, nan, length, get_or, take, drop, Direction, Absent, Toward, Settings}
 use Rattle.rules.specs.Lists.{one, total}
 use Rattle.rules.specs.Plane.{Point, point, points, flat}
 use Rattle.rules.specs.Selecting.{End, Pair}

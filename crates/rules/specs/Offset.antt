@@ -1,6 +1,7 @@
 -- 02, [11]: a bend stated as g millimetres of offset per metre run, from 0 to 1,000; the limit that it stands for; and the calls with g in the
 -- limit's place.
-use Rattle.rules.specs.Library.{ℕ, ◌+◌, ◌*◌, ◌/◌, ◌^◌, ◌≡◌, Bool, true, cond, ◌&&◌, List, [], ◌∷◌, length, ltb, eqb, Float, nan, binary64, round, to_bits, Answer, Settings}
+use Rattle.std.specs.Prelude.{◌+◌, ◌*◌, ◌/◌, ◌^◌, ◌≡◌, ◌&&◌, ◌∷◌}
+use Rattle.rules.specs.Library.{ℕ, Bool, true, cond, List, [], length, ltb, eqb, Float, nan, binary64, round, to_bits, Answer, Settings}
 use Rattle.rules.specs.Root.{floor_root}
 use Rattle.rules.specs.Layout.{Lines, listed}
 use Rattle.rules.specs.Refusals.{first_of, Rooms, LentEnds, lent_ends, refusal_with, pair_refusal_with, end_room}

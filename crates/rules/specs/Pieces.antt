@@ -1,6 +1,7 @@
 -- 02 [9], One exact round, many zooms: pieces that a call lends, what they stand for, refusal 19 clause by clause, and what the two calls determine.
 -- A record of a piece has 01's five numbers: first member, member count, source, first coordinate, coordinate count.
-use Rattle.rules.specs.Library.{ℕ, ◌+◌, ◌*◌, ◌≡◌, Bool, true, false, not, ◌&&◌, ◌||◌, List, [], ◌∷◌, ◌++◌, map, flat_map, length, get_or, take, drop, eqb, ltb, Float, Answer, Settings}
+use Rattle.std.specs.Prelude.{◌+◌, ◌*◌, ◌≡◌, ◌&&◌, ◌||◌, ◌∷◌, ◌++◌}
+use Rattle.rules.specs.Library.{ℕ, Bool, true, false, not, List, [], map, flat_map, length, get_or, take, drop, eqb, ltb, Float, Answer, Settings}
 use Rattle.rules.specs.Lists.{count, upto, total, any_of}
 use Rattle.rules.specs.Plane.{nought, points, flat}
 use Rattle.rules.specs.Chaining.{Piece, pieces, round_one, round_two}

@@ -1,6 +1,7 @@
 -- 01, Ends and Direction: points, the keys that group ends, directions, and the measure of a pair.
 -- A coordinate is its 64 bits: a NaN keeps its payload, and the exact key is the bits.
-use Rattle.rules.specs.Library.{ℕ, zero, suc, ◌/◌, Bool, true, false, ◌&&◌, not, cond, List, [], ◌∷◌, ◌++◌, length, get_or, take, drop, replicate, none, some, eqb, ℤ, pos, negsuc, Float, fin, binary64, of_bits, add, sub, mul, div, lt, eq, Direction, Absent, Toward, Grid, Exact, Cells}
+use Rattle.std.specs.Prelude.{◌/◌, ◌&&◌, ◌∷◌, ◌++◌}
+use Rattle.rules.specs.Library.{ℕ, zero, suc, Bool, true, false, not, cond, List, [], length, get_or, take, drop, replicate, none, some, eqb, ℤ, pos, negsuc, Float, fin, binary64, of_bits, add, sub, mul, div, lt, eq, Direction, Absent, Toward, Grid, Exact, Cells}
 use Rattle.rules.specs.Lists.{first}
 use Rattle.rules.specs.Root.{root}
 use Rattle.rules.specs.Cell.{cell}

@@ -1,6 +1,7 @@
 -- 02, Why wasn't this bend joined? "A call that, for two ends, gives the reason: selected, same piece, absent direction, not qualifying, or the earliest
 -- selected pair that blocks them; the first of these that applies." The two ends come in either order. "Output and refusals are the plain route's, then 26."
-use Rattle.rules.specs.Library.{ℕ, ◌+◌, ◌*◌, ◌≡◌, Bool, true, false, not, ◌&&◌, ◌||◌, List, [], ◌∷◌, eqb, ltb, length, get_or, Float, Answer, Direction, Absent, Toward, Reason, Selected, SamePiece, AbsentDirection, NotQualifying, Blocked}
+use Rattle.std.specs.Prelude.{◌+◌, ◌*◌, ◌≡◌, ◌&&◌, ◌||◌, ◌∷◌}
+use Rattle.rules.specs.Library.{ℕ, Bool, true, false, not, List, [], eqb, ltb, length, get_or, Float, Answer, Direction, Absent, Toward, Reason, Selected, SamePiece, AbsentDirection, NotQualifying, Blocked}
 use Rattle.rules.specs.Lists.{any_of, first_place}
 use Rattle.rules.specs.Selecting.{End, Pair, pair}
 use Rattle.rules.specs.Layout.{listed}

@@ -1,6 +1,7 @@
 -- 02, What lies in this window? "A box with a least above its greatest, or with a NaN, meets no window; any other meets it where they overlap or touch. A window
 -- question on lent boxes lists, ascending and each once, the chains whose own box and all boxes above it meet the window."
-use Rattle.rules.specs.Library.{ℕ, zero, suc, ◌+◌, ◌*◌, ◌/◌, ◌^◌, ◌≡◌, Bool, true, false, not, ◌&&◌, ◌||◌, List, [], ◌∷◌, length, leb, ltb, Float, le, Answer, Box, Window}
+use Rattle.std.specs.Prelude.{◌+◌, ◌*◌, ◌/◌, ◌^◌, ◌≡◌, ◌&&◌, ◌||◌, ◌∷◌}
+use Rattle.rules.specs.Library.{ℕ, zero, suc, Bool, true, false, not, List, [], length, leb, ltb, Float, le, Answer, Box, Window}
 use Rattle.rules.specs.Lists.{upto, keep}
 use Rattle.rules.specs.Plane.{float}
 use Rattle.rules.specs.Boxes.{box_size, box_at, box_room}

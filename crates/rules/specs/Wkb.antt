@@ -1,6 +1,7 @@
 -- 02, WKB in and out, and Heights and measures: lines as records of OGC 06-103r4. A record is bytes: one for the byte order, four for the type, four for the
 -- count of coordinates, and eight for each double. All is said over the width of a type, how many doubles a coordinate has.
-use Rattle.rules.specs.Library.{ℕ, zero, suc, ◌+◌, ◌-◌, ◌*◌, ◌/◌, ◌%◌, ◌≡◌, Bool, true, false, not, ◌||◌, List, [], ◌∷◌, ◌++◌, map, flat_map, reverse, length, take, drop, get_or, eqb, ltb, Answer}
+use Rattle.std.specs.Prelude.{◌+◌, ◌-◌, ◌*◌, ◌/◌, ◌%◌, ◌≡◌, ◌||◌, ◌∷◌, ◌++◌}
+use Rattle.rules.specs.Library.{ℕ, zero, suc, Bool, true, false, not, List, [], map, flat_map, reverse, length, take, drop, get_or, eqb, ltb, Answer}
 use Rattle.rules.specs.Lists.{total, from}
 use Rattle.rules.specs.Refusals.{first_of, short, entry, no_chain}
 use Rattle.rules.specs.Types.{width_of, no_type}

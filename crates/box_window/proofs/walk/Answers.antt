@@ -1,13 +1,13 @@
 -- The loop's invariant is `Walked`. Each turn goes on to a box that begins at a later chain, or down to one that begins at the same chain.
 use Prim.Native.Nat.{◌-◌, ◌+◌, ◌*◌, ◌<◌}
 use mathlib.Core.Path.{sym, ◌∙◌}
-use mathlib.Core.Logic.{⊎_elim}
 use native.Mathlib.Omega.{arith}
 use borrow.Author.Rules.{rules}
 use Rattle.box_window.specs.Levels.{first}
 use Rattle.box_window.proofs.Below.{first_down}
 use Rattle.box_window.proofs.Walked.{Walked, Passed, small, found_small, before_end, walked_start, walked_down, walked_found, walked_hidden, passed_as, passed_on, walked_done}
 use Rattle.box_window.proofs.walk.Goals as goal
+use Rattle.box_window.proofs.walk.Goals.{After-highest-next, then-shown+else-level-gt0, else-shown}
 
 pub loop-level-init : goal.loop-level-init
 loop-level-init c = walked_start _ _ _ _ _ c.requires.0 _
@@ -60,35 +60,28 @@ bounds-found-have c = omega (arith, found_small _ _ _ _ _ c.requires.0 _ _ c.if-
 pub overflow_add-have : goal.overflow_add-have
 overflow_add-have c = omega (arith, found_small _ _ _ _ _ c.requires.0 _ _ c.if-level-gt0.false c.loop-level.invariant c.loop-level-test.true, c.requires.2)
 
--- where the arms meet, box j has been looked at
-abbrev Here : Type 0
-Here = lts.Joined2 (shown_reads.Asked, shown_reads.Learnt, highest_reads.Asked, highest_reads.Learnt) reads.Pre reads.Post invariant-loop decreases-loop
-
-passed : (c : Here) → Passed c.before.before.before.before.before.before.before.before.before.before.args.w c.before.before.before.before.before.before.before.before.before.before.args.boxes.now c.before.before.before.before.before.before.before.before.before.before.args.k c.before.before.before.before.before.before.before.before.before.before.args.top c.before.before.before.before.before.before.before.before.before.before.args.found.now c.if2.found c.if2.have c.before.before.before.before.before.before.loop.level c.before.before.before.before.before.before.loop.j
-passed c =
-    let s = c.before.before.before.before.before.before.before.before.before.before in
-    let l = c.before.before.before.before.before.before.loop in
-    let i = c.before.before.before.if1.true in
-    ⊎_elim
-    (λ x. passed_as _ _ x.2 x.3 (walked_found _ _ _ _ _ s.requires.0 _ _ _ _ _ x.1.left l.invariant i s.requires.1 (sym c.before.shown.ensures ∙ x.0.taken)))
-    (λ x. passed_as _ _ x.1 x.2 (walked_hidden _ _ _ _ _ s.requires.0 _ _ _ _ _ l.invariant i (sym c.before.shown.ensures ∙ x.0.left)))
-    c.if2.branch
-
 pub overflow_add-j : goal.overflow_add-j
 overflow_add-j c = omega (arith, (small _ _ _ _ _ c.requires.0 _ _ c.loop-level.invariant.ready).1, c.requires.2)
 
-abbrev After : Type 0
-After = lts.After-highest (shown_reads.Asked, shown_reads.Learnt, highest_reads.Asked, highest_reads.Learnt) reads.Pre reads.Post invariant-loop decreases-loop
+-- where the arms meet, box j has been looked at
+passed : (c : After-highest-next) → Passed c.args.w c.args.boxes.now c.args.k c.args.top c.args.found.now c.if-shown.found c.if-shown.have c.loop-level.level c.loop-level.j
+passed c =
+    let l = c.loop-level.invariant in
+    let i = c.loop-level-test.true in
+    elim c.if-shown.branch [
+      | then-shown+else-level-gt0 x ↦ passed_as _ _ x.found-is x.have-is (walked_found _ _ _ _ _ c.requires.0 _ _ _ _ _ x.if-level-gt0.false l i c.requires.1 (sym c.shown.ensures ∙ x.if-shown.true))
+      | else-shown x ↦ passed_as _ _ x.found-is x.have-is (walked_hidden _ _ _ _ _ c.requires.0 _ _ _ _ _ l i (sym c.shown.ensures ∙ x.if-shown.false))
+    ]
 
-onward : (c : After) → Walked c.before.before.before.before.before.before.before.before.before.before.before.args.w c.before.before.before.before.before.before.before.before.before.before.before.args.boxes.now c.before.before.before.before.before.before.before.before.before.before.before.args.k c.before.before.before.before.before.before.before.before.before.before.before.args.top c.before.before.before.before.before.before.before.before.before.before.before.args.found.now c.before.if2.found c.before.if2.have c.highest.result.level c.highest.result.j
-    × (first c.before.before.before.before.before.before.before.loop.level c.before.before.before.before.before.before.before.loop.j < first c.highest.result.level c.highest.result.j)
-onward c = passed_on _ _ _ _ _ c.before.before.before.before.before.before.before.before.before.before.before.requires.0 _ _ _ _ _ (passed c.before) c.highest.result c.highest.ensures
+onward : (c : After-highest-next) → Walked c.args.w c.args.boxes.now c.args.k c.args.top c.args.found.now c.if-shown.found c.if-shown.have c.highest-next.result.level c.highest-next.result.j
+    × (first c.loop-level.level c.loop-level.j < first c.highest-next.result.level c.highest-next.result.j)
+onward c = passed_on _ _ _ _ _ c.requires.0 _ _ _ _ _ (passed c) c.highest-next.result c.highest-next.ensures
 
 pub loop-level-smaller : goal.loop-level-smaller
-loop-level-smaller c = omega (arith, (onward c).1, before_end _ _ _ _ _ c.requires.0 _ _ c.loop-level.invariant.ready c.loop-level-test.true, (onward c).0.ready.low, c.requires.0.few)
+loop-level-smaller c = omega (arith, (onward (goal.at.loop-level-smaller c).After-highest-next).1, before_end _ _ _ _ _ c.requires.0 _ _ c.loop-level.invariant.ready c.loop-level-test.true, (onward (goal.at.loop-level-smaller c).After-highest-next).0.ready.low, c.requires.0.few)
 
 pub loop-level-preserved : goal.loop-level-preserved
-loop-level-preserved c = (onward c).0
+loop-level-preserved c = (onward (goal.at.loop-level-preserved c).After-highest-next).0
 
 pub shape_of-found : goal.shape_of-found
 shape_of-found c = c.loop-level.invariant.size

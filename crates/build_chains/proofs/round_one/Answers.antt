@@ -13,4 +13,4 @@ returns c =
     let s = c.requires in
     let t = c.take_lines-lines in
     let j = c.join_pieces-number in
-    (one_left s t.auto.0 t.ensures j.auto.0 (j.ensures (one_asks s t.auto.0 t.ensures)), refl, taken_are s t.auto.0 t.ensures)
+    (one_left s t.auto.w t.ensures j.auto.w (j.ensures (one_asks s t.auto.w t.ensures)), refl, taken_are s t.auto.w t.ensures)

@@ -1,13 +1,12 @@
 -- After k lines those of them that pass through are chains: `Resting` says how, and its laws are the start, a line of either sort, and the end.
 use Prim.Native.Nat.{◌-◌}
 use mathlib.Core.Path.{sym, ◌∙◌}
-use mathlib.Core.Logic.{⊎_elim}
 use native.Mathlib.Omega.{arith}
 use lib.ListN.{length}
-use borrow.Author.Tests.{not-true, not-false}
 use Rattle.build_layout.specs.Laying.{Rest}
 use Rattle.build_layout.proofs.Resting.{Resting, resting_start, next_small, part_inside, resting_room, resting_passes, resting_plain, resting_done}
 use Rattle.build_layout.proofs.lay_rest.Goals as goal
+use Rattle.build_layout.proofs.lay_rest.Goals.{then-not-is_plain, else-not-is_plain}
 
 pub loop-k-init : goal.loop-k-init
 loop-k-init c =
@@ -87,7 +86,7 @@ overflow_add-m c =
 pub lay_line-requires : goal.lay_line-requires
 lay_line-requires c =
     let y = c.requires in
-    resting_room y (c.loop-k.invariant y) (omega arith) (sym c.is_plain.ensures ∙ not-true _ c.if-not-is_plain.true)
+    resting_room y (c.loop-k.invariant y) (omega arith) (sym c.is_plain.ensures ∙ c.if-not-is_plain.true)
 
 pub overflow_add-r : goal.overflow_add-r
 overflow_add-r c =
@@ -108,11 +107,14 @@ loop-k-smaller c = omega arith
 pub loop-k-preserved : goal.loop-k-preserved
 loop-k-preserved c =
     let tested = sym c.is_plain.ensures in
-    λ y.
-    ⊎_elim
-    (λ t. resting_passes y (c.loop-k.invariant y) (omega arith) (tested ∙ not-true _ t.0.taken) t.2.ensures t.7.ensures t.16 t.17 t.18 t.19 t.20)
-    (λ t. resting_plain y (c.loop-k.invariant y) (omega arith) (tested ∙ not-false _ t.0.left) t.1 t.2 t.3 t.4 t.5)
-    c.if-not-is_plain.branch
+    λ y. elim c.if-not-is_plain.branch [
+      | then-not-is_plain w ↦
+          resting_passes y (c.loop-k.invariant y) (omega arith) (tested ∙ w.if-not-is_plain.true) w.loop_mark-closed.ensures w.lay_line.ensures
+          w.table-is w.members-is w.marks-is w.listing-is w.r-is
+      | else-not-is_plain w ↦
+          resting_plain y (c.loop-k.invariant y) (omega arith) (tested ∙ w.if-not-is_plain.false)
+          w.table-is w.members-is w.marks-is w.listing-is w.r-is
+    ]
 
 pub overflow_add-result : goal.overflow_add-result
 overflow_add-result c =

@@ -1,11 +1,11 @@
 -- After k lines the plain ones among them stand in the block: `Taking` says how, and its laws are the start, a line of either sort, and the end.
 use Prim.Native.Nat.{◌-◌, ◌≤◌}
 use mathlib.Core.Path.{sym, ◌∙◌}
-use mathlib.Core.Logic.{⊎_elim}
 use native.Mathlib.Omega.{arith}
 use lib.ListN.{get_or, length-set}
 use Rattle.build_lines.proofs.Taking.{Taking, taking_start, taking_plain, taking_other, taking_done}
 use Rattle.build_lines.proofs.take_lines.Goals as goal
+use Rattle.build_lines.proofs.take_lines.Goals.{then-is_plain, else-is_plain}
 
 pub loop-k-init : goal.loop-k-init
 loop-k-init c =
@@ -95,10 +95,10 @@ loop-k-preserved c =
     let k = c.loop-k.k in
     let small : get_or c.args.counts.now k 0 ≤ 4294967295 = omega (arith, c.shared_slice_known-in-loop-k-1.given k) in
     let tested = sym c.is_plain.ensures in
-    ⊎_elim
-    (λ t. taking_plain c.loop-k.invariant c.requires (omega arith) small (tested ∙ t.0.taken) t.2.ensures t.5 t.6)
-    (λ t. taking_other c.loop-k.invariant c.requires (omega arith) small (tested ∙ t.0.left) t.1 t.2)
-    c.if-is_plain.branch
+    elim c.if-is_plain.branch [
+      | then-is_plain w ↦ taking_plain c.loop-k.invariant c.requires (omega arith) small (tested ∙ w.if-is_plain.true) w.put_record.ensures w.w-is w.m-is
+      | else-is_plain w ↦ taking_other c.loop-k.invariant c.requires (omega arith) small (tested ∙ w.if-is_plain.false) w.w-is w.m-is
+    ]
 
 pub shape_of-w : goal.shape_of-w
 shape_of-w c = omega arith

@@ -10,26 +10,23 @@ use Rattle.build_question.proofs.Laws.{few_numbers, Stands, stands, part_input, 
 use Rattle.build_question.proofs.known_part.Goals as goal
 use Rattle.build_question.proofs.known_part.Goals.{Start}
 
-abbrev Begin : Type 0
-Begin = lts.Start reads.Pre reads.Post
-
-stood : (c : Begin) → Stands c.args.width c.args.input.now c.args.merged.now c.args.table.now c.args.k
+stood : (c : Start) → Stands c.args.width c.args.input.now c.args.merged.now c.args.table.now c.args.k
 stood c = stands _ _ _ _ _ c.requires.1
 
 -- the numbers before the chain and its own, and both together
-both : (c : Begin) → let a = c.args in
+both : (c : Start) → let a = c.args in
     (entry a.table.now a.k 3 + entry a.table.now a.k 4) * a.width
     ≡ entry a.table.now a.k 3 * a.width + entry a.table.now a.k 4 * a.width
 both c = let a = c.args in add-mul (entry a.table.now a.k 3) (entry a.table.now a.k 4) a.width
 
 pub overflow_mul-from : goal.overflow_mul-from
-overflow_mul-from c = let s = stood c in omega arith
+overflow_mul-from c = let s = stood (goal.at.overflow_mul-from c).Start in omega arith
 
 pub overflow_add-from : goal.overflow_add-from
-overflow_add-from c = let s = stood c in omega arith
+overflow_add-from c = let s = stood (goal.at.overflow_add-from c).Start in omega arith
 
 pub offset_bounds-table-k : goal.offset_bounds-table-k
-offset_bounds-table-k c = let s = stood c in omega arith
+offset_bounds-table-k c = let s = stood (goal.at.offset_bounds-table-k c).Start in omega arith
 
 pub bounds-table-k : goal.bounds-table-k
 bounds-table-k c = let s = stood (goal.at.bounds-table-k c).Start in omega arith

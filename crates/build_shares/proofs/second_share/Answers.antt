@@ -52,14 +52,13 @@ pub loop-i-smaller : goal.loop-i-smaller
 loop-i-smaller c = omega arith
 
 pub loop-i-preserved : goal.loop-i-preserved
-loop-i-preserved c =
-    (
-      omega arith,
-      omega (arith, c.shared_slice_known-1.given c.loop-i.i),
-      omega (arith, c.shared_slice_known-in-loop-i-1.given c.loop-i.i, product c),
-      one_brought c.args.counts.now c.args.groups.now c.loop-i.lines c.loop-i.points c.loop-i.i (omega arith) (omega arith)
-          (omega (arith, c.shared_slice_known-1.given c.loop-i.i)) c.loop-i.invariant.3,
-    )
+loop-i-preserved c = (
+  omega arith,
+  omega (arith, c.shared_slice_known-1.given c.loop-i.i),
+  omega (arith, c.shared_slice_known-in-loop-i-1.given c.loop-i.i, product c),
+  one_brought c.args.counts.now c.args.groups.now c.loop-i.lines c.loop-i.points c.loop-i.i (omega arith) (omega arith)
+      (omega (arith, c.shared_slice_known-1.given c.loop-i.i)) c.loop-i.invariant.3,
+)
 
 pub returns : goal.returns
 returns c = all_brought _ _ _ _ c.loop-i.i (omega arith) (omega arith) c.loop-i.invariant.3

@@ -16,15 +16,14 @@ loop-e-init c =
     (omega arith, refl, placed_start c.clear.new.w c.clear.new.w c.args.m (cleared_zero _ _ _ c.clear.ensures) (λ j h. refl))
 
 pub place-requires : goal.place-requires
-place-requires c =
-    (
-      record {
-        few = c.requires.few;
-        fits = omega (arith, c.loop-e.invariant.1, c.clear.new.w, c.requires.fits);
-      },
-      c.loop-e-test.true,
-      placed_own c.loop-e.invariant.2,
-    )
+place-requires c = (
+  record {
+    few = c.requires.few;
+    fits = omega (arith, c.loop-e.invariant.1, c.clear.auto.w, c.requires.fits);
+  },
+  c.loop-e-test.true,
+  placed_own c.loop-e.invariant.2,
+)
 
 pub overflow_add-e : goal.overflow_add-e
 overflow_add-e c = omega arith
@@ -37,10 +36,10 @@ loop-e-preserved c =
     (omega (arith, c.loop-e-test.true), c.place.auto.w ∙ c.loop-e.invariant.1, placed_then c.loop-e.invariant.2 c.place.ensures)
 
 pub shape_of-w : goal.shape_of-w
-shape_of-w c = c.loop-e.invariant.1 ∙ c.clear.new.w
+shape_of-w c = c.loop-e.invariant.1 ∙ c.clear.auto.w
 
 pub returns : goal.returns
 returns c =
     let q : c.loop-e.e ≡ c.args.m = omega (arith, c.loop-e.invariant.0, c.loop-e-test.false) in
     nodes (subst (λ (i : ℕ). EndPlaced c.loop-e.w c.args.w.now c.args.m i) q
-    (placed_then (placed_start c.clear.last.0 c.args.w.now c.args.m (cleared_zero _ _ _ c.clear.ensures) (cleared_kept _ _ _ c.clear.ensures)) c.loop-e.invariant.2))
+    (placed_then (placed_start c.clear.new.w c.args.w.now c.args.m (cleared_zero _ _ _ c.clear.ensures) (cleared_kept _ _ _ c.clear.ensures)) c.loop-e.invariant.2))

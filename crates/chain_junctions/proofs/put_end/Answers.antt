@@ -12,7 +12,7 @@ pub bounds-w-i : goal.bounds-w-i
 bounds-w-i c = simp length-set (omega arith)
 
 pub returns-in_default : goal.returns-in_default
-returns-in_default c = end_absent _ _ _ _ c.requires.0 c.requires.1 _ c.enum_told-1.given.1
+returns-in_default c = end_absent _ _ _ _ c.requires.0 c.requires.1 _ c.in_default.is
 
 pub bounds-w-d-2 : goal.bounds-w-d-2
 bounds-w-d-2 c = simp length-set (omega arith)
@@ -25,4 +25,4 @@ bounds-w-i-2 c = simp length-set (omega arith)
 
 pub returns : goal.returns
 returns c =
-    end_toward _ _ _ _ c.requires.0 c.requires.1 _ _ _ _ (ap float c.bits_of.ensures ∙ of_bits_of _ (search rules)) (ap float c.bits_of-2.ensures ∙ of_bits_of _ (search rules)) _ c.direction-1.given.1
+    end_toward _ _ _ _ c.requires.0 c.requires.1 _ _ _ _ (ap float c.bits_of.ensures ∙ of_bits_of _ (search rules)) (ap float c.bits_of-2.ensures ∙ of_bits_of _ (search rules)) _ c.in-Toward.is

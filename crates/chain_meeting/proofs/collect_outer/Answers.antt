@@ -10,44 +10,38 @@ use Rattle.chain_meeting.proofs.Collecting.{Collecting, collecting_done, listed_
 use Rattle.chain_meeting.proofs.collect_outer.Goals as goal
 use Rattle.chain_meeting.proofs.collect_outer.Goals.{In-loop-t}
 
-module _ (i : tie.In-loop invariant-loop decreases-loop) where
-  abbrev l : tie.At-loop invariant-loop decreases-loop
-  l = i.before
-
-  abbrev s : tie.Start invariant-loop decreases-loop
-  s = start l
-
+module _ (i : In-loop-t) where
   abbrev grid : Grid
-  grid = Cells s.args.tolerance s.args.origin_x s.args.origin_y
+  grid = Cells i.args.tolerance i.args.origin_x i.args.origin_y
 
-  abbrev keys_so_far : Collecting s.args.width s.args.records s.args.members s.args.ends s.args.keys s.args.k s.args.groups.now s.args.input.now grid s.args.w.now s.pre l.loop.w l.loop.t
-  keys_so_far = l.loop.inv.1 s.pre
+  abbrev keys_so_far : Collecting i.args.width i.args.records i.args.members i.args.ends i.args.keys i.args.k i.args.groups.now i.args.input.now grid i.args.w.now i.requires i.loop-t.w i.loop-t.t
+  keys_so_far = i.loop-t.invariant.1 i.requires
 
   -- the list, the pieces and the keys are inside the workspace
-  listed_below : s.args.ends + s.args.k ≤ length l.loop.w
-  listed_below = omega (arith, s.pre.below, s.pre.keyable.room, keys_so_far.size)
+  listed_below : i.args.ends + i.args.k ≤ length i.loop-t.w
+  listed_below = omega (arith, i.requires.below, i.requires.keyable.room, keys_so_far.size)
 
-  record_below : s.args.records + get_or l.loop.w (s.args.ends + l.loop.t) 0 / 2 * 5 + 5 ≤ length l.loop.w
+  record_below : i.args.records + get_or i.loop-t.w (i.args.ends + i.loop-t.t) 0 / 2 * 5 + 5 ≤ length i.loop-t.w
   record_below =
       omega (
         arith,
-        s.pre.keyable.below,
-        s.pre.keyable.room,
+        i.requires.keyable.below,
+        i.requires.keyable.room,
         keys_so_far.size,
-        listed_in s.args.width s.args.records s.args.members s.args.ends s.args.keys s.args.k s.args.groups.now s.args.input.now grid s.args.w.now s.pre l.loop.w l.loop.t keys_so_far i.loop-test.taken,
+        listed_in i.args.width i.args.records i.args.members i.args.ends i.args.keys i.args.k i.args.groups.now i.args.input.now grid i.args.w.now i.requires i.loop-t.w i.loop-t.t keys_so_far i.loop-t-test.true,
       )
 
-  key_fits : s.args.keys + l.loop.t * 3 + 3 ≤ length l.loop.w
-  key_fits = listed_fits s.args.width s.args.records s.args.members s.args.ends s.args.keys s.args.k s.args.groups.now s.args.input.now grid s.args.w.now s.pre l.loop.w l.loop.t keys_so_far i.loop-test.taken
+  key_fits : i.args.keys + i.loop-t.t * 3 + 3 ≤ length i.loop-t.w
+  key_fits = listed_fits i.args.width i.args.records i.args.members i.args.ends i.args.keys i.args.k i.args.groups.now i.args.input.now grid i.args.w.now i.requires i.loop-t.w i.loop-t.t keys_so_far i.loop-t-test.true
 
 pub loop-t-init : goal.loop-t-init
 loop-t-init c = (omega arith, λ y. keying_start _ _ _ _ _ _ _ _ _ _ _)
 
 pub overflow_add-e : goal.overflow_add-e
-overflow_add-e c = omega (arith, listed_below c, c.loop-t-test.true)
+overflow_add-e c = omega (arith, listed_below (goal.at.overflow_add-e c).In-loop-t, c.loop-t-test.true)
 
 pub offset_bounds-w-ends : goal.offset_bounds-w-ends
-offset_bounds-w-ends c = omega (arith, listed_below c, c.loop-t-test.true)
+offset_bounds-w-ends c = omega (arith, listed_below (goal.at.offset_bounds-w-ends c).In-loop-t, c.loop-t-test.true)
 
 pub bounds-w-ends : goal.bounds-w-ends
 bounds-w-ends c = omega (arith, listed_below (goal.at.bounds-w-ends c).In-loop-t, c.loop-t-test.true)

@@ -24,7 +24,7 @@ group-requires c =
     let y = c.requires in
     let H = c.list_outer.ensures (listable y) in
     let k = c.collect_outer in
-    group_room_lem y H c.args.settings k.auto.0 k.ensures
+    group_room_lem y H c.args.settings k.auto.w k.ensures
 
 pub returns : goal.returns
 returns c =
@@ -32,4 +32,4 @@ returns c =
     let H = c.list_outer.ensures (listable y) in
     let k = c.collect_outer in
     let g = c.group in
-    ends_met y H c.args.settings k.auto.0 k.ensures g.auto.0 g.ensures
+    ends_met y H c.args.settings k.auto.w k.ensures g.auto.w g.ensures

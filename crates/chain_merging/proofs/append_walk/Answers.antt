@@ -39,16 +39,16 @@ pub overflow_add-old : goal.overflow_add-old
 overflow_add-old c = omega (arith, in_record (goal.at.overflow_add-old c).In-loop-k)
 
 pub offset_bounds-merged-at : goal.offset_bounds-merged-at
-offset_bounds-merged-at c = omega (arith, (laying (goal.at.offset_bounds-merged-at c).At-loop-k).ranges, (laying (goal.at.offset_bounds-merged-at c).At-loop-k).size)
+offset_bounds-merged-at c = omega (arith, (laying (goal.at.offset_bounds-merged-at c).At-loop-k).fits, (laying (goal.at.offset_bounds-merged-at c).At-loop-k).size)
 
 pub slice_bounds-append_piece-count : goal.slice_bounds-append_piece-count
-slice_bounds-append_piece-count c = omega (arith, (laying (goal.at.slice_bounds-append_piece-count c).At-loop-k).ranges, (laying (goal.at.slice_bounds-append_piece-count c).At-loop-k).size)
+slice_bounds-append_piece-count c = omega (arith, (laying (goal.at.slice_bounds-append_piece-count c).At-loop-k).fits, (laying (goal.at.slice_bounds-append_piece-count c).At-loop-k).size)
 
 pub slice_bounds-append_piece-start : goal.slice_bounds-append_piece-start
-slice_bounds-append_piece-start c = omega (arith, (laying (goal.at.slice_bounds-append_piece-start c).At-loop-k).ranges, (laying (goal.at.slice_bounds-append_piece-start c).At-loop-k).size)
+slice_bounds-append_piece-start c = omega (arith, (laying (goal.at.slice_bounds-append_piece-start c).At-loop-k).fits, (laying (goal.at.slice_bounds-append_piece-start c).At-loop-k).size)
 
 pub slice_bounds-append_piece-end : goal.slice_bounds-append_piece-end
-slice_bounds-append_piece-end c = omega (arith, (laying (goal.at.slice_bounds-append_piece-end c).At-loop-k).ranges, (laying (goal.at.slice_bounds-append_piece-end c).At-loop-k).size)
+slice_bounds-append_piece-end c = omega (arith, (laying (goal.at.slice_bounds-append_piece-end c).At-loop-k).fits, (laying (goal.at.slice_bounds-append_piece-end c).At-loop-k).size)
 
 pub append_piece-have-requires : goal.append_piece-have-requires
 append_piece-have-requires c =

@@ -18,22 +18,19 @@ emitting : (l : At-loop-j)
 emitting l = l.loop-j.invariant l.requires
 
 -- in a turn: the walk's length and its entries are in w
-module _ (i : tie.In-loop invariant-loop decreases-loop) where
-  abbrev l : tie.At-loop invariant-loop decreases-loop
-  l = i.before
+module _ (i : In-loop-j) where
+  abbrev l : At-loop-j
+  l = (goal.at.In-loop-j i).At-loop-j
 
-  abbrev a : tie.Start invariant-loop decreases-loop
-  a = start l
-
-  in_lengths : a.args.lengths + l.loop.j < length l.loop.w
+  in_lengths : i.args.lengths + i.loop-j.j < length i.loop-j.w
   in_lengths =
-      turn_length a.args.width a.args.w.now a.args.n a.args.old a.args.m a.args.entries a.args.lengths a.args.r a.args.input.now a.args.spare.now a.args.merged.now a.pre
-      l.loop.w l.loop.merged l.loop.from l.loop.members l.loop.points l.loop.j (emitting l) i.loop-test.taken
+      turn_length i.args.width i.args.w.now i.args.n i.args.old i.args.m i.args.entries i.args.lengths i.args.r i.args.input.now i.args.spare.now i.args.merged.now i.requires
+      i.loop-j.w i.loop-j.merged i.loop-j.from i.loop-j.members i.loop-j.points i.loop-j.j (emitting l) i.loop-j-test.true
 
-  in_entries : l.loop.from + get_or l.loop.w (a.args.lengths + l.loop.j) 0 ≤ length l.loop.w
+  in_entries : i.loop-j.from + get_or i.loop-j.w (i.args.lengths + i.loop-j.j) 0 ≤ length i.loop-j.w
   in_entries =
-      turn_entries a.args.width a.args.w.now a.args.n a.args.old a.args.m a.args.entries a.args.lengths a.args.r a.args.input.now a.args.spare.now a.args.merged.now a.pre
-      l.loop.w l.loop.merged l.loop.from l.loop.members l.loop.points l.loop.j (emitting l) i.loop-test.taken
+      turn_entries i.args.width i.args.w.now i.args.n i.args.old i.args.m i.args.entries i.args.lengths i.args.r i.args.input.now i.args.spare.now i.args.merged.now i.requires
+      i.loop-j.w i.loop-j.merged i.loop-j.from i.loop-j.members i.loop-j.points i.loop-j.j (emitting l) i.loop-j-test.true
 
 -- what was counted are the members of the walk's piece
 counts : (k : After-count_members-b)
@@ -50,10 +47,10 @@ pub loop-j-init : goal.loop-j-init
 loop-j-init c = let a = c.args in λ y. emitting_start a.width a.w.now a.n a.old a.m a.entries a.lengths a.r a.input.now a.spare.now a.merged.now y
 
 pub overflow_add-to : goal.overflow_add-to
-overflow_add-to c = omega (arith, in_lengths c, (emitting (goal.at.overflow_add-to c).At-loop-j).size_same)
+overflow_add-to c = omega (arith, in_lengths (goal.at.overflow_add-to c).In-loop-j, (emitting (goal.at.overflow_add-to c).At-loop-j).size_same)
 
 pub offset_bounds-w-lengths : goal.offset_bounds-w-lengths
-offset_bounds-w-lengths c = omega (arith, in_lengths c, (emitting (goal.at.offset_bounds-w-lengths c).At-loop-j).size_same)
+offset_bounds-w-lengths c = omega (arith, in_lengths (goal.at.offset_bounds-w-lengths c).In-loop-j, (emitting (goal.at.offset_bounds-w-lengths c).At-loop-j).size_same)
 
 pub bounds-w-lengths : goal.bounds-w-lengths
 bounds-w-lengths c = omega (arith, in_lengths (goal.at.bounds-w-lengths c).In-loop-j)

@@ -19,11 +19,11 @@ pub returns-then-count-eq2 : goal.returns-then-count-eq2
 returns-then-count-eq2 c = subst (λ (k : ℕ). Members c.list_two.new.w c.args.w.now c.args.n c.args.from c.args.at k c.args.side) (sym c.if-count-eq2.true) c.list_two.ensures
 
 pub turn_marks-requires : goal.turn_marks-requires
-turn_marks-requires c = let d = c.copy_down in turnable c.args.w.now d.new.0 c.args.n c.args.from c.args.at c.args.count c.args.side c.requires d.ensures
+turn_marks-requires c = let d = c.copy_down in turnable c.args.w.now d.new.w c.args.n c.args.from c.args.at c.args.count c.args.side c.requires d.ensures
 
 pub returns : goal.returns
 returns c =
     let d = c.copy_down in
     let t = c.turn_marks in
-    members_many c.args.w.now d.new.0 c.args.n c.args.from c.args.at c.args.count c.args.side c.requires d.ensures t.new.0 t.ensures
+    members_many c.args.w.now d.new.w c.args.n c.args.from c.args.at c.args.count c.args.side c.requires d.ensures t.new.w t.ensures
     c.pass_lines.new.w c.pass_lines.ensures

@@ -16,27 +16,24 @@ listing : (l : At-loop-k)
 listing l = l.loop-k.invariant l.requires
 
 -- in a turn: the record of the piece that is entered, its lines, and the room for them
-module _ (i : tie.In-loop invariant-loop decreases-loop) where
-  abbrev l : tie.At-loop invariant-loop decreases-loop
-  l = i.before
-
-  abbrev a : tie.Start invariant-loop decreases-loop
-  a = start l
+module _ (i : In-loop-k) where
+  abbrev l : At-loop-k
+  l = (goal.at.In-loop-k i).At-loop-k
 
   abbrev at : ℕ
-  at = record_of a.args.old (piece_of (get_or l.loop.w (a.args.entries + l.loop.k) 0))
+  at = record_of i.args.old (piece_of (get_or i.loop-k.w (i.args.entries + i.loop-k.k) 0))
 
-  in_record : (at + piece_size ≤ length l.loop.w) × (length l.loop.w ≡ length a.args.w.now)
+  in_record : (at + piece_size ≤ length i.loop-k.w) × (length i.loop-k.w ≡ length i.args.w.now)
   in_record = (
-    listing_record a.args.w.now a.args.n a.args.old a.args.entries a.args.m a.pre l.loop.w l.loop.r l.loop.k (listing l) i.loop-test.taken,
+    listing_record i.args.w.now i.args.n i.args.old i.args.entries i.args.m i.requires i.loop-k.w i.loop-k.r i.loop-k.k (listing l) i.loop-k-test.true,
     (listing l).size,
   )
 
-  in_part : Listable l.loop.w a.args.n (a.args.old + get_or l.loop.w at 0) l.loop.r
-      (get_or l.loop.w (at + 1) 0) (get_or l.loop.w (a.args.entries + l.loop.k) 0 % 2)
-  in_part = listing_listable a.args.w.now a.args.n a.args.old a.args.entries a.args.m a.pre l.loop.w l.loop.r l.loop.k (listing l) i.loop-test.taken
+  in_part : Listable i.loop-k.w i.args.n (i.args.old + get_or i.loop-k.w at 0) i.loop-k.r
+      (get_or i.loop-k.w (at + 1) 0) (get_or i.loop-k.w (i.args.entries + i.loop-k.k) 0 % 2)
+  in_part = listing_listable i.args.w.now i.args.n i.args.old i.args.entries i.args.m i.requires i.loop-k.w i.loop-k.r i.loop-k.k (listing l) i.loop-k-test.true
 
-  fits : l.loop.r + get_or l.loop.w (at + 1) 0 ≤ a.args.n
+  fits : i.loop-k.r + get_or i.loop-k.w (at + 1) 0 ≤ i.args.n
   fits = in_part.fits
 
 pub loop-k-init : goal.loop-k-init

@@ -1,4 +1,4 @@
-
+-- The numbers before the piece and its own are few (`few`), so that no index overflows, and both ends of the part lie inside the slice of its source.
 use borrow.Author.Rules.{rules}
 use Prim.Native.Nat.{◌+◌, ◌*◌, ◌≤◌}
 use native.Mathlib.Omega.{arith}
@@ -8,11 +8,8 @@ use Rattle.chain_pieces.proofs.Source.{within_input, within_spare, parts_bound, 
 use Rattle.chain_pieces.proofs.coordinates_of.Goals as goal
 use Rattle.chain_pieces.proofs.coordinates_of.Goals.{Start}
 
-abbrev Started : Type 0
-Started = lts.Start reads.Pre reads.Post
-
-few : (s : Started) → get_or s.args.w.now (s.args.p + 3) 0 * s.args.width + get_or s.args.w.now (s.args.p + 4) 0 * s.args.width ≤ 1152921504606846976
-few s = parts_bound s.args.width s.args.w.now s.args.p s.args.input.now s.args.copies.now s.pre 1152921504606846976 (omega arith) (omega arith)
+few : (s : Start) → get_or s.args.w.now (s.args.p + 3) 0 * s.args.width + get_or s.args.w.now (s.args.p + 4) 0 * s.args.width ≤ 1152921504606846976
+few s = parts_bound s.args.width s.args.w.now s.args.p s.args.input.now s.args.copies.now s.requires 1152921504606846976 (omega arith) (omega arith)
 
 -- src/lib.rt:40:16
 pub overflow_mul-from : goal.overflow_mul-from

@@ -10,4 +10,4 @@ pub returns : goal.returns
 returns c =
     λ y.
     let p = c.walk_pieces-r in
-    rounded_from p.auto.0 (c.emit_round.ensures (walked_round y (p.ensures y.noded))).rounded
+    rounded_from p.auto.w (c.emit_round.ensures (walked_round y (p.ensures y.noded))).rounded

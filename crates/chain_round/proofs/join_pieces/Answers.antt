@@ -11,4 +11,4 @@ pub returns : goal.returns
 returns c =
     λ y.
     let g = c.group_ends in
-    rounded_from g.auto.0 (c.join_grouped.ensures (grouped_round c.args.grid y (g.ensures y.walkable.rounding c.args.settings)))
+    rounded_from g.auto.w (c.join_grouped.ensures (grouped_round c.args.grid y (g.ensures y.walkable.rounding c.args.settings)))

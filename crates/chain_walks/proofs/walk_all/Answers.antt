@@ -2,15 +2,14 @@
 -- its walk already; another's walk goes behind the others, and room is left for it because no piece is walked twice.
 use Prim.Native.Nat.{◌≤◌, ◌<◌, ◌-◌, ◌+◌, ◌*◌}
 use mathlib.Core.Path.{◌≡◌, sym, ap, ◌∙◌}
-use mathlib.Core.Logic.{⊎_elim, ◌≢◌}
 use native.Mathlib.Omega.{arith}
-use lib.ListN.{length, get_or}
+use lib.ListN.{length}
 use lib.Seq.{length-take-le}
 use Rattle.chain_laws.specs.Table.{head_of}
 use Rattle.chain_walks.specs.Walks.{joins_of, WalksReady}
 use Rattle.chain_walks.proofs.Starts.{Bench, bench_start, bench_skip, bench_done, joins_same, walkable, count_fits, r_fits, walked_size, bench_walk}
 use Rattle.chain_walks.proofs.walk_all.Goals as goal
-use Rattle.chain_walks.proofs.walk_all.Goals.{After-walk_on-r, At-loop-s}
+use Rattle.chain_walks.proofs.walk_all.Goals.{After-walk_on-r, At-loop-s, then-w-n-ne1, else-w-n-ne1}
 
 -- the state at the loop's test
 bench : (l : At-loop-s) → Bench l.args.w.now l.args.n l.requires l.loop-s.w l.loop-s.s l.loop-s.at l.loop-s.c
@@ -20,34 +19,25 @@ same : (l : At-loop-s) → joins_of l.args.n l.loop-s.w ≡ joins_of l.args.n l.
 same l = joins_same l.args.w.now l.args.n l.requires l.loop-s.w l.loop-s.s l.loop-s.at l.loop-s.c (bench l)
 
 -- after the walk of a start that was not marked
-module _ (k : tie.After-walk-on invariant-loop decreases-loop) where
-  abbrev loop-of : tie.At-loop invariant-loop decreases-loop
-  loop-of = k.before.before.before.before.before.before.before
+module _ (k : After-walk_on-r) where
+  abbrev loop-of : At-loop-s
+  loop-of = (goal.at.After-walk_on-r k).At-loop-s
 
-  abbrev lent : tie.Start invariant-loop decreases-loop
-  lent = start loop-of
+  headed : k.head-e.result ≡ head_of (joins_of k.args.n k.args.w.now) k.args.n k.loop-s.s
+  headed = k.head-e.ensures ∙ ap (λ t. head_of t k.args.n k.loop-s.s) (same loop-of)
 
-  below : loop-of.loop.s < lent.args.n
-  below = k.before.before.before.before.before.before.loop-test.taken
+  few : k.loop-s.c < k.args.n
+  few = count_fits k.args.w.now k.args.n k.requires k.loop-s.w k.loop-s.s k.loop-s.at k.loop-s.c (bench loop-of) k.loop-s-test.true k.if-w-n-ne1.true
 
-  unmarked : get_or loop-of.loop.w (2 * lent.args.n + loop-of.loop.s) 0 ≢ 1
-  unmarked = k.before.before.before.before.if1.taken
-
-  headed : k.before.before.head.result ≡ head_of (joins_of lent.args.n lent.args.w.now) lent.args.n loop-of.loop.s
-  headed = k.before.before.head.ensures ∙ ap (λ t. head_of t lent.args.n loop-of.loop.s) (same loop-of)
-
-  few : loop-of.loop.c < lent.args.n
-  few = count_fits lent.args.w.now lent.args.n lent.pre loop-of.loop.w loop-of.loop.s loop-of.loop.at loop-of.loop.c (bench loop-of) below unmarked
-
-  filled : loop-of.loop.at + k.walk_on.result ≤ lent.args.n
+  filled : k.loop-s.at + k.walk_on-r.result ≤ k.args.n
   filled =
-      r_fits lent.args.w.now lent.args.n lent.pre loop-of.loop.w loop-of.loop.s loop-of.loop.at loop-of.loop.c (bench loop-of) below unmarked
-      k.before.before.head.result headed k.walk_on.last.0 k.walk_on.result k.walk_on.ensures
+      r_fits k.args.w.now k.args.n k.requires k.loop-s.w k.loop-s.s k.loop-s.at k.loop-s.c (bench loop-of) k.loop-s-test.true k.if-w-n-ne1.true
+      k.head-e.result headed k.walk_on-r.new.w k.walk_on-r.result k.walk_on-r.ensures
 
-  sized : length k.walk_on.last.0 ≡ length lent.args.w.now
+  sized : length k.walk_on-r.new.w ≡ length k.args.w.now
   sized =
-      walked_size lent.args.w.now lent.args.n lent.pre loop-of.loop.w loop-of.loop.s loop-of.loop.at loop-of.loop.c (bench loop-of) below unmarked
-      k.before.before.head.result headed k.walk_on.last.0 k.walk_on.result k.walk_on.ensures
+      walked_size k.args.w.now k.args.n k.requires k.loop-s.w k.loop-s.s k.loop-s.at k.loop-s.c (bench loop-of) k.loop-s-test.true k.if-w-n-ne1.true
+      k.head-e.result headed k.walk_on-r.new.w k.walk_on-r.result k.walk_on-r.ensures
 
 pub loop-s-init : goal.loop-s-init
 loop-s-init c = λ y. bench_start c.args.w.now c.args.n y
@@ -84,22 +74,22 @@ walk_on-r-requires c =
     (c.head-e.ensures ∙ ap (λ t. head_of t c.args.n c.loop-s.s) (same (goal.at.walk_on-r-requires c).At-loop-s))
 
 pub overflow_mul-w : goal.overflow_mul-w
-overflow_mul-w c = omega (arith, (lent (goal.at.overflow_mul-w c).After-walk_on-r).pre.table.small)
+overflow_mul-w c = omega (arith, c.requires.table.small)
 
 pub overflow_add-w : goal.overflow_add-w
-overflow_add-w c = omega (arith, (lent (goal.at.overflow_add-w c).After-walk_on-r).pre.table.small, few (goal.at.overflow_add-w c).After-walk_on-r)
+overflow_add-w c = omega (arith, c.requires.table.small, few (goal.at.overflow_add-w c).After-walk_on-r)
 
 pub offset_bounds-w-n-then-w-n-ne1 : goal.offset_bounds-w-n-then-w-n-ne1
-offset_bounds-w-n-then-w-n-ne1 c = omega (arith, (lent (goal.at.offset_bounds-w-n-then-w-n-ne1 c).After-walk_on-r).pre.table.small, few (goal.at.offset_bounds-w-n-then-w-n-ne1 c).After-walk_on-r)
+offset_bounds-w-n-then-w-n-ne1 c = omega (arith, c.requires.table.small, few (goal.at.offset_bounds-w-n-then-w-n-ne1 c).After-walk_on-r)
 
 pub bounds-w-n-then-w-n-ne1 : goal.bounds-w-n-then-w-n-ne1
-bounds-w-n-then-w-n-ne1 c = omega (arith, (lent (goal.at.bounds-w-n-then-w-n-ne1 c).After-walk_on-r).pre.room, few (goal.at.bounds-w-n-then-w-n-ne1 c).After-walk_on-r, sized (goal.at.bounds-w-n-then-w-n-ne1 c).After-walk_on-r)
+bounds-w-n-then-w-n-ne1 c = omega (arith, c.requires.room, few (goal.at.bounds-w-n-then-w-n-ne1 c).After-walk_on-r, sized (goal.at.bounds-w-n-then-w-n-ne1 c).After-walk_on-r)
 
 pub overflow_add-at : goal.overflow_add-at
-overflow_add-at c = omega (arith, (lent (goal.at.overflow_add-at c).After-walk_on-r).pre.table.small, filled (goal.at.overflow_add-at c).After-walk_on-r)
+overflow_add-at c = omega (arith, c.requires.table.small, filled (goal.at.overflow_add-at c).After-walk_on-r)
 
 pub overflow_add-c : goal.overflow_add-c
-overflow_add-c c = omega (arith, (lent (goal.at.overflow_add-c c).After-walk_on-r).pre.table.small, few (goal.at.overflow_add-c c).After-walk_on-r)
+overflow_add-c c = omega (arith, c.requires.table.small, few (goal.at.overflow_add-c c).After-walk_on-r)
 
 pub overflow_add-s : goal.overflow_add-s
 overflow_add-s c = omega (arith, c.requires.table.small, c.loop-s-test.true)
@@ -109,13 +99,16 @@ loop-s-smaller c = omega (arith, c.loop-s-test.true)
 
 pub loop-s-preserved : goal.loop-s-preserved
 loop-s-preserved c =
-    λ y. ⊎_elim
-    (λ u. rw (u.7, u.8, u.9)
-    (bench_walk c.args.w.now c.args.n y c.loop-s.w c.loop-s.s c.loop-s.at c.loop-s.c (c.loop-s.invariant y) c.loop-s-test.true u.0.taken
-    u.2.result (u.2.ensures ∙ ap (λ t. head_of t c.args.n c.loop-s.s) (same (goal.at.loop-s-preserved c).At-loop-s)) u.4.last.0 u.4.result u.4.ensures))
-    (λ u. rw (u.1, u.2, u.3)
-    (bench_skip c.args.w.now c.args.n y c.loop-s.w c.loop-s.s c.loop-s.at c.loop-s.c (c.loop-s.invariant y) c.loop-s-test.true u.0.left))
-    c.if-w-n-ne1.branch
+    λ y. elim c.if-w-n-ne1.branch [
+      | then-w-n-ne1 u ↦
+          rw (u.w-is, u.at-is, u.c-is)
+          (bench_walk c.args.w.now c.args.n y c.loop-s.w c.loop-s.s c.loop-s.at c.loop-s.c (c.loop-s.invariant y) c.loop-s-test.true u.if-w-n-ne1.true
+          u.head-e.result (u.head-e.ensures ∙ ap (λ t. head_of t c.args.n c.loop-s.s) (same (goal.at.loop-s-preserved c).At-loop-s))
+          u.walk_on-r.new.w u.walk_on-r.result u.walk_on-r.ensures)
+      | else-w-n-ne1 u ↦
+          rw (u.w-is, u.at-is, u.c-is)
+          (bench_skip c.args.w.now c.args.n y c.loop-s.w c.loop-s.s c.loop-s.at c.loop-s.c (c.loop-s.invariant y) c.loop-s-test.true u.if-w-n-ne1.false)
+    ]
 
 pub shape_of-w : goal.shape_of-w
 shape_of-w c = (bench (goal.at.shape_of-w c).At-loop-s).size

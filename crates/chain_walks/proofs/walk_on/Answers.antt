@@ -8,21 +8,15 @@ use Rattle.chain_walks.proofs.walk_on.Goals as goal
 use Rattle.chain_walks.proofs.walk_on.Goals.{In-loop-k}
 
 -- in a turn
-module _ (i : tie.In-loop invariant-loop decreases-loop) where
-  abbrev l : tie.At-loop invariant-loop decreases-loop
-  l = i.before
+module _ (i : In-loop-k) where
+  roomy : i.args.at + i.loop-k.k < i.args.n
+  roomy = room i.args.w.now i.args.n i.args.first i.args.at i.requires i.loop-k.w i.loop-k.e i.loop-k.k i.loop-k.invariant i.loop-k-test.true
 
-  abbrev s : tie.Start invariant-loop decreases-loop
-  s = l.before
+  sized : length (after i.args.w.now i.args.n i.args.first i.args.at i.requires i.loop-k.w i.loop-k.e i.loop-k.k i.loop-k.invariant i.loop-k-test.true) ≡ length i.args.w.now
+  sized = after_size i.args.w.now i.args.n i.args.first i.args.at i.requires i.loop-k.w i.loop-k.e i.loop-k.k i.loop-k.invariant i.loop-k-test.true
 
-  roomy : s.args.at + l.loop.k < s.args.n
-  roomy = room s.args.w.now s.args.n s.args.first s.args.at s.pre l.loop.w l.loop.e l.loop.k l.loop.inv i.loop-test.taken
-
-  sized : length (after s.args.w.now s.args.n s.args.first s.args.at s.pre l.loop.w l.loop.e l.loop.k l.loop.inv i.loop-test.taken) ≡ length s.args.w.now
-  sized = after_size s.args.w.now s.args.n s.args.first s.args.at s.pre l.loop.w l.loop.e l.loop.k l.loop.inv i.loop-test.taken
-
-  named : f s.args.w.now s.args.n s.args.first s.args.at s.pre l.loop.w l.loop.e l.loop.k l.loop.inv i.loop-test.taken ≤ 2 * s.args.n
-  named = f_small s.args.w.now s.args.n s.args.first s.args.at s.pre l.loop.w l.loop.e l.loop.k l.loop.inv i.loop-test.taken
+  named : f i.args.w.now i.args.n i.args.first i.args.at i.requires i.loop-k.w i.loop-k.e i.loop-k.k i.loop-k.invariant i.loop-k-test.true ≤ 2 * i.args.n
+  named = f_small i.args.w.now i.args.n i.args.first i.args.at i.requires i.loop-k.w i.loop-k.e i.loop-k.k i.loop-k.invariant i.loop-k-test.true
 
 pub loop-k-init : goal.loop-k-init
 loop-k-init c = going_start c.args.w.now c.args.n c.args.first c.args.at c.requires
@@ -34,13 +28,13 @@ pub overflow_add-w : goal.overflow_add-w
 overflow_add-w c = omega (arith, c.requires.table.small, c.requires.fits)
 
 pub overflow_add-w-in-loop-k : goal.overflow_add-w-in-loop-k
-overflow_add-w-in-loop-k c = omega (arith, c.requires.table.small, roomy c)
+overflow_add-w-in-loop-k c = omega (arith, c.requires.table.small, roomy (goal.at.overflow_add-w-in-loop-k c).In-loop-k)
 
 pub offset_bounds-w-n : goal.offset_bounds-w-n
-offset_bounds-w-n c = omega (arith, c.requires.table.small, roomy c)
+offset_bounds-w-n c = omega (arith, c.requires.table.small, roomy (goal.at.offset_bounds-w-n c).In-loop-k)
 
 pub bounds-w-n : goal.bounds-w-n
-bounds-w-n c = omega (arith, c.requires.room, roomy c, c.loop-k.invariant.size)
+bounds-w-n c = omega (arith, c.requires.room, roomy (goal.at.bounds-w-n c).In-loop-k, c.loop-k.invariant.size)
 
 pub overflow_mul-w-in-loop-k : goal.overflow_mul-w-in-loop-k
 overflow_mul-w-in-loop-k c = omega (arith, c.requires.table.small)

@@ -1,7 +1,6 @@
 -- Chain after chain: the marks are how often each line was listed so far, and all chains so far fit. Those that are left are the measure.
 use native.Mathlib.Omega.{arith}
 use Prim.Native.Nat.{ℕ, ◌-◌}
-use borrow.Author.Tests.{not-true, not-false}
 use lib.ListN.{length-replicate}
 use Rattle.check_chains.specs.Chains.{MarkRooms}
 use Rattle.check_calls.proofs.Judging.{Judging, judging_start, judging_marked, judging_next, judging_stop, judged_all}
@@ -37,7 +36,7 @@ returns-then-not-chain_at c =
     let a = c.args in
     let o = c.loop-k in
     let q = c.chain_at in
-    judging_stop a.m a.width a.coordinates.now a.counts.now a.groups.now a.kinds.now a.merged.now a.table.now a.listing.now a.n c.requires.0.few c.requires.1 o.seen q.new.0 o.k o.invariant.0 c.loop-k-test.true q.result q.ensures.0 (not-true _ c.if-not-chain_at.true)
+    judging_stop a.m a.width a.coordinates.now a.counts.now a.groups.now a.kinds.now a.merged.now a.table.now a.listing.now a.n c.requires.0.few c.requires.1 o.seen q.new.seen o.k o.invariant.0 c.loop-k-test.true q.result q.ensures.0 c.if-not-chain_at.true
 
 pub overflow_add-k : goal.overflow_add-k
 overflow_add-k c = omega (arith, c.loop-k-test.true, c.well_formed)
@@ -50,7 +49,7 @@ loop-k-preserved c =
     let a = c.args in
     let o = c.loop-k in
     let q = c.chain_at in
-    (judging_next a.m a.width a.coordinates.now a.counts.now a.groups.now a.kinds.now a.merged.now a.table.now a.listing.now a.n c.requires.0.few c.requires.1 o.seen q.new.0 o.k o.invariant.0 c.loop-k-test.true q.result q.ensures.0 (not-false _ c.if-not-chain_at.false), q.ensures.1)
+    (judging_next a.m a.width a.coordinates.now a.counts.now a.groups.now a.kinds.now a.merged.now a.table.now a.listing.now a.n c.requires.0.few c.requires.1 o.seen q.new.seen o.k o.invariant.0 c.loop-k-test.true q.result q.ensures.0 c.if-not-chain_at.false, q.ensures.1)
 
 pub all_seen-requires : goal.all_seen-requires
 all_seen-requires c = c.requires.0.few

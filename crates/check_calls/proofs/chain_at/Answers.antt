@@ -5,7 +5,6 @@ use Prim.Native.Nat.{ℕ, ◌+◌, ◌-◌, ◌*◌}
 use mathlib.Core.Path.{◌≡◌, sym, ap₂, ◌∙◌, subst}
 use mathlib.Core.Bool.{true}
 use mathlib.Core.List.{List}
-use borrow.Author.Tests.{not-true, not-false}
 use lib.ListN.{length}
 use Rattle.rules.specs.Refusals.{record_size}
 use Rattle.rules.specs.Plane.{points}
@@ -59,9 +58,9 @@ pub returns-then-not-note : goal.returns-then-not-note
 returns-then-not-note c =
     let a = c.args in
     let o = c.note in
-    let d : Noted o.new.0 a.seen.now (listed_at a.table.now a.listing.now a.k) o.result =
-    subst (λ (p : List ℕ). Noted o.new.0 a.seen.now p o.result) (part_listed a.width (length a.counts.now) a.coordinates.now a.merged.now a.table.now a.listing.now a.k) o.ensures in
-    (judged_twice a.m a.width a.coordinates.now a.counts.now a.groups.now a.kinds.now a.merged.now a.table.now a.listing.now a.k a.seen.now o.new.0 d.long (d.twice (not-true _ c.if-not-note.true)), c.requires.3)
+    let d : Noted o.new.seen a.seen.now (listed_at a.table.now a.listing.now a.k) o.result =
+    subst (λ (p : List ℕ). Noted o.new.seen a.seen.now p o.result) (part_listed a.width (length a.counts.now) a.coordinates.now a.merged.now a.table.now a.listing.now a.k) o.ensures in
+    (judged_twice a.m a.width a.coordinates.now a.counts.now a.groups.now a.kinds.now a.merged.now a.table.now a.listing.now a.k a.seen.now o.new.seen d.long (d.twice c.if-not-note.true), c.requires.3)
 
 pub offset_bounds-listing-from-2 : goal.offset_bounds-listing-from-2
 offset_bounds-listing-from-2 c = let a = c.args in omega (arith, c.shared_slice_known-8-1.given (a.k * record_size), c.shared_slice_known-9-1.given (a.k * record_size + 1))
@@ -75,9 +74,9 @@ chain_fits-requires c =
     let o = c.note in
     let q = c.part-chain in
     let p = listed_at a.table.now a.listing.now a.k in
-    let e : o.result ≡ true = not-false _ c.if-not-note.false in
-    let d : Noted o.new.0 a.seen.now p o.result =
-    subst (λ (p : List ℕ). Noted o.new.0 a.seen.now p o.result) (part_listed a.width (length a.counts.now) a.coordinates.now a.merged.now a.table.now a.listing.now a.k) o.ensures in (
+    let e : o.result ≡ true = c.if-not-note.false in
+    let d : Noted o.new.seen a.seen.now p o.result =
+    subst (λ (p : List ℕ). Noted o.new.seen a.seen.now p o.result) (part_listed a.width (length a.counts.now) a.coordinates.now a.merged.now a.table.now a.listing.now a.k) o.ensures in (
       c.requires.0,
       subst (λ (p : List ℕ). ChainLent a.width a.counts.now p q.result.now) (sym (part_listed a.width (length a.counts.now) a.coordinates.now a.merged.now a.table.now a.listing.now a.k))
           (subst (ChainLent a.width a.counts.now p) (sym q.ensures)
@@ -95,10 +94,10 @@ returns c =
     let o = c.note in
     let q = c.part-chain in
     let p = listed_at a.table.now a.listing.now a.k in
-    let e : o.result ≡ true = not-false _ c.if-not-note.false in
-    let d : Noted o.new.0 a.seen.now p o.result =
-    subst (λ (p : List ℕ). Noted o.new.0 a.seen.now p o.result) (part_listed a.width (length a.counts.now) a.coordinates.now a.merged.now a.table.now a.listing.now a.k) o.ensures in (
-      judged_fit a.m a.width a.coordinates.now a.counts.now a.groups.now a.kinds.now a.merged.now a.table.now a.listing.now a.k a.seen.now o.new.0 d.long c.chain_fits.result (d.added e) (d.small e)
+    let e : o.result ≡ true = c.if-not-note.false in
+    let d : Noted o.new.seen a.seen.now p o.result =
+    subst (λ (p : List ℕ). Noted o.new.seen a.seen.now p o.result) (part_listed a.width (length a.counts.now) a.coordinates.now a.merged.now a.table.now a.listing.now a.k) o.ensures in (
+      judged_fit a.m a.width a.coordinates.now a.counts.now a.groups.now a.kinds.now a.merged.now a.table.now a.listing.now a.k a.seen.now o.new.seen d.long c.chain_fits.result (d.added e) (d.small e)
           (c.chain_fits.ensures.0
           ∙ ap₂ (λ (p t : List ℕ). fits a.m (chosen a.width a.coordinates.now a.counts.now a.groups.now a.kinds.now p) (points a.width t))
           (part_listed a.width (length a.counts.now) a.coordinates.now a.merged.now a.table.now a.listing.now a.k) q.ensures),

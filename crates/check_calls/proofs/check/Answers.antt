@@ -2,7 +2,6 @@
 use borrow.Author.Rules.{rules}
 use native.Mathlib.Omega.{arith}
 use mathlib.Core.Path.{sym, ◌∙◌}
-use borrow.Author.Tests.{not-true, not-false}
 use lib.ListN.{length}
 use Rattle.rules.specs.Layout.{lent}
 use Rattle.rules.specs.Check.{delivery}
@@ -41,7 +40,7 @@ returns-then-not-acceptable c =
     let w = c.width_of-width in
     let b = c.any_bad in
     let g = c.acceptable in
-    refused (delivery a.wkb_type (lent a.coordinates.now a.counts.now a.groups.now a.kinds.now) a.m a.table.now a.k a.listing.now a.merged.now a.workspace.now) 24 (chain_refused (delivery a.wkb_type (lent a.coordinates.now a.counts.now a.groups.now a.kinds.now) a.m a.table.now a.k a.listing.now a.merged.now a.workspace.now) f.result f.ensures c.if-refused-ne0.false w.result w.ensures.0 b.result b.ensures c.if-any_bad.false g.result g.ensures (not-true _ c.if-not-acceptable.true)) (λ z. omega arith)
+    refused (delivery a.wkb_type (lent a.coordinates.now a.counts.now a.groups.now a.kinds.now) a.m a.table.now a.k a.listing.now a.merged.now a.workspace.now) 24 (chain_refused (delivery a.wkb_type (lent a.coordinates.now a.counts.now a.groups.now a.kinds.now) a.m a.table.now a.k a.listing.now a.merged.now a.workspace.now) f.result f.ensures c.if-refused-ne0.false w.result w.ensures.0 b.result b.ensures c.if-any_bad.false g.result g.ensures c.if-not-acceptable.true) (λ z. omega arith)
 
 pub overflow_mul-n : goal.overflow_mul-n
 overflow_mul-n c =
@@ -62,5 +61,5 @@ returns c =
     let w = c.width_of-width in
     let b = c.any_bad in
     let g = c.acceptable in
-    admitted (delivery a.wkb_type (lent a.coordinates.now a.counts.now a.groups.now a.kinds.now) a.m a.table.now a.k a.listing.now a.merged.now a.workspace.now) _ (none_refused (delivery a.wkb_type (lent a.coordinates.now a.counts.now a.groups.now a.kinds.now) a.m a.table.now a.k a.listing.now a.merged.now a.workspace.now) f.result f.ensures c.if-refused-ne0.false w.result w.ensures.0 b.result b.ensures c.if-any_bad.false g.result g.ensures (not-false _ c.if-not-acceptable.false))
+    admitted (delivery a.wkb_type (lent a.coordinates.now a.counts.now a.groups.now a.kinds.now) a.m a.table.now a.k a.listing.now a.merged.now a.workspace.now) _ (none_refused (delivery a.wkb_type (lent a.coordinates.now a.counts.now a.groups.now a.kinds.now) a.m a.table.now a.k a.listing.now a.merged.now a.workspace.now) f.result f.ensures c.if-refused-ne0.false w.result w.ensures.0 b.result b.ensures c.if-any_bad.false g.result g.ensures c.if-not-acceptable.false)
     c.clear.ensures

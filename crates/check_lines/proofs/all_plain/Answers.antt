@@ -3,7 +3,6 @@ use Prim.Native.Nat.{◌-◌, ◌≤◌}
 use native.Mathlib.Omega.{arith}
 use mathlib.Core.Path.{◌≡◌, refl, sym, ◌∙◌}
 use borrow.Author.Rules.{rules}
-use borrow.Author.Tests.{not-true, not-false}
 use lib.ListN.{length, drop}
 use Rattle.rules.specs.Lists.{all_of}
 use Rattle.check_laws.proofs.Rows.{all_next, all_stop, all_end}
@@ -35,7 +34,7 @@ pub returns-then-not-is_plain : goal.returns-then-not-is_plain
 returns-then-not-is_plain c =
     let a = c.args in
     let o = c.loop-i in
-    sym (all_stop (plain_at a.counts.now a.kinds.now) a.listed.now o.i 0 (omega arith) (sym c.is_plain.ensures ∙ not-true _ c.if-not-is_plain.true)) ∙ o.invariant.1
+    sym (all_stop (plain_at a.counts.now a.kinds.now) a.listed.now o.i 0 (omega arith) (sym c.is_plain.ensures ∙ c.if-not-is_plain.true)) ∙ o.invariant.1
 
 pub overflow_add-i : goal.overflow_add-i
 overflow_add-i c = omega arith
@@ -47,7 +46,7 @@ pub loop-i-preserved : goal.loop-i-preserved
 loop-i-preserved c =
     let a = c.args in
     let o = c.loop-i in
-    (omega arith, sym (all_next (plain_at a.counts.now a.kinds.now) a.listed.now o.i 0 (omega arith) (sym c.is_plain.ensures ∙ not-false _ c.if-not-is_plain.false)) ∙ o.invariant.1)
+    (omega arith, sym (all_next (plain_at a.counts.now a.kinds.now) a.listed.now o.i 0 (omega arith) (sym c.is_plain.ensures ∙ c.if-not-is_plain.false)) ∙ o.invariant.1)
 
 pub returns : goal.returns
 returns c =

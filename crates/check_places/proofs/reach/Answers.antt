@@ -4,7 +4,6 @@ use native.Mathlib.Omega.{arith}
 use native.Mathlib.Nat.{mul-le-mul}
 use mathlib.Core.Path.{sym, ap, ◌∙◌}
 use borrow.Author.Rules.{rules}
-use borrow.Author.Tests.{not-true, not-false}
 use lib.ListN.{length, get_or}
 use Rattle.check_places.specs.Places.{far}
 use Rattle.check_places.proofs.Reading.{whole_next, Reading, reading_start, left_next, next_inside, reading_repeat, reading_next, reading_stop, reading_end}
@@ -90,7 +89,7 @@ returns-then-not-stands c =
     let l = c.loop-left in
     let p = c.next_point-p in
     reading_stop a.width a.chain.now a.line.now a.turned a.at c.requires.0 l.c l.points l.last_x l.last_y l.left l.invariant (omega arith) (get_or a.line.now p.result 0) (get_or a.line.now (p.result + 1) 0) (ap (λ (i : ℕ). get_or a.line.now i 0) p.ensures) (ap (λ (i : ℕ). get_or a.line.now (i + 1) 0) p.ensures)
-    (sym c.repeats.ensures ∙ c.if-repeats.false) (sym c.stands.ensures ∙ not-true _ c.if-not-stands.true)
+    (sym c.repeats.ensures ∙ c.if-repeats.false) (sym c.stands.ensures ∙ c.if-not-stands.true)
 
 pub overflow_add-points : goal.overflow_add-points
 overflow_add-points c =
@@ -117,7 +116,7 @@ loop-left-preserved c =
     let l = c.loop-left in
     let p = c.next_point-p in
     reading_next a.width a.chain.now a.line.now a.turned a.at c.requires.0 l.c l.points l.last_x l.last_y l.left l.invariant (omega arith) (get_or a.line.now p.result 0) (get_or a.line.now (p.result + 1) 0) (ap (λ (i : ℕ). get_or a.line.now i 0) p.ensures) (ap (λ (i : ℕ). get_or a.line.now (i + 1) 0) p.ensures)
-    (sym c.repeats.ensures ∙ c.if-repeats.false) (sym c.stands.ensures ∙ not-false _ c.if-not-stands.false)
+    (sym c.repeats.ensures ∙ c.if-repeats.false) (sym c.stands.ensures ∙ c.if-not-stands.false)
 
 pub returns : goal.returns
 returns c =

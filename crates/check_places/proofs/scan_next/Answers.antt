@@ -13,19 +13,18 @@ use Rattle.check_places.specs.Places.{number_stands, alike_at, Advanced}
 use Rattle.check_places.proofs.Stretching.{alike_right}
 use Rattle.check_places.proofs.Scanning.{no_better, scan_on, scan_better}
 use Rattle.check_places.proofs.scan_next.Goals as goal
-use Rattle.check_places.proofs.scan_next.Goals.{After-struct_known-1}
+use Rattle.check_places.proofs.scan_next.Goals.{Else-better}
 
 -- where the place isn't better, as many of the line's points stand there as of those at the best place
-told : (c : lts.Else1 (alike_reads.Asked, alike_reads.Learnt, better_reads.Asked, better_reads.Learnt, scan_first_reads.Asked, scan_first_reads.Learnt) reads.Pre reads.Post)
-    → alike_at (points c.before.before.before.before.before.before.args.width c.before.before.before.before.before.before.args.chain.now) c.before.before.before.before.before.before.args.s.best c.before.before.before.before.before.before.args.s.points c.before.before.before.before.before.before.args.i
-    ≡ standing (points c.before.before.before.before.before.before.args.width c.before.before.before.before.before.before.args.chain.now) c.before.before.before.before.before.before.args.turned (points c.before.before.before.before.before.before.args.width c.before.before.before.before.before.before.args.line.now) c.before.before.before.before.before.before.args.i
+told : (c : Else-better)
+    → alike_at (points c.args.width c.args.chain.now) c.args.s.best c.args.s.points c.args.i
+    ≡ standing (points c.args.width c.args.chain.now) c.args.turned (points c.args.width c.args.line.now) c.args.i
 told c =
-    let l = c.before.before.before.before.before.before in
-    let a = l.args in
-    let y = l.requires.2 in
-    no_better a.width a.chain.now a.line.now a.turned l.requires.0 a.s y.scanned.reached y.scanned.known.best_numbers a.i
-    (ap (λ (m : ℕ). not a.s.whole && (leb a.s.points m && number_stands a.chain.now ((a.i + m) * a.width) (point a.s.x a.s.y))) (sym c.before.before.alike.ensures)
-    ∙ sym c.before.better.ensures ∙ c.if1.false)
+    let a = c.args in
+    let y = c.requires.2 in
+    no_better a.width a.chain.now a.line.now a.turned c.requires.0 a.s y.scanned.reached y.scanned.known.best_numbers a.i
+    (ap (λ (m : ℕ). not a.s.whole && (leb a.s.points m && number_stands a.chain.now ((a.i + m) * a.width) (point a.s.x a.s.y))) (sym c.alike-n.ensures)
+    ∙ sym c.better.ensures ∙ c.if-better.false)
 
 pub better-requires : goal.better-requires
 better-requires c =
@@ -63,7 +62,7 @@ returns-then-s-i c =
     (λ (m : ℕ). Advanced a.width a.chain.now a.line.now a.turned (set a.near.now (a.i - a.s.best) m) a.s
     (record { here = m; best = a.s.best; points = a.s.points; whole = a.s.whole; x = a.s.x; y = a.s.y; low = a.i; high = a.i + m }) a.i)
     (sym n.ensures)
-    (scan_on a.width a.chain.now a.line.now a.turned c.requires.0 a.near.now a.s a.i y a.i _ (inl (refl, refl)) (told (goal.at.returns-then-s-i c).After-struct_known-1))
+    (scan_on a.width a.chain.now a.line.now a.turned c.requires.0 a.near.now a.s a.i y a.i _ (inl (refl, refl)) (told (goal.at.returns-then-s-i c).Else-better))
 
 pub returns-else-s-i : goal.returns-else-s-i
 returns-else-s-i c =
@@ -74,4 +73,4 @@ returns-else-s-i c =
     (λ (m : ℕ). Advanced a.width a.chain.now a.line.now a.turned (set a.near.now (a.i - a.s.best) m) a.s
     (record { here = m; best = a.s.best; points = a.s.points; whole = a.s.whole; x = a.s.x; y = a.s.y; low = a.s.low; high = a.s.high }) a.i)
     (sym n.ensures)
-    (scan_on a.width a.chain.now a.line.now a.turned c.requires.0 a.near.now a.s a.i y a.s.low a.s.high (inr (refl, refl)) (told (goal.at.returns-else-s-i c).After-struct_known-1))
+    (scan_on a.width a.chain.now a.line.now a.turned c.requires.0 a.near.now a.s a.i y a.s.low a.s.high (inr (refl, refl)) (told (goal.at.returns-else-s-i c).Else-better))

@@ -3,7 +3,6 @@ use Prim.Native.Nat.{◌+◌, ◌-◌, ◌≤◌}
 use native.Mathlib.Omega.{arith}
 use native.Mathlib.Nat.{mul-le-mul}
 use mathlib.Core.Path.{sym, ◌∙◌}
-use borrow.Author.Tests.{not-true, not-false}
 use Rattle.check_places.specs.Places.{far}
 use Rattle.check_places.proofs.Reading.{whole_next}
 use Rattle.check_places.proofs.Stretching.{grows, Stretching, stretch_start, next_inside, stretch_next, stretch_stop, stretch_end}
@@ -88,7 +87,7 @@ returns-then-not-stands c =
     let a = c.args in
     let g = c.requires in
     let l = c.loop-k in
-    stretch_stop a.width a.chain.now a.i a.best a.n a.count g l.k l.invariant (omega arith) (sym c.stands.ensures ∙ not-true _ c.if-not-stands.true)
+    stretch_stop a.width a.chain.now a.i a.best a.n a.count g l.k l.invariant (omega arith) (sym c.stands.ensures ∙ c.if-not-stands.true)
 
 pub overflow_add-k : goal.overflow_add-k
 overflow_add-k c =
@@ -105,7 +104,7 @@ loop-k-preserved c =
     let a = c.args in
     let g = c.requires in
     let l = c.loop-k in
-    stretch_next a.width a.chain.now a.i a.best a.n a.count g l.k l.invariant (omega arith) (sym c.stands.ensures ∙ not-false _ c.if-not-stands.false)
+    stretch_next a.width a.chain.now a.i a.best a.n a.count g l.k l.invariant (omega arith) (sym c.stands.ensures ∙ c.if-not-stands.false)
 
 pub returns : goal.returns
 returns c =

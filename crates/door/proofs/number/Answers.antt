@@ -9,16 +9,16 @@ use Rattle.door.proofs.number.Goals as goal
 
 pub overflow_add-result : goal.overflow_add-result
 overflow_add-result c =
-    let p : 0 < c.answer-in-Refused-1.given.0.0 = subst Proper c.answer-in-Refused-1.given.1 c.requires in
+    let p : 0 < c.in-Refused.k = subst Proper c.in-Refused.is c.requires in
     omega arith
 
 pub returns-in-Accepted : goal.returns-in-Accepted
 unfolding number_of
-returns-in-Accepted c = sym (ap number_of c.answer-1.given.1)
+returns-in-Accepted c = sym (ap number_of c.in-Accepted.is)
 
 below : (k : ℕ) → k ≤ 18446744073709551615 → 18446744073709551615 - k + 1 ≡ 2 ^ 64 - k
 below k h = omega arith
 
 pub returns-in-Refused : goal.returns-in-Refused
 unfolding number_of
-returns-in-Refused c = below c.answer-in-Refused-1.given.0.0 (search rules) ∙ sym (ap number_of c.answer-in-Refused-1.given.1)
+returns-in-Refused c = below c.in-Refused.k (search rules) ∙ sym (ap number_of c.in-Refused.is)

@@ -1,11 +1,11 @@
 -- `float_offset::largest` meets its contract. The loop's invariant is `Passed`, and its measure the digits to come.
 use Prim.Native.Nat.{◌-◌}
-use mathlib.Core.Logic.{⊎_elim}
 use native.Mathlib.Omega.{arith}
 use native.Mathlib.Nat.{mul-le-mul}
 use Rattle.rules.specs.Offset.{slope}
 use Rattle.float_offset.proofs.Turns.{Passed, start, below, two_digits, taken, passed_by_lem, moved, ended}
 use Rattle.float_offset.proofs.largest.Goals as goal
+use Rattle.float_offset.proofs.largest.Goals.{then-trial-next, else-trial-next}
 
 pub overflow_mul-d : goal.overflow_mul-d
 overflow_mul-d c = omega (arith, mul-le-mul c.requires c.requires)
@@ -59,7 +59,10 @@ pub loop-i-preserved : goal.loop-i-preserved
 loop-i-preserved c =
     let p = c.loop-i.invariant in
     let h = c.loop-i-test.true in
-    ⊎_elim (λ w. moved (taken p h w.0.taken) w.1 w.2) (λ w. moved (passed_by_lem p h w.0.left) w.1 w.2) c.if-trial-next.branch
+    elim c.if-trial-next.branch [
+      | then-trial-next w ↦ moved (taken p h w.if-trial-next.true) w.q-is w.over-is
+      | else-trial-next w ↦ moved (passed_by_lem p h w.if-trial-next.false) w.q-is w.over-is
+    ]
 
 pub returns : goal.returns
 returns c = ended c.args.g c.loop-i.invariant c.loop-i-test.false

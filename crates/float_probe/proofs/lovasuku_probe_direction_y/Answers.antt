@@ -7,8 +7,8 @@ use Rattle.float_probe.proofs.lovasuku_probe_direction_y.Goals as goal
 
 pub returns-in-Absent : goal.returns-in-Absent
 unfolding y_of div of_bits
-returns-in-Absent c = ap y_of (sym c.enum_told-1.given.1 ∙ c.direction_of-d.ensures)
+returns-in-Absent c = ap y_of (sym c.in-Absent.is ∙ c.direction_of-d.ensures)
 
 pub returns-in-Toward : goal.returns-in-Toward
 unfolding y_of
-returns-in-Toward c = ap y_of (sym c.d-1.given.1 ∙ c.direction_of-d.ensures)
+returns-in-Toward c = ap y_of (sym c.in-Toward.is ∙ c.direction_of-d.ensures)

@@ -6,8 +6,8 @@ use Rattle.float_probe.proofs.lovasuku_probe_present.Goals as goal
 
 pub returns-in-Absent : goal.returns-in-Absent
 unfolding present_of
-returns-in-Absent c = ap present_of (sym c.enum_told-1.given.1 ∙ c.direction_of-d.ensures)
+returns-in-Absent c = ap present_of (sym c.in-Absent.is ∙ c.direction_of-d.ensures)
 
 pub returns-in-Toward : goal.returns-in-Toward
 unfolding present_of
-returns-in-Toward c = ap present_of (sym c.enum_told-in-Toward-1.given.1 ∙ c.direction_of-d.ensures)
+returns-in-Toward c = ap present_of (sym c.in-Toward.is ∙ c.direction_of-d.ensures)

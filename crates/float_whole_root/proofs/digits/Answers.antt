@@ -43,8 +43,8 @@ loop-i-preserved c =
     let p = c.loop-i.invariant in
     let h = c.loop-i-test.true in
     elim c.if-trial-next.branch [
-      then-trial-next w ↦ moved (taken p h w.if-trial-next.true) w.q-is w.rem-is
-    | else-trial-next w ↦ moved (passed_by_lem p h w.if-trial-next.false) w.q-is w.rem-is
+      | then-trial-next w ↦ moved (taken p h w.if-trial-next.true) w.q-is w.rem-is
+      | else-trial-next w ↦ moved (passed_by_lem p h w.if-trial-next.false) w.q-is w.rem-is
     ]
 
 pub overflow_add-result : goal.overflow_add-result

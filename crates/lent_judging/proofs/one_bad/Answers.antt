@@ -5,7 +5,6 @@ use mathlib.Core.Path.{◌≡◌, sym, ◌∙◌}
 use mathlib.Core.Bool.{true}
 use lib.ListN.{length, get_or}
 use native.Mathlib.Omega.{arith}
-use borrow.Author.Tests.{not-true, not-false}
 use Rattle.build_lines.proofs.Passing.{plain_at}
 use Rattle.lent_noting.proofs.Marks.{fresh_told, stale}
 use Rattle.lent_judging.proofs.Single.{one_refuse, one_told}
@@ -14,10 +13,10 @@ use Rattle.lent_judging.proofs.one_bad.Goals.{Else-not-is_fresh}
 
 -- the line is plain, and wasn't met
 met : (c : Else-not-is_fresh) → (c.args.line < length c.args.counts.now) × (get_or c.args.seen.now c.args.line 0 ≡ 0) × (plain_at c.args.counts.now c.args.kinds.now c.args.line ≡ true)
-met c = fresh_told c.args.seen.now c.args.counts.now c.args.kinds.now c.args.line c.is_fresh.ensures (not-false _ c.if-not-is_fresh.false)
+met c = fresh_told c.args.seen.now c.args.counts.now c.args.kinds.now c.args.line c.is_fresh.ensures c.if-not-is_fresh.false
 
 pub returns-then-not-is_fresh : goal.returns-then-not-is_fresh
-returns-then-not-is_fresh c = let s = c.args in one_refuse (λ t. stale s.seen.now s.counts.now s.kinds.now s.line c.is_fresh.ensures (not-true _ c.if-not-is_fresh.true) t.low t.plain t.unmet)
+returns-then-not-is_fresh c = let s = c.args in one_refuse (λ t. stale s.seen.now s.counts.now s.kinds.now s.line c.is_fresh.ensures c.if-not-is_fresh.true t.low t.plain t.unmet)
 
 pub bounds-seen-y : goal.bounds-seen-y
 bounds-seen-y c = omega (arith, (met (goal.at.bounds-seen-y c).Else-not-is_fresh).0, c.requires.1.few)

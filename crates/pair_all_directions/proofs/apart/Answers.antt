@@ -5,17 +5,13 @@ use mathlib.Core.List.{List}
 use mathlib.Core.Path.{◌≡◌, ◌∙◌, ap}
 use native.Mathlib.Omega.{arith}
 use borrow.Author.Rules.{rules}
-use borrow.Author.Tests.{not-true, not-false}
 use Rattle.rules.specs.declared.Direction.{Direction}
 use Rattle.pair_bounds.specs.declared.Bounds.{Bounds}
 use Rattle.pair_ends.specs.Ends.{direction_at}
 use Rattle.pair_all_directions.specs.Around.{around_of, beyond_of}
 use Rattle.pair_all_directions.proofs.Scan.{Passed, scan_step, scan_other, scan_whole}
+use Rattle.pair_all_directions.proofs.apart.Invariants.{beyond_all}
 use Rattle.pair_all_directions.proofs.apart.Goals as goal
-
--- direction k is beyond the box around all
-abbrev beyond_all : List ℕ → ℕ → ℕ → ℕ → Bool
-beyond_all w d limit k = beyond_of (around_of (direction_at w d) d) limit (direction_at w d k)
 
 told : (w : List ℕ) (d limit k : ℕ) {b : Bounds} {a : Direction} {t : Bool} → b ≡ around_of (direction_at w d) d → a ≡ direction_at w d k → t ≡ beyond_of b limit a
     → t ≡ beyond_all w d limit k
@@ -30,7 +26,7 @@ returns-then-not-beyond c =
     let k = c.loop-e.e in
     scan_other (beyond_all a.w.now a.d a.limit) a.d k _ c.loop-e-test.true
     (told a.w.now a.d a.limit k c.around-b.ensures c.direction_at.ensures c.beyond.ensures)
-    (not-true _ c.if-not-beyond.true)
+    c.if-not-beyond.true
 
 pub loop-e-smaller : goal.loop-e-smaller
 loop-e-smaller c = omega arith
@@ -42,7 +38,7 @@ loop-e-preserved c =
       omega arith,
       scan_step (beyond_all a.w.now a.d a.limit) a.d k _
           (told a.w.now a.d a.limit k c.around-b.ensures c.direction_at.ensures c.beyond.ensures)
-          (not-false _ c.if-not-beyond.false) c.loop-e.invariant.1,
+          c.if-not-beyond.false c.loop-e.invariant.1,
     )
 
 pub returns : goal.returns

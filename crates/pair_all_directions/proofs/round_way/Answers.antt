@@ -4,7 +4,7 @@ use Rattle.pair_all_directions.proofs.Scan.{round_absent, round_toward}
 use Rattle.pair_all_directions.proofs.round_way.Goals as goal
 
 pub returns-in_default : goal.returns-in_default
-returns-in_default c = round_absent c.enum_told-1.given.1
+returns-in_default c = round_absent c.in_default.is
 
 pub returns : goal.returns
-returns c = round_toward c.way-1.given.1 c.is_round.ensures
+returns c = round_toward c.in-Toward.is c.is_round.ensures

@@ -21,7 +21,7 @@ indexed-requires c =
       room = c.requires.room;
       limited = subst (λ (k : ℕ). k < gone) (sym c.key.ensures) (limit_under c.args.limit (fitting (goal.at.indexed-requires c).Start) c.requires.limited);
       bounded = (c.args.limit, record { fitting = fitting (goal.at.indexed-requires c).Start; number = limit_number c.args.limit c.requires.limited; is = sym c.key.ensures });
-      finite_ends = c.requires.finite_ends (ap alone_by c.enum_told-in-Indexed-1.given.1);
+      finite_ends = c.requires.finite_ends (ap alone_by c.in-Indexed.is);
       twice = c.requires.twice;
     }
 

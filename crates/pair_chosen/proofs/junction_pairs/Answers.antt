@@ -2,7 +2,6 @@
 use borrow.Author.Rules.{rules}
 use lib.Dec.{T}
 use lib.Ieee.{binary64, fits}
-use borrow.Author.Tests.{not-false}
 use Rattle.pair_chosen.proofs.Asking.{asks}
 use Rattle.pair_chosen.proofs.junction_pairs.Goals as goal
 use Rattle.pair_chosen.proofs.junction_pairs.Goals.{Start}
@@ -11,7 +10,7 @@ fitting : (s : Start) → T (fits binary64 s.args.limit)
 fitting s = search rules
 
 pub indexed-requires : goal.indexed-requires
-indexed-requires c = asks c.args.limit c.requires.0 (fitting (goal.at.indexed-requires c).Start) c.requires.1 c.requires.2 c.all_finite.ensures (not-false _ c.if-not-all_finite.false) c.key.ensures
+indexed-requires c = asks c.args.limit c.requires.0 (fitting (goal.at.indexed-requires c).Start) c.requires.1 c.requires.2 c.all_finite.ensures c.if-not-all_finite.false c.key.ensures
 
 pub returns : goal.returns
 returns c = rw c.key.ensures at c.indexed.ensures

@@ -1,5 +1,4 @@
 -- `row::closer` meets its contract: a dot product that does not reach the least measure seen is above it once it is clamped.
-use borrow.Author.Tests.{not-true}
 use lib.Ieee.{Float, lt, le}
 use Rattle.pair_first_of_end.specs.Near.{measure_of, reaches_to}
 use Rattle.pair_first_of_end.proofs.Measures.{out_of_reach, closer_first, closer_next}
@@ -8,7 +7,7 @@ use borrow.Author.Rules.{rules}
 use Rattle.pair_first_of_end.proofs.closer.Goals as goal
 
 pub returns-then-not-reaches : goal.returns-then-not-reaches
-returns-then-not-reaches c = let a = c.args in out_of_reach a.near a.a a.b c.requires (ap (λ (s : Float). reaches_to s a.near.measure) (sym c.dot.ensures) ∙ sym c.reaches.ensures ∙ not-true c.reaches.result c.if-not-reaches.true)
+returns-then-not-reaches c = let a = c.args in out_of_reach a.near a.a a.b c.requires (ap (λ (s : Float). reaches_to s a.near.measure) (sym c.dot.ensures) ∙ sym c.reaches.ensures ∙ c.if-not-reaches.true)
 
 pub returns-then-near-eq0 : goal.returns-then-near-eq0
 returns-then-near-eq0 c = let a = c.args in ap (λ (m : Float). le m a.near.measure) c.measure.ensures ∙ closer_first a.near (measure_of a.a a.b) c.if-near-eq0.true

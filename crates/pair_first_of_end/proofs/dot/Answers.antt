@@ -8,12 +8,12 @@ use Rattle.pair_first_of_end.proofs.dot.Goals as goal
 
 pub returns-in_default : goal.returns-in_default
 unfolding dot_of
-returns-in_default c = zero_by_zero ∙ sym (ap (λ (a : Direction). dot_of a c.args.b) c.enum_told-1.given.1)
+returns-in_default c = zero_by_zero ∙ sym (ap (λ (a : Direction). dot_of a c.args.b) c.in_default.is)
 
 pub returns-in_default-b : goal.returns-in_default-b
 unfolding dot_of
-returns-in_default-b c = zero_by_zero ∙ sym (ap₂ dot_of c.a-1.given.1 c.enum_told-in_default-b-1.given.1)
+returns-in_default-b c = zero_by_zero ∙ sym (ap₂ dot_of c.in-Toward.is c.in_default-b.is)
 
 pub returns : goal.returns
 unfolding dot_of
-returns c = sym (ap₂ dot_of c.a-1.given.1 c.b-1.given.1)
+returns c = sym (ap₂ dot_of c.in-Toward.is c.in-Toward-b.is)

@@ -6,7 +6,6 @@ use native.Mathlib.Omega.{arith}
 use lib.Dec.{T}
 use lib.Ieee.{Float, binary64, fits, le, of_bits, neg}
 use borrow.Author.Rules.{rules}
-use borrow.Author.Tests.{not-true, not-false}
 use Rattle.rules.specs.declared.Direction.{Direction}
 use Rattle.rules.specs.Plane.{minus_unity}
 use Rattle.pair_ends.specs.Ends.{piece_at}
@@ -60,7 +59,7 @@ nearer c =
     walk_nearer a.w.now a.d a.limit a.i c.requires (limit_fits (goal.at.After-measure-m c).Start) c.loop-next.near c.loop-next.next c.loop-next.invariant c.loop-next-test.true
     c.if-w-d-ne0.false
     c.if-w-d-ne0-2.false
-    (told (goal.at.After-measure-m c).After-closer ∙ not-false c.closer.result c.if-not-closer.false)
+    (told (goal.at.After-measure-m c).After-closer ∙ c.if-not-closer.false)
     (λ e. c.if-piece_at-piece.false (c.piece_at.ensures ∙ e ∙ sym c.piece_at-piece.ensures))
 
 -- ---- the needs
@@ -70,7 +69,7 @@ returns-then-w-d-ne0 c =
     rw c.hold.ensures (walk_none c.args.w.now c.args.d c.args.limit c.args.i c.requires.row c.if-w-d-ne0.true)
 
 pub toward-a-requires : goal.toward-a-requires
-toward-a-requires c = (((c.requires.room, c.requires.row), c.requires.free c.args.i c.requires.row c.if-w-d-ne0.false))
+toward-a-requires c = record { ends_room = (c.requires.room, c.requires.row); e_value = c.requires.free c.args.i c.requires.row c.if-w-d-ne0.false }
 
 pub loop-next-init : goal.loop-next-init
 loop-next-init c = (walk_start c.args.w.now c.args.d c.args.limit c.args.i c.requires (limit_fits (goal.at.loop-next-init c).Start))
@@ -83,7 +82,7 @@ loop-next-preserved-then-w-d-ne0-2 c = marked (goal.at.loop-next-preserved-then-
 
 pub toward-b-requires : goal.toward-b-requires
 toward-b-requires c =
-    ((c.requires.room, c.loop-next-test.true), c.requires.free c.loop-next.next c.loop-next-test.true c.if-w-d-ne0-2.false)
+    record { ends_room = (c.requires.room, c.loop-next-test.true); e_value = c.requires.free c.loop-next.next c.loop-next-test.true c.if-w-d-ne0-2.false }
 
 pub closer-requires : goal.closer-requires
 closer-requires c = c.loop-next.invariant.top
@@ -92,7 +91,7 @@ pub loop-next-smaller-then-not-closer : goal.loop-next-smaller-then-not-closer
 loop-next-smaller-then-not-closer c = omega arith
 
 pub loop-next-preserved-then-not-closer : goal.loop-next-preserved-then-not-closer
-loop-next-preserved-then-not-closer c = farther (goal.at.loop-next-preserved-then-not-closer c).In-loop-next (told (goal.at.loop-next-preserved-then-not-closer c).After-closer ∙ not-true c.closer.result c.if-not-closer.true)
+loop-next-preserved-then-not-closer c = farther (goal.at.loop-next-preserved-then-not-closer c).In-loop-next (told (goal.at.loop-next-preserved-then-not-closer c).After-closer ∙ c.if-not-closer.true)
 
 pub loop-next-smaller-then-piece_at-piece : goal.loop-next-smaller-then-piece_at-piece
 loop-next-smaller-then-piece_at-piece c = omega arith

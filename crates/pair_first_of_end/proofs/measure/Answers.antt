@@ -7,10 +7,10 @@ use borrow.Author.Rules.{rules}
 use Rattle.pair_first_of_end.proofs.measure.Goals as goal
 
 pub returns-in_default : goal.returns-in_default
-returns-in_default c = zero_by_zero ∙ nan_measure _ ∙ sym (ap (λ (a : Direction). measure_of a c.args.b) c.enum_told-1.given.1)
+returns-in_default c = zero_by_zero ∙ nan_measure _ ∙ sym (ap (λ (a : Direction). measure_of a c.args.b) c.in_default.is)
 
 pub returns-in_default-b : goal.returns-in_default-b
-returns-in_default-b c = zero_by_zero ∙ nan_measure_too _ _ ∙ sym (ap₂ measure_of c.a-1.given.1 c.enum_told-in_default-b-1.given.1)
+returns-in_default-b c = zero_by_zero ∙ nan_measure_too _ _ ∙ sym (ap₂ measure_of c.in-Toward.is c.in_default-b.is)
 
 pub returns : goal.returns
-returns c = c.measure.ensures ∙ measure_toward _ _ _ _ ∙ sym (ap₂ measure_of c.a-1.given.1 c.b-1.given.1)
+returns c = c.measure.ensures ∙ measure_toward _ _ _ _ ∙ sym (ap₂ measure_of c.in-Toward.is c.in-Toward-b.is)

@@ -1,4 +1,3 @@
-
 use mathlib.Core.Path.{sym, ◌∙◌}
 use Rattle.pair_index.specs.Index.{pair_of}
 use Rattle.pair_heap.proofs.Top.{coded_none, coded_upper, coded_lower}

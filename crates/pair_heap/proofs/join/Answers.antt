@@ -1,4 +1,3 @@
-
 use native.Mathlib.Omega.{arith}
 use Rattle.pair_heap.proofs.Nodes.{Joining, joining_start, joining_room, joining_next, joining_stop}
 use Rattle.pair_heap.proofs.join.Goals as goal

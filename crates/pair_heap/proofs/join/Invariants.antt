@@ -1,4 +1,3 @@
-
 use Rattle.pair_heap.proofs.Nodes.{Joining}
 use Rattle.pair_heap.proofs.join.Given as goal
 

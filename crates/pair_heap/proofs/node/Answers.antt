@@ -1,4 +1,3 @@
-
 use mathlib.Core.Path.{refl}
 use Rattle.pair_heap.specs.Heap.{node_at}
 use borrow.Author.Rules.{rules}

@@ -1,4 +1,3 @@
-
 use Rattle.pair_heap.proofs.Nodes.{puts}
 use borrow.Author.Rules.{rules}
 use Rattle.pair_heap.proofs.put.Goals as goal

@@ -1,4 +1,3 @@
-
 use Prim.Native.Nat.{ℕ, min}
 use mathlib.Core.Path.{subst, ap₂, ◌∙◌}
 use Rattle.pair_heap.specs.Heap.{HeapPut}

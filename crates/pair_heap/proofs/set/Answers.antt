@@ -1,4 +1,3 @@
-
 use native.Mathlib.Omega.{arith}
 use mathlib.Core.Path.{◌∙◌}
 use Rattle.pair_heap.proofs.Nodes.{Climbing, climbing_start, climbing_room, climbing_next, climbing_stop}

@@ -1,4 +1,3 @@
-
 use Rattle.pair_heap.proofs.Nodes.{Climbing}
 use Rattle.pair_heap.proofs.set.Given as goal
 

@@ -1,4 +1,3 @@
-
 use native.Mathlib.Omega.{arith}
 use Rattle.pair_index.proofs.Nodes.{Joining, joining_start, joining_children, joining_next, joining_stop}
 use Rattle.pair_index.proofs.join.Goals as goal

@@ -1,4 +1,3 @@
-
 use Rattle.pair_index.proofs.Nodes.{Joining}
 use Rattle.pair_index.proofs.join.Given as goal
 

@@ -1,11 +1,10 @@
-
 use borrow.Author.Rules.{rules}
 use mathlib.Core.Path.{refl}
 use Rattle.pair_index.proofs.Nodes.{numbers, node_is}
 use Rattle.pair_index.proofs.node.Goals as goal
 
 pub float_from_bits-result : goal.float_from_bits-result
-float_from_bits-result c = (numbers _ _ _ c.requires.sound).low_x
+float_from_bits-result c = (numbers _ _ _ c.requires.sound).from_low_x
 
 pub float_from_bits-result-2 : goal.float_from_bits-result-2
 float_from_bits-result-2 c = (numbers _ _ _ c.requires.sound).from_low_y

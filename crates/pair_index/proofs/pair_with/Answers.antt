@@ -1,4 +1,3 @@
-
 use mathlib.Core.Path.{sym, ◌∙◌}
 use Rattle.pair_ends.specs.Ends.{direction_at, piece_at}
 use Rattle.pair_index.proofs.Steps.{pair_own, pair_other}

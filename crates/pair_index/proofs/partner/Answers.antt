@@ -1,4 +1,3 @@
-
 use Rattle.pair_index.proofs.Steps.{has, passed_over, test_before, test_after}
 use borrow.Author.Rules.{rules}
 use Rattle.pair_index.proofs.partner.Goals as goal

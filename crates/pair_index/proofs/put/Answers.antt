@@ -1,4 +1,3 @@
-
 use borrow.Author.Rules.{rules}
 use native.Mathlib.Omega.{arith}
 use lib.ListN.{length-set}
@@ -28,4 +27,4 @@ pub bounds-w-k-4 : goal.bounds-w-k-4
 bounds-w-k-4 c = simp length-set (omega (arith, c.requires.0))
 
 pub returns : goal.returns
-returns c = puts c.args.w.now c.args.t c.args.n c.args.b c.requires.0 (record { low_x = search rules; from_low_y = search rules; to_high_x = search rules; to_high_y = search rules })
+returns c = puts c.args.w.now c.args.t c.args.n c.args.b c.requires.0 (record { from_low_x = search rules; from_low_y = search rules; to_high_x = search rules; to_high_y = search rules })

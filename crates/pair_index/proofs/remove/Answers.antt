@@ -1,4 +1,3 @@
-
 use mathlib.Core.Path.{sym, subst, ◌∙◌}
 use Rattle.pair_bounds.specs.declared.Bounds.{Bounds}
 use Rattle.pair_bounds.specs.Box.{Sound}

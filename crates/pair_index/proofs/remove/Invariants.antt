@@ -1,4 +1,3 @@
-
 use Rattle.pair_index.proofs.Nodes.{Climbing}
 use Rattle.pair_index.proofs.remove.Given as goal
 

@@ -1,4 +1,3 @@
-
 use borrow.Author.Rules.{rules}
 use native.Mathlib.Omega.{arith}
 use mathlib.Core.Path.{sym, subst, ap₂, ◌∙◌}
@@ -9,14 +8,13 @@ use Rattle.pair_index.specs.Nodes.{IndexPut}
 use Rattle.pair_index.proofs.renew.Goals as goal
 
 pub put-requires : goal.put-requires
-put-requires c =
-    (
-      omega (arith, c.requires.inside),
-      subst (λ (v : Bounds). Sound v) (sym c.union.ensures)
-          (union_sound c.node-a.result c.node-b.result
-          (subst (λ (v : Bounds). Sound v) (sym c.node-a.ensures) c.requires.left)
-          (subst (λ (v : Bounds). Sound v) (sym c.node-b.ensures) c.requires.right)),
-    )
+put-requires c = (
+  omega (arith, c.requires.inside),
+  subst (λ (v : Bounds). Sound v) (sym c.union.ensures)
+      (union_sound c.node-a.result c.node-b.result
+      (subst (λ (v : Bounds). Sound v) (sym c.node-a.ensures) c.requires.left)
+      (subst (λ (v : Bounds). Sound v) (sym c.node-b.ensures) c.requires.right)),
+)
 
 pub returns : goal.returns
 returns c =

@@ -1,4 +1,3 @@
-
 use Prim.Native.Nat.{◌-◌, ◌*◌}
 use native.Mathlib.Omega.{arith}
 use Rattle.pair_tree.proofs.Words.{changes_then, changes_wider}

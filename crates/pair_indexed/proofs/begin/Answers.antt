@@ -1,4 +1,3 @@
-
 use Rattle.pair_indexed.proofs.Beginning.{begins_plants, begins_clears, begins_fills, begins_changes}
 use Rattle.pair_indexed.proofs.begin.Goals as goal
 

@@ -1,4 +1,3 @@
-
 use Prim.Native.Nat.{◌-◌}
 use native.Mathlib.Omega.{arith}
 use Rattle.pair_indexed.proofs.Turns.{Going, remaining, going_start, first_in, few_pairs, both_free, one_taken, going_stop, i_in, j_in, going_stale, going_again, again_falls, going_takes, going_took, took_falls}

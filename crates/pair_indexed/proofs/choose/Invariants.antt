@@ -1,4 +1,3 @@
-
 use Rattle.pair_indexed.proofs.Turns.{Going, remaining}
 use Rattle.pair_indexed.proofs.choose.Given as goal
 

@@ -1,4 +1,3 @@
-
 use Prim.Native.Nat.{◌-◌}
 use native.Mathlib.Omega.{arith}
 use Rattle.pair_indexed.proofs.Planting.{Clearing, clearing_start, clearing_room, clearing_next, clearing_stop}

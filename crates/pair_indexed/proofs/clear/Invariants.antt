@@ -1,4 +1,3 @@
-
 use Prim.Native.Nat.{◌-◌}
 use Rattle.pair_indexed.proofs.Planting.{Clearing}
 use Rattle.pair_indexed.proofs.clear.Given as goal

@@ -1,4 +1,3 @@
-
 use Prim.Native.Nat.{◌-◌}
 use native.Mathlib.Omega.{arith}
 use Rattle.pair_indexed.proofs.Starting.{Pairing, pairing_start, pairing_long, pairing_in, pairing_idle, pairing_query, pairing_slot, pairing_next, pairing_wide, pairing_changes, pairing_stop}

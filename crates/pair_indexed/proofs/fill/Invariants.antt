@@ -1,4 +1,3 @@
-
 use Prim.Native.Nat.{◌-◌}
 use Rattle.pair_indexed.proofs.Starting.{Pairing}
 use Rattle.pair_indexed.proofs.fill.Given as goal

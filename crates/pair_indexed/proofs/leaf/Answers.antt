@@ -1,4 +1,3 @@
-
 use mathlib.Core.Path.{sym, ◌∙◌}
 use Rattle.pair_indexed.proofs.Planting.{leaf_out, leaf_in}
 use Rattle.pair_owners.specs.Tables.{order_at}
@@ -15,9 +14,9 @@ pub returns-in_default : goal.returns-in_default
 returns-in_default c =
     c.empty-in_default.ensures
     ∙ leaf_in c.requires.room (order_at c.args.w.now c.args.d) c.args.p c.if-d-p.false (c.requires.order.order_in c.args.p c.if-d-p.false) _
-    (sym c.enum_told-1.given.1 ∙ c.direction_at.ensures)
+    (sym c.in_default.is ∙ c.direction_at.ensures)
 
 pub returns : goal.returns
 returns c =
     leaf_in c.requires.room (order_at c.args.w.now c.args.d) c.args.p c.if-d-p.false (c.requires.order.order_in c.args.p c.if-d-p.false) _
-    (sym c.x-1.given.1 ∙ c.direction_at.ensures)
+    (sym c.in-Toward.is ∙ c.direction_at.ensures)

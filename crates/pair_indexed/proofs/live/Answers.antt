@@ -1,4 +1,3 @@
-
 use Rattle.pair_indexed.proofs.Parts.{is_taken, free_both}
 use borrow.Author.Rules.{rules}
 use Rattle.pair_indexed.proofs.live.Goals as goal

@@ -1,4 +1,3 @@
-
 use Prim.Native.Nat.{◌-◌, ◌*◌}
 use mathlib.Core.Path.{◌≡◌}
 use Rattle.pair_ends.specs.Blocks.{index_from}

@@ -1,4 +1,3 @@
-
 use Rattle.pair_indexed.proofs.Parts.{refreshed}
 use borrow.Author.Rules.{rules}
 use Rattle.pair_indexed.proofs.refresh.Goals as goal

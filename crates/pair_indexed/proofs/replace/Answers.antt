@@ -1,4 +1,3 @@
-
 use Rattle.pair_owners.specs.Tables.{group_at}
 use Prim.Native.Nat.{◌+◌, ◌-◌, ◌*◌}
 use native.Mathlib.Omega.{arith}

@@ -1,4 +1,3 @@
-
 use Prim.Native.Nat.{◌+◌, ◌*◌}
 use lib.ListN.{length-set}
 use Rattle.pair_ends.specs.Blocks.{marks_from}

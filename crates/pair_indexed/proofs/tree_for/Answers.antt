@@ -1,4 +1,3 @@
-
 use Prim.Native.Nat.{◌-◌}
 use native.Mathlib.Omega.{arith}
 use Rattle.pair_indexed.proofs.Sizes.{Sizing, sizing_start, sizing_next, sizing_stop}

@@ -1,4 +1,3 @@
-
 use Prim.Native.Nat.{◌-◌}
 use Rattle.pair_indexed.proofs.Sizes.{Sizing}
 use Rattle.pair_indexed.proofs.tree_for.Given as goal

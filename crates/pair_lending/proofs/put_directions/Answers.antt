@@ -41,13 +41,12 @@ pub loop-i-smaller : goal.loop-i-smaller
 loop-i-smaller c = omega arith
 
 pub loop-i-preserved : goal.loop-i-preserved
-loop-i-preserved c =
-    (
-      omega arith,
-      subst (λ (v : ℕ). HoldsFrom (set c.loop-i.w (c.args.at + c.loop-i.i) v) c.args.w.now c.args.at (c.loop-i.i + 1) (take (c.loop-i.i + 1) (map bits_of c.args.directions.now)))
-          (sym c.bits_of.ensures)
-          (bits_more c.loop-i.w c.args.w.now c.args.directions.now c.args.at c.loop-i.i c.loop-i.invariant.1 (omega arith) (omega arith)),
-    )
+loop-i-preserved c = (
+  omega arith,
+  subst (λ (v : ℕ). HoldsFrom (set c.loop-i.w (c.args.at + c.loop-i.i) v) c.args.w.now c.args.at (c.loop-i.i + 1) (take (c.loop-i.i + 1) (map bits_of c.args.directions.now)))
+      (sym c.bits_of.ensures)
+      (bits_more c.loop-i.w c.args.w.now c.args.directions.now c.args.at c.loop-i.i c.loop-i.invariant.1 (omega arith) (omega arith)),
+)
 
 pub shape_of-w : goal.shape_of-w
 shape_of-w c = long (goal.at.shape_of-w c).At-loop-i

@@ -4,7 +4,7 @@ use Rattle.pair_owners.proofs.Angles.{angle_none, angle_some}
 use Rattle.pair_owners.proofs.angle_of.Goals as goal
 
 pub returns-in_default : goal.returns-in_default
-returns-in_default c = angle_none c.direction_at.ensures c.enum_told-1.given.1
+returns-in_default c = angle_none c.direction_at.ensures c.in_default.is
 
 pub returns : goal.returns
-returns c = angle_some c.direction_at.ensures c.x-1.given.1 c.angle.ensures
+returns c = angle_some c.direction_at.ensures c.in-Toward.is c.angle.ensures

@@ -1,4 +1,3 @@
-
 use borrow.Author.Tests.{eq-eqb, ne_eqb}
 use borrow.Author.Rules.{rules}
 use Rattle.pair_owners.proofs.counted.Goals as goal

@@ -1,4 +1,3 @@
-
 use Prim.Native.Nat.{◌-◌}
 use Rattle.pair_owners.proofs.Turns.{Looking}
 use Rattle.pair_owners.proofs.due.Given as goal

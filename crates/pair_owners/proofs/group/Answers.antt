@@ -24,16 +24,15 @@ pub bounds-w-d-then-alike : goal.bounds-w-d-then-alike
 bounds-w-d-then-alike c = omega (arith, c.requires.0.order.order_in (c.args.p - 1) (omega (arith, c.requires.1)), c.requires.0.room.long)
 
 pub returns-then-alike : goal.returns-then-alike
-returns-then-alike c =
-    (
-      group_alike c.args.w.now c.args.d c.args.p c.if-p-eq0.false c.alike.ensures c.if-alike.true,
-      inr (
-        pos_of_ne-zero c.if-p-eq0.false,
-        refl,
-        alike_like c.args.w.now c.args.d _ _ c.requires.0.room (c.requires.0.order.order_in (c.args.p - 1) (omega (arith, c.requires.1))) (c.requires.0.order.order_in c.args.p c.requires.1)
-            (sym c.alike.ensures ∙ c.if-alike.true),
-      ),
-    )
+returns-then-alike c = (
+  group_alike c.args.w.now c.args.d c.args.p c.if-p-eq0.false c.alike.ensures c.if-alike.true,
+  inr (
+    pos_of_ne-zero c.if-p-eq0.false,
+    refl,
+    alike_like c.args.w.now c.args.d _ _ c.requires.0.room (c.requires.0.order.order_in (c.args.p - 1) (omega (arith, c.requires.1))) (c.requires.0.order.order_in c.args.p c.requires.1)
+        (sym c.alike.ensures ∙ c.if-alike.true),
+  ),
+)
 
 pub returns : goal.returns
 returns c = (group_own c.args.w.now c.args.d c.args.p c.if-p-eq0.false c.alike.ensures c.if-alike.false, inl refl)

@@ -1,4 +1,3 @@
-
 use Prim.Native.Nat.{◌-◌}
 use Rattle.pair_owners.proofs.Turns.{Grouping}
 use Rattle.pair_owners.proofs.groups.Given as goal

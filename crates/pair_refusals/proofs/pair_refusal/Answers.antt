@@ -1,7 +1,7 @@
 -- `pair_refusal` is the ladder's. After each test that doesn't hold, the refusal is that of the tests that are left; where one holds, it is that test's number.
 use Prim.Native.Nat.{ℕ, ◌*◌}
-use mathlib.Core.Path.{◌≡◌, sym, ◌∙◌}
-use mathlib.Core.Bool.{Bool}
+use mathlib.Core.Path.{◌≡◌, sym, ap, ◌∙◌}
+use mathlib.Core.Bool.{Bool, not}
 use mathlib.Core.List.{List}
 use native.Mathlib.Omega.{arith}
 use lib.ListN.{length, drop}
@@ -73,7 +73,7 @@ returns-then-more_than_twice c = halt (left5 (goal.at.returns-then-more_than_twi
 
 pub returns-then-not-alone : goal.returns-then-not-alone
 returns-then-not-alone c =
-    top (rung (left6 (goal.at.returns-then-not-alone c).Else-more_than_twice) (not_asked c.args.alone (wild_of (goal.at.returns-then-not-alone c).Start) c.if-not-alone.true))
+    top (rung (left6 (goal.at.returns-then-not-alone c).Else-more_than_twice) (not_asked c.args.alone (wild_of (goal.at.returns-then-not-alone c).Start) (ap not c.if-not-alone.true)))
 
 pub any_wild-requires : goal.any_wild-requires
 any_wild-requires c =
@@ -82,8 +82,8 @@ any_wild-requires c =
 
 pub returns-then-any_wild : goal.returns-then-any_wild
 returns-then-any_wild c =
-    halt (left6 (goal.at.returns-then-any_wild c).Else-more_than_twice) (asked c.args.alone (wild_of (goal.at.returns-then-any_wild c).Start) c.if-not-alone.false ∙ sym c.any_wild.ensures ∙ c.if-any_wild.true)
+    halt (left6 (goal.at.returns-then-any_wild c).Else-more_than_twice) (asked c.args.alone (wild_of (goal.at.returns-then-any_wild c).Start) (ap not c.if-not-alone.false) ∙ sym c.any_wild.ensures ∙ c.if-any_wild.true)
 
 pub returns : goal.returns
 returns c =
-    top (rung (left6 (goal.at.returns c).Else-more_than_twice) (asked c.args.alone (wild_of (goal.at.returns c).Start) c.if-not-alone.false ∙ sym c.any_wild.ensures ∙ c.if-any_wild.false))
+    top (rung (left6 (goal.at.returns c).Else-more_than_twice) (asked c.args.alone (wild_of (goal.at.returns c).Start) (ap not c.if-not-alone.false) ∙ sym c.any_wild.ensures ∙ c.if-any_wild.false))

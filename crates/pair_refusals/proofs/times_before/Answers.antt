@@ -1,12 +1,12 @@
 -- After k turns, c is how often p stands among the first k pieces.
 use Prim.Native.Nat.{◌≤◌, ◌-◌}
 use mathlib.Core.Path.{◌≡◌, sym, ◌∙◌}
-use mathlib.Core.Logic.{⊎_elim}
 use native.Mathlib.Omega.{arith}
 use lib.ListN.{take}
 use Rattle.rules.specs.Lists.{count}
 use Rattle.pair_refusals.proofs.Times.{none_first, count_most, count_same, count_other}
 use Rattle.pair_refusals.proofs.times_before.Goals as goal
+use Rattle.pair_refusals.proofs.times_before.Goals.{then-pieces-k, else-pieces-k}
 
 pub loop-k-init : goal.loop-k-init
 loop-k-init c = (omega arith, sym (none_first c.args.p c.args.pieces.now))
@@ -31,10 +31,10 @@ pub loop-k-preserved : goal.loop-k-preserved
 loop-k-preserved c =
     let p = c.args.p in
     let pieces = c.args.pieces.now in
-    ⊎_elim
-    (λ w. omega (arith, count_same p pieces c.loop-k.k (omega arith) w.0.taken))
-    (λ w. omega (arith, count_other p pieces c.loop-k.k (omega arith) w.0.left))
-    c.if-pieces-k.branch
+    elim c.if-pieces-k.branch [
+      | then-pieces-k w ↦ omega (arith, count_same p pieces c.loop-k.k (omega arith) w.if-pieces-k.true)
+      | else-pieces-k w ↦ omega (arith, count_other p pieces c.loop-k.k (omega arith) w.if-pieces-k.false)
+    ]
 
 pub returns : goal.returns
 returns c =

@@ -1,7 +1,6 @@
 -- The word k falls along the chain, so that it is the measure. Places that it passes over are of other buckets and hold other pieces: c and the count among the first k give the count among all.
 use Prim.Native.Nat.{◌+◌, ◌-◌, ◌<◌}
 use mathlib.Core.Path.{◌≡◌}
-use mathlib.Core.Logic.{⊎_elim}
 use native.Mathlib.Omega.{arith}
 use lib.ListN.{take, get_or}
 use Rattle.rules.specs.Lists.{count}
@@ -9,7 +8,7 @@ use Rattle.pair_refusals.specs.Linked.{LinkedChain}
 use Rattle.pair_refusals.proofs.Times.{none_first, count_most}
 use Rattle.pair_refusals.proofs.Links.{chain_less, chain_next, count_met, count_passed}
 use Rattle.pair_refusals.proofs.times_linked.Goals as goal
-use Rattle.pair_refusals.proofs.times_linked.Goals.{At-loop-k}
+use Rattle.pair_refusals.proofs.times_linked.Goals.{At-loop-k, then-pieces-k, else-pieces-k}
 
 less : (l : At-loop-k) → 0 < l.loop-k.k → get_or l.args.next.now (l.loop-k.k - 1) 0 < l.loop-k.k
 less l h = chain_less l.loop-k.invariant.0 h
@@ -49,10 +48,10 @@ pub loop-k-preserved : goal.loop-k-preserved
 loop-k-preserved c =
     let h : 0 < c.loop-k.k = omega arith in (
       chain_next c.loop-k.invariant.0 h,
-      ⊎_elim
-          (λ w. omega (arith, count_met c.loop-k.invariant.0 h w.0.taken))
-          (λ w. omega (arith, count_passed c.loop-k.invariant.0 h w.0.left))
-          c.if-pieces-k.branch,
+      elim c.if-pieces-k.branch [
+        | then-pieces-k w ↦ omega (arith, count_met c.loop-k.invariant.0 h w.if-pieces-k.true)
+        | else-pieces-k w ↦ omega (arith, count_passed c.loop-k.invariant.0 h w.if-pieces-k.false)
+      ],
     )
 
 pub returns : goal.returns

@@ -43,11 +43,10 @@ pub loop-p-smaller : goal.loop-p-smaller
 loop-p-smaller c = omega arith
 
 pub loop-p-preserved : goal.loop-p-preserved
-loop-p-preserved c =
-    (
-      omega arith,
-      omega (arith, c.loop-p.invariant.1, meeting_next c.args.i c.args.j c.args.listed.now c.loop-p.p (omega arith) (sym c.meets.ensures ∙ c.if-meets.false)),
-    )
+loop-p-preserved c = (
+  omega arith,
+  omega (arith, c.loop-p.invariant.1, meeting_next c.args.i c.args.j c.args.listed.now c.loop-p.p (omega arith) (sym c.meets.ensures ∙ c.if-meets.false)),
+)
 
 pub returns : goal.returns
 returns c =

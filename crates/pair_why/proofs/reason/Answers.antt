@@ -22,11 +22,11 @@ returns-then-pieces-i c =
 
 pub returns-in_default : goal.returns-in_default
 returns-in_default c =
-    here_absent c.requires (unpicked (goal.at.returns-in_default c).Else-joins) c.if-pieces-i.false c.direction_of.result c.direction_of.ensures c.enum_told-1.given.1
+    here_absent c.requires (unpicked (goal.at.returns-in_default c).Else-joins) c.if-pieces-i.false c.direction_of.result c.direction_of.ensures c.in_default.is
 
 pub returns-in_default-direction_of : goal.returns-in_default-direction_of
 returns-in_default-direction_of c =
-    there_absent c.requires (unpicked (goal.at.returns-in_default-direction_of c).Else-joins) c.if-pieces-i.false c.direction_of-2.result c.direction_of-2.ensures c.enum_told-in_default-direction_of-1.given.1
+    there_absent c.requires (unpicked (goal.at.returns-in_default-direction_of c).Else-joins) c.if-pieces-i.false c.direction_of-2.result c.direction_of-2.ensures c.in_default-direction_of.is
 
 pub overflow_cast-result : goal.overflow_cast-result
 overflow_cast-result c =
@@ -36,12 +36,12 @@ pub returns-then-measure-limit : goal.returns-then-measure-limit
 returns-then-measure-limit c =
     here_blocked c.requires (unpicked (goal.at.returns-then-measure-limit c).Else-joins)
     c.if-pieces-i.false c.direction_of.result c.direction_of-2.result _ _ _ _ c.measure.result
-    c.direction_of.ensures c.ax-1.given.1 c.direction_of-2.ensures c.bx-1.given.1 c.measure.ensures
+    c.direction_of.ensures c.in-Toward.is c.direction_of-2.ensures c.in-Toward-direction_of.is c.measure.ensures
     c.meeting-p.result c.meeting-p.ensures c.if-measure-limit.true
 
 pub returns : goal.returns
 returns c =
     here_high c.requires (unpicked (goal.at.returns c).Else-joins)
     c.if-pieces-i.false c.direction_of.result c.direction_of-2.result _ _ _ _ c.measure.result
-    c.direction_of.ensures c.ax-1.given.1 c.direction_of-2.ensures c.bx-1.given.1 c.measure.ensures
+    c.direction_of.ensures c.in-Toward.is c.direction_of-2.ensures c.in-Toward-direction_of.is c.measure.ensures
     c.if-measure-limit.false

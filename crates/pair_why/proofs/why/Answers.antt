@@ -36,21 +36,21 @@ returns-then-no_ends c =
     (sym c.no_ends.ensures ∙ c.if-no_ends.true)
 
 pub overflow_mul-n : goal.overflow_mul-n
-overflow_mul-n c = omega (arith, few_words (called (goal.at.overflow_mul-n c).After-pairs_chosen) c.n-1.given.1)
+overflow_mul-n c = omega (arith, few_words (called (goal.at.overflow_mul-n c).After-pairs_chosen) c.in-Accepted.is)
 
 pub slice_bounds-reason-end : goal.slice_bounds-reason-end
-slice_bounds-reason-end c = words_within (called (goal.at.slice_bounds-reason-end c).After-pairs_chosen) c.n-1.given.1
+slice_bounds-reason-end c = words_within (called (goal.at.slice_bounds-reason-end c).After-pairs_chosen) c.in-Accepted.is
 
 pub slice_bounds-reason-end-in-Accepted : goal.slice_bounds-reason-end-in-Accepted
-slice_bounds-reason-end-in-Accepted c = words_there (called (goal.at.slice_bounds-reason-end-in-Accepted c).After-pairs_chosen) c.n-1.given.1
+slice_bounds-reason-end-in-Accepted c = words_there (called (goal.at.slice_bounds-reason-end-in-Accepted c).After-pairs_chosen) c.in-Accepted.is
 
 pub reason-requires : goal.reason-requires
-reason-requires c = asks (called (goal.at.reason-requires c).After-pairs_chosen) c.n-1.given.1
+reason-requires c = asks (called (goal.at.reason-requires c).After-pairs_chosen) c.in-Accepted.is
 
 pub returns-in-Refused : goal.returns-in-Refused
-returns-in-Refused c = passed_on (called (goal.at.returns-in-Refused c).After-pairs_chosen) c.k-1.given.1
+returns-in-Refused c = passed_on (called (goal.at.returns-in-Refused c).After-pairs_chosen) c.in-Refused.is
 
 pub returns-in-Accepted : goal.returns-in-Accepted
 returns-in-Accepted c =
-    answered (called (goal.at.returns-in-Accepted c).After-pairs_chosen) c.n-1.given.1
+    answered (called (goal.at.returns-in-Accepted c).After-pairs_chosen) c.in-Accepted.is
     c.reason.result c.number.result c.reason.ensures c.number.ensures

@@ -56,7 +56,7 @@ returns-then-not-equal c =
     let l = c.args.c.now in
     let i = c.loop-i.i in
     let next = (multiple_next c.loop-i.invariant.1 c.loop-i-test.true).0 in
-    c.between.ensures ∙ found c.args.width c.requires.0 l (plain_at l 0) i next (ap not (sym c.equal.ensures) ∙ c.if-not-equal.true) ∙ c.loop-i.invariant.2
+    c.between.ensures ∙ found c.args.width c.requires.0 l (plain_at l 0) i next (ap not (sym c.equal.ensures ∙ c.if-not-equal.true)) ∙ c.loop-i.invariant.2
 
 -- src/lib.rt:51:9
 pub overflow_add-i : goal.overflow_add-i
@@ -72,7 +72,7 @@ loop-i-preserved c =
     let l = c.args.c.now in
     let i = c.loop-i.i in
     let next = multiple_next c.loop-i.invariant.1 c.loop-i-test.true in
-    (next.0, next.1, passed c.args.width c.requires.0 l (plain_at l 0) i next.0 (ap not (sym c.equal.ensures) ∙ c.if-not-equal.false) ∙ c.loop-i.invariant.2)
+    (next.0, next.1, passed c.args.width c.requires.0 l (plain_at l 0) i next.0 (ap not (sym c.equal.ensures ∙ c.if-not-equal.false)) ∙ c.loop-i.invariant.2)
 
 -- src/lib.rt:35:1
 pub returns : goal.returns

@@ -77,7 +77,7 @@ returns-then-not-equal c =
     let l = c.args.c.now in
     let p = c.loop-i in
     c.between.ensures
-    ∙ found_back c.args.width c.requires.0 l (plain_at l (length l - c.args.width)) p.i p.invariant.1 c.loop-i-test.true (omega (arith, p.invariant.0)) (ap not (sym c.equal.ensures) ∙ c.if-not-equal.true)
+    ∙ found_back c.args.width c.requires.0 l (plain_at l (length l - c.args.width)) p.i p.invariant.1 c.loop-i-test.true (omega (arith, p.invariant.0)) (ap not (sym c.equal.ensures ∙ c.if-not-equal.true))
     ∙ p.invariant.2
 
 -- src/lib.rt:67:5
@@ -90,7 +90,7 @@ loop-i-preserved c =
     let l = c.args.c.now in
     let p = c.loop-i in
     let less = multiple_less p.invariant.1 c.loop-i-test.true in
-    (omega (arith, p.invariant.0), less.1, passed_back c.args.width c.requires.0 l (plain_at l (length l - c.args.width)) p.i p.invariant.1 c.loop-i-test.true (omega (arith, p.invariant.0)) (ap not (sym c.equal.ensures) ∙ c.if-not-equal.false) ∙ p.invariant.2)
+    (omega (arith, p.invariant.0), less.1, passed_back c.args.width c.requires.0 l (plain_at l (length l - c.args.width)) p.i p.invariant.1 c.loop-i-test.true (omega (arith, p.invariant.0)) (ap not (sym c.equal.ensures ∙ c.if-not-equal.false)) ∙ p.invariant.2)
 
 -- src/lib.rt:57:1
 pub returns : goal.returns

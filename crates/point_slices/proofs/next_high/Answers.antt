@@ -22,6 +22,6 @@ returns c =
     let fits : get_or a.src.now a.j 0 < 2 ^ 64 = omega (arith, c.type_inv.src a.j) in
     pushed_new a.width two a.rest.now a.have a.src.now a.j room fits c.requires.3 c.put_high.ensures
     (elim c.if-src-j.branch [
-      then-src-j+else-equal w ↦ last_at a.width two a.rest.now a.have a.src.now a.j room c.requires.1 ∙ sym w.equal.ensures ∙ w.if-equal.false
-    | else-src-j w ↦ apart_at a.width two a.rest.now a.have a.src.now a.j room fits a.last c.requires.4 w.if-src-j.false
+      | then-src-j+else-equal w ↦ last_at a.width two a.rest.now a.have a.src.now a.j room c.requires.1 ∙ sym w.equal.ensures ∙ w.if-equal.false
+      | else-src-j w ↦ apart_at a.width two a.rest.now a.have a.src.now a.j room fits a.last c.requires.4 w.if-src-j.false
     ])

@@ -24,6 +24,6 @@ returns c =
     let a = c.args in
     more_two a.rest.now a.have a.x a.y c.requires
     (elim c.if-have-ge2.branch [
-      then-have-ge2+else-equal w ↦ last_two a.rest.now a.have (point a.x a.y) (omega arith) w.if-have-ge2.true ∙ sym w.equal.ensures ∙ w.if-equal.false
-    | else-have-ge2 w ↦ last_none 2 two_two a.rest.now a.have (point a.x a.y) (omega (arith, w.if-have-ge2.false))
+      | then-have-ge2+else-equal w ↦ last_two a.rest.now a.have (point a.x a.y) (omega arith) w.if-have-ge2.true ∙ sym w.equal.ensures ∙ w.if-equal.false
+      | else-have-ge2 w ↦ last_none 2 two_two a.rest.now a.have (point a.x a.y) (omega (arith, w.if-have-ge2.false))
     ])

@@ -133,13 +133,12 @@ pub loop-j-smaller : goal.loop-j-smaller
 loop-j-smaller c = omega arith
 
 pub loop-j-preserved : goal.loop-j-preserved
-loop-j-preserved c =
-    (
-      omega (arith, c.loop-j-test.true),
-      c.put_two-in-loop-j-3.auto.run ∙ c.put_two-in-loop-j-2.auto.run ∙ c.put_two-in-loop-j.auto.run ∙ c.put_two.auto.run ∙ c.loop-j.invariant.1,
-      eight_put c.args.numbers.now c.args.order c.args.at c.loop-j.j c.loop-j.invariant.2 c.requires c.loop-j-test.true
-          c.put_two.ensures c.put_two-in-loop-j.ensures c.put_two-in-loop-j-2.ensures c.put_two-in-loop-j-3.ensures,
-    )
+loop-j-preserved c = (
+  omega (arith, c.loop-j-test.true),
+  c.put_two-in-loop-j-3.auto.run ∙ c.put_two-in-loop-j-2.auto.run ∙ c.put_two-in-loop-j.auto.run ∙ c.put_two.auto.run ∙ c.loop-j.invariant.1,
+  eight_put c.args.numbers.now c.args.order c.args.at c.loop-j.j c.loop-j.invariant.2 c.requires c.loop-j-test.true
+      c.put_two.ensures c.put_two-in-loop-j.ensures c.put_two-in-loop-j-2.ensures c.put_two-in-loop-j-3.ensures,
+)
 
 pub overflow_mul-result : goal.overflow_mul-result
 overflow_mul-result c = omega arith

@@ -55,12 +55,11 @@ pub loop-j-smaller : goal.loop-j-smaller
 loop-j-smaller c = omega arith
 
 pub loop-j-preserved : goal.loop-j-preserved
-loop-j-preserved c =
-    (
-      omega (arith, c.loop-j-test.true),
-      c.put_number-in-loop-j.auto.run ∙ c.put_number.auto.run ∙ c.loop-j.invariant.1,
-      pair_put c.args.numbers.now c.args.order c.args.at c.loop-j.j c.loop-j.invariant.2 c.requires c.loop-j-test.true c.put_number.ensures c.put_number-in-loop-j.ensures,
-    )
+loop-j-preserved c = (
+  omega (arith, c.loop-j-test.true),
+  c.put_number-in-loop-j.auto.run ∙ c.put_number.auto.run ∙ c.loop-j.invariant.1,
+  pair_put c.args.numbers.now c.args.order c.args.at c.loop-j.j c.loop-j.invariant.2 c.requires c.loop-j-test.true c.put_number.ensures c.put_number-in-loop-j.ensures,
+)
 
 pub overflow_mul-i-2 : goal.overflow_mul-i-2
 overflow_mul-i-2 c = omega arith

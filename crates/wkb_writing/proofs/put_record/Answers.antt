@@ -11,7 +11,7 @@ use Rattle.wkb_writing.proofs.put_record.Goals as goal
 use Rattle.wkb_writing.proofs.put_record.Goals.{Start}
 
 -- the bytes that there are before each store
-module _ (s : tie.Start) where
+module _ (s : Start) where
   typed : {l₁ x : List ℕ} → HoldsFrom l₁ (set s.args.run.now s.args.at s.args.order) (s.args.at + 1) 4 x → length l₁ ≡ length s.args.run.now
   typed a = after_type s.args.run.now s.args.order s.args.at (length s.args.numbers.now) s.requires a
 
