@@ -42,16 +42,10 @@ fn town(side: usize) -> Vec<u8> {
     text
 }
 
-/// The command, to be run with arguments.
-fn lovasuku(args: &[&str]) -> Command {
-    let mut command = Command::new(env!("CARGO_BIN_EXE_lovasuku"));
-    command.args(args).stderr(Stdio::null());
-    command
-}
-
 /// The most memory that a run on a file holds, in bytes, as the system tells it while it runs.
-fn held(command: &mut Command) -> usize {
-    let mut child = command.spawn().unwrap();
+fn held(args: &[&str]) -> usize {
+    let mut command = Command::new(env!("CARGO_BIN_EXE_lovasuku"));
+    let mut child = command.args(args).stderr(Stdio::null()).spawn().unwrap();
     let status = format!("/proc/{}/status", child.id());
     let mut most = 0;
     while child.try_wait().unwrap().is_none() {
@@ -73,7 +67,7 @@ fn four_times_the_file() {
     fs::File::create(&input).unwrap().write_all(&text).unwrap();
     let [input, output] = [&input, &output].map(|path| path.to_str().unwrap());
     for args in [&[][..], &["--bend", "60"], &["--bend", "60", "--tolerance", "5"]] {
-        let held = held(&mut lovasuku(&[&["join", input, "-o", output, "-q"], args].concat()));
+        let held = held(&[&["join", input, "-o", output, "-q"], args].concat());
         assert!(held <= 4 * text.len(), "{held} bytes for a file of {}, {args:?}", text.len());
         // What was seen is more than the text itself.
         assert!(held > text.len(), "{held}");
@@ -90,8 +84,7 @@ fn villages(count: usize) -> Vec<u8> {
 /// The bytes of a line of six points as WKB.
 const WKB: usize = 9 + 6 * 16;
 
-/// Makes a GeoPackage of features, and gives the most memory that a run on it holds. Each core that
-/// works has batches and rooms of its own, so the run has two of them, whatever the machine has.
+/// Makes a GeoPackage of features, and gives the most memory that a run on it holds.
 fn held_of_store(folder: &Path, features: &[u8], args: &[&str]) -> usize {
     let path = |name: &str| folder.join(name).to_str().unwrap().to_owned();
     let [text, store, out] = ["roads.geojsonl", "roads.gpkg", "chains.gpkg"].map(path);
@@ -100,8 +93,7 @@ fn held_of_store(folder: &Path, features: &[u8], args: &[&str]) -> usize {
         .args(["-f", "GPKG", "-overwrite", "-a_srs", "EPSG:3067", &store, &text])
         .output();
     assert!(made.unwrap().status.success());
-    let mut command = lovasuku(&[&["join", &store, "-o", &out, "-q"], args].concat());
-    held(command.env("RAYON_NUM_THREADS", "2"))
+    held(&[&["join", &store, "-o", &out, "-q"], args].concat())
 }
 
 #[test]
