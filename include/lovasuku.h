@@ -17,7 +17,7 @@
  * never looked at and ride along with their x and y, bit for bit; of coordinates that repeat one another's x and y the
  * earlier one stays, with its extras.
  *
- * Link libdoor.a, which `rt staticlib door` writes for x86-64 Linux.
+ * Link libdoor.a, which `host/archive door` writes for x86-64 Linux.
  */
 #ifndef LOVASUKU_H
 #define LOVASUKU_H

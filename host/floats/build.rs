@@ -1,5 +1,5 @@
-//! Links the doors to the float leaves. The archive is made by `rt staticlib float_probe` in the
-//! repository's root, which `LOVASUKU_ROOT` names where it isn't two folders above this one.
+//! Links the doors to the float leaves. The archive is made by `host/archive float_probe` of the
+//! repository, whose root `LOVASUKU_ROOT` names where it isn't two folders above this one.
 
 use std::path::{Path, PathBuf};
 use std::process::Command;
@@ -33,11 +33,10 @@ fn main() {
         println!("cargo:rerun-if-changed={}", path.display());
     }
     if sources.iter().any(|source| written(&archive) < written(source)) {
-        let made =
-            Command::new("rt").args(["staticlib", "float_probe"]).current_dir(&root).status();
+        let made = Command::new(root.join("host/archive")).arg("float_probe").status();
         assert!(
             matches!(made, Ok(status) if status.success()),
-            "`rt staticlib float_probe` failed"
+            "`host/archive float_probe` failed"
         );
     }
     println!("cargo:rustc-link-search=native={}", folder.display());

@@ -1,4 +1,4 @@
-//! Links the verified library, the archive that `rt staticlib door` writes.
+//! Links the verified library, the archive that `host/archive door` writes.
 //!
 //! The environment variable LOVASUKU_DOOR names another archive. Without it the archive of this
 //! repository is taken, and made first where it is missing or older than a file under `crates/`.
@@ -49,10 +49,11 @@ fn changed(file: &Path) -> Option<SystemTime> {
     fs::metadata(file).ok()?.modified().ok()
 }
 
-/// When the file last changed in a folder was.
+/// When the file last changed in a folder was, but for those that Rattle's `rt` makes in `out`.
 fn newest(folder: &Path) -> Option<SystemTime> {
     let entries = fs::read_dir(folder).ok()?.flatten();
     let of = |entry: fs::DirEntry| match entry.path() {
+        path if path.ends_with("out") => None,
         path if path.is_dir() => newest(&path),
         path => changed(&path),
     };
@@ -61,16 +62,12 @@ fn newest(folder: &Path) -> Option<SystemTime> {
 
 /// Proves the door and writes its archive.
 fn prove(root: &Path) -> Outcome<()> {
-    let run = Command::new("rt").args(["staticlib", "door"]).current_dir(root).output();
-    let run = run.map_err(|fault| {
-        format!(
-            "Rattle's `rt` did not start ({fault}); LOVASUKU_DOOR may name an archive made before"
-        )
-    })?;
+    let run = Command::new(root.join("host/archive")).arg("door").output();
+    let run = run.map_err(|fault| format!("`host/archive` did not start: {fault}"))?;
     match run.status.success() {
         true => Ok(()),
         false => Err(format!(
-            "`rt staticlib door` failed:\n{}{}",
+            "`host/archive door` failed (LOVASUKU_DOOR may name an archive made before):\n{}{}",
             String::from_utf8_lossy(&run.stdout),
             String::from_utf8_lossy(&run.stderr)
         )),

@@ -1,124 +1,124 @@
 -- The box around boxes: three are taken together in either order, one and itself are one, and so points may be taken in any parts that follow or overlap one
 -- another. Of equal values the first is kept in every order, since parts are taken in their own.
-use mathlib.Core.Path.{_≡_, refl, sym, ap, ap₂, _∙_}
+use mathlib.Core.Path.{◌≡◌, refl, sym, ap, ap₂, ◌∙◌}
 use mathlib.Core.Bool.{cond}
-use mathlib.Core.List.{List, [], _∷_, _++_}
-use lib.Ieee.{isNan, ofBits}
-use Rattle·rules.specs.declared.Box.{Box}
-use Rattle·rules.specs.Plane.{Point, float}
-use Rattle·rules.specs.Boxes.{lesser, greater, union, empty, spot, grown, boxOf}
-use Rattle·float_order.proofs.Order.{finite-num}
-use Rattle·chain_laws.proofs.Counts.{nil, cons, each-append}
-use Rattle·box_laws·specs.specs.Sound.{BoxPlace, Places, BoxSound}
-use Rattle·box_laws·proofs.proofs.Picks.{pick-number, pick-self, pick-assoc, below, above, below-order, above-order, under-top, over-bottom, top-last, bottom-last}
+use mathlib.Core.List.{List, [], ◌∷◌, ◌++◌}
+use lib.Ieee.{is_nan, of_bits}
+use Rattle.rules.specs.declared.Box.{Box}
+use Rattle.rules.specs.Plane.{Point, float}
+use Rattle.rules.specs.Boxes.{lesser, greater, union, empty, spot, grown, box_of}
+use Rattle.float_order.proofs.Order.{finite_num}
+use Rattle.chain_laws.proofs.Counts.{nil, cons, each_append}
+use Rattle.box_laws.specs.Sound.{BoxPlace, Places, BoxSound}
+use Rattle.box_laws.proofs.Picks.{pick_number, pick_self, pick_assoc, below, above, below_order, above_order, under_top, over_bottom, top_last, bottom_last}
 
 -- ---- boxes without a NaN
 
-pub union-sound : {a b : Box} → BoxSound a → BoxSound b → BoxSound (union a b)
+pub union_sound : {a b : Box} → BoxSound a → BoxSound b → BoxSound (union a b)
 unfolding union lesser greater
-union-sound {a} {b} p q = record {
-  low-x = pick-number below (a .«least_x») (b .«least_x») (p .low-x) (q .low-x);
-  low-y = pick-number below (a .«least_y») (b .«least_y») (p .low-y) (q .low-y);
-  high-x = pick-number above (a .«greatest_x») (b .«greatest_x») (p .high-x) (q .high-x);
-  high-y = pick-number above (a .«greatest_y») (b .«greatest_y») (p .high-y) (q .high-y);
+union_sound {a} {b} p q = record {
+  low_x = pick_number below a.least_x b.least_x p.low_x q.low_x;
+  from_low_y = pick_number below a.least_y b.least_y p.from_low_y q.from_low_y;
+  to_high_x = pick_number above a.greatest_x b.greatest_x p.to_high_x q.to_high_x;
+  to_high_y = pick_number above a.greatest_y b.greatest_y p.to_high_y q.to_high_y;
 }
 
-pub spot-sound : {p : Point} → BoxPlace p → BoxSound (spot p)
-spot-sound {p} h =
-    let nx = finite-num (float (p .x)) (h .across) in
-    let ny = finite-num (float (p .y)) (h .up) in
-    record { low-x = nx; low-y = ny; high-x = nx; high-y = ny }
+pub spot_sound : {p : Point} → BoxPlace p → BoxSound (spot p)
+spot_sound {p} h =
+    let nx = finite_num (float p.x) h.across in
+    let ny = finite_num (float p.y) h.up in
+    record { low_x = nx; from_low_y = ny; to_high_x = nx; to_high_y = ny }
 
-pub empty-sound : BoxSound empty
-unfolding isNan ofBits
-empty-sound = record { low-x = tt; low-y = tt; high-x = tt; high-y = tt }
+pub empty_sound : BoxSound empty
+unfolding is_nan of_bits
+empty_sound = record { low_x = tt; from_low_y = tt; to_high_x = tt; to_high_y = tt }
 
-grown-sound : (b : Box) (l : List Point) → BoxSound b → Places l → BoxSound (grown b l)
+grown_sound : (b : Box) (l : List Point) → BoxSound b → Places l → BoxSound (grown b l)
 unfolding grown
-grown-sound b [] s nil = s
-grown-sound b (p ∷ l) s (cons h t) = grown-sound (union b (spot p)) l (union-sound s (spot-sound h)) t
+grown_sound b [] s nil = s
+grown_sound b (p ∷ l) s (cons h t) = grown_sound (union b (spot p)) l (union_sound s (spot_sound h)) t
 
 -- the box of places, or of no points
-pub box-sound : (l : List Point) → Places l → BoxSound (boxOf l)
-unfolding boxOf
-box-sound l t = grown-sound empty l empty-sound t
+pub box_sound : (l : List Point) → Places l → BoxSound (box_of l)
+unfolding box_of
+box_sound l t = grown_sound empty l empty_sound t
 
 -- ---- the box around boxes
 
-pub union-assoc : {a b c : Box} → BoxSound a → BoxSound b → BoxSound c → union a (union b c) ≡ union (union a b) c
+pub union_assoc : {a b c : Box} → BoxSound a → BoxSound b → BoxSound c → union a (union b c) ≡ union (union a b) c
 unfolding union lesser greater
-union-assoc {a} {b} {c} p q r = λ i. record {
-  «least_x» = pick-assoc below below-order (a .«least_x») (b .«least_x») (c .«least_x») (p .low-x) (q .low-x) (r .low-x) i;
-  «least_y» = pick-assoc below below-order (a .«least_y») (b .«least_y») (c .«least_y») (p .low-y) (q .low-y) (r .low-y) i;
-  «greatest_x» = pick-assoc above above-order (a .«greatest_x») (b .«greatest_x») (c .«greatest_x») (p .high-x) (q .high-x) (r .high-x) i;
-  «greatest_y» = pick-assoc above above-order (a .«greatest_y») (b .«greatest_y») (c .«greatest_y») (p .high-y) (q .high-y) (r .high-y) i;
+union_assoc {a} {b} {c} p q r = λ i. record {
+  least_x = pick_assoc below below_order a.least_x b.least_x c.least_x p.low_x q.low_x r.low_x i;
+  least_y = pick_assoc below below_order a.least_y b.least_y c.least_y p.from_low_y q.from_low_y r.from_low_y i;
+  greatest_x = pick_assoc above above_order a.greatest_x b.greatest_x c.greatest_x p.to_high_x q.to_high_x r.to_high_x i;
+  greatest_y = pick_assoc above above_order a.greatest_y b.greatest_y c.greatest_y p.to_high_y q.to_high_y r.to_high_y i;
 }
 
-pub union-self : (a : Box) → union a a ≡ a
+pub union_self : (a : Box) → union a a ≡ a
 unfolding union lesser greater
-union-self a = λ i. record {
-  «least_x» = pick-self below (a .«least_x») i;
-  «least_y» = pick-self below (a .«least_y») i;
-  «greatest_x» = pick-self above (a .«greatest_x») i;
-  «greatest_y» = pick-self above (a .«greatest_y») i;
+union_self a = λ i. record {
+  least_x = pick_self below a.least_x i;
+  least_y = pick_self below a.least_y i;
+  greatest_x = pick_self above a.greatest_x i;
+  greatest_y = pick_self above a.greatest_y i;
 }
 
 -- no points behind a box
-pub union-empty : (a : Box) → union a empty ≡ a
+pub union_empty : (a : Box) → union a empty ≡ a
 unfolding union lesser greater
-union-empty a = λ i. record {
-  «least_x» = cond (top-last (a .«least_x») i) 0x7ff0_0000_0000_0000 (a .«least_x»);
-  «least_y» = cond (top-last (a .«least_y») i) 0x7ff0_0000_0000_0000 (a .«least_y»);
-  «greatest_x» = cond (bottom-last (a .«greatest_x») i) 0xfff0_0000_0000_0000 (a .«greatest_x»);
-  «greatest_y» = cond (bottom-last (a .«greatest_y») i) 0xfff0_0000_0000_0000 (a .«greatest_y»);
+union_empty a = λ i. record {
+  least_x = cond (top_last a.least_x i) 0x7ff0_0000_0000_0000 a.least_x;
+  least_y = cond (top_last a.least_y i) 0x7ff0_0000_0000_0000 a.least_y;
+  greatest_x = cond (bottom_last a.greatest_x i) 0xfff0_0000_0000_0000 a.greatest_x;
+  greatest_y = cond (bottom_last a.greatest_y i) 0xfff0_0000_0000_0000 a.greatest_y;
 }
 
 -- the first point is a box of its own
-pub empty-union : {p : Point} → BoxPlace p → union empty (spot p) ≡ spot p
+pub empty_union : {p : Point} → BoxPlace p → union empty (spot p) ≡ spot p
 unfolding union lesser greater
-empty-union {p} h = λ i. record {
-  «least_x» = cond (under-top (p .x) (h .across) i) (p .x) 0x7ff0_0000_0000_0000;
-  «least_y» = cond (under-top (p .y) (h .up) i) (p .y) 0x7ff0_0000_0000_0000;
-  «greatest_x» = cond (over-bottom (p .x) (h .across) i) (p .x) 0xfff0_0000_0000_0000;
-  «greatest_y» = cond (over-bottom (p .y) (h .up) i) (p .y) 0xfff0_0000_0000_0000;
+empty_union {p} h = λ i. record {
+  least_x = cond (under_top p.x h.across i) p.x 0x7ff0_0000_0000_0000;
+  least_y = cond (under_top p.y h.up i) p.y 0x7ff0_0000_0000_0000;
+  greatest_x = cond (over_bottom p.x h.across i) p.x 0xfff0_0000_0000_0000;
+  greatest_y = cond (over_bottom p.y h.up i) p.y 0xfff0_0000_0000_0000;
 }
 
 -- ---- points in parts
 
-pub box-first : (p : Point) (l : List Point) → BoxPlace p → boxOf (p ∷ l) ≡ grown (spot p) l
-unfolding boxOf grown
-box-first p l h = ap (λ (b : Box). grown b l) (empty-union h)
+pub box_first : (p : Point) (l : List Point) → BoxPlace p → box_of (p ∷ l) ≡ grown (spot p) l
+unfolding box_of grown
+box_first p l h = ap (λ (b : Box). grown b l) (empty_union h)
 
 -- a box grown by points is the box around it and theirs
-pub grown-is : (b : Box) (l : List Point) → BoxSound b → Places l → grown b l ≡ union b (boxOf l)
-unfolding grown boxOf
-grown-is b [] s nil = sym (union-empty b)
-grown-is b (p ∷ l) s (cons h t) =
-    grown-is (union b (spot p)) l (union-sound s (spot-sound h)) t
-    ∙ sym (union-assoc s (spot-sound h) (box-sound l t))
-    ∙ ap (union b) (sym (grown-is (spot p) l (spot-sound h) t) ∙ sym (box-first p l h))
+pub grown_is : (b : Box) (l : List Point) → BoxSound b → Places l → grown b l ≡ union b (box_of l)
+unfolding grown box_of
+grown_is b [] s nil = sym (union_empty b)
+grown_is b (p ∷ l) s (cons h t) =
+    grown_is (union b (spot p)) l (union_sound s (spot_sound h)) t
+    ∙ sym (union_assoc s (spot_sound h) (box_sound l t))
+    ∙ ap (union b) (sym (grown_is (spot p) l (spot_sound h) t) ∙ sym (box_first p l h))
 
-grown-append : (b : Box) (l m : List Point) → grown b (l ++ m) ≡ grown (grown b l) m
+grown_append : (b : Box) (l m : List Point) → grown b (l ++ m) ≡ grown (grown b l) m
 unfolding grown
-grown-append b [] m = refl
-grown-append b (p ∷ l) m = grown-append (union b (spot p)) l m
+grown_append b [] m = refl
+grown_append b (p ∷ l) m = grown_append (union b (spot p)) l m
 
 -- one part behind another
-pub box-append : (l m : List Point) → Places l → Places m → boxOf (l ++ m) ≡ union (boxOf l) (boxOf m)
-unfolding boxOf
-box-append l m s t = grown-append empty l m ∙ grown-is (grown empty l) m (box-sound l s) t
+pub box_append : (l m : List Point) → Places l → Places m → box_of (l ++ m) ≡ union (box_of l) (box_of m)
+unfolding box_of
+box_append l m s t = grown_append empty l m ∙ grown_is (grown empty l) m (box_sound l s) t
 
-pub box-one : (p : Point) → BoxPlace p → boxOf (p ∷ []) ≡ spot p
+pub box_one : (p : Point) → BoxPlace p → box_of (p ∷ []) ≡ spot p
 unfolding grown
-box-one p h = box-first p [] h
+box_one p h = box_first p [] h
 
 -- two parts that overlap
-pub box-overlap : (a b c : List Point) → Places a → Places b → Places c → union (boxOf (a ++ b)) (boxOf (b ++ c)) ≡ boxOf (a ++ (b ++ c))
-box-overlap a b c s t u =
-    let A = box-sound a s in
-    let B = box-sound b t in
-    let C = box-sound c u in
-    ap₂ union (box-append a b s t) (box-append b c t u)
-    ∙ sym (union-assoc A B (union-sound B C))
-    ∙ ap (union (boxOf a)) (union-assoc B B C ∙ ap (λ (x : Box). union x (boxOf c)) (union-self (boxOf b)) ∙ sym (box-append b c t u))
-    ∙ sym (box-append a (b ++ c) s (each-append t u))
+pub box_overlap : (a b c : List Point) → Places a → Places b → Places c → union (box_of (a ++ b)) (box_of (b ++ c)) ≡ box_of (a ++ (b ++ c))
+box_overlap a b c s t u =
+    let A = box_sound a s in
+    let B = box_sound b t in
+    let C = box_sound c u in
+    ap₂ union (box_append a b s t) (box_append b c t u)
+    ∙ sym (union_assoc A B (union_sound B C))
+    ∙ ap (union (box_of a)) (union_assoc B B C ∙ ap (λ (x : Box). union x (box_of c)) (union_self (box_of b)) ∙ sym (box_append b c t u))
+    ∙ sym (box_append a (b ++ c) s (each_append t u))

@@ -1,11 +1,9 @@
 -- What is asked of coordinates whose extent is sought, and of boxes that others are laid above.
-use Prim.Native.Nat.{ℕ, _+_, _*_, _≤_, _<_}
-use mathlib.Core.List.{List}
-use lib.ListN.{length, drop}
-use Rattle·rules.specs.Plane.{points, reads}
-use Rattle·rules.specs.Boxes.{boxAt, boxRoom}
-use Rattle·point_numbers.specs.Width.{Whole}
-use Rattle·box_laws.specs.Sound.{Places, BoxSound}
+use Rattle.std.specs.Prelude.{ℕ, ◌+◌, ◌*◌, ◌≤◌, ◌<◌, List, length, drop}
+use Rattle.rules.specs.Plane.{points, reads}
+use Rattle.rules.specs.Boxes.{box_at, box_room}
+use Rattle.point_numbers.specs.Width.{Whole}
+use Rattle.box_laws.specs.Sound.{Places, BoxSound}
 
 -- whole points, and each a place
 pub record Lying (width : ℕ) (part : List ℕ) : Type 0 where
@@ -22,11 +20,11 @@ pub record FourAt (width : ℕ) (part : List ℕ) (i : ℕ) : Type 0 where
   pub places : Places (reads width 4 (drop i part))
 
 -- for so many chains the room that is asked for holds all levels
-abbrev pub mostBoxes : ℕ
-mostBoxes = 65536
+abbrev pub most_boxes : ℕ
+most_boxes = 65536
 
 -- k boxes without a NaN, with room for those above them
 pub record Raisable (boxes : List ℕ) (k : ℕ) : Type 0 where
-  pub room : boxRoom k ≤ length boxes
-  pub few : k ≤ mostBoxes
-  pub sound : (i : ℕ) → i < k → BoxSound (boxAt boxes i)
+  pub room : box_room k ≤ length boxes
+  pub few : k ≤ most_boxes
+  pub sound : (i : ℕ) → i < k → BoxSound (box_at boxes i)

@@ -1,17 +1,18 @@
 // The boxes of chains: the extent of a chain's coordinates, and above the chains' boxes, level by level, those of pairs. Boxes are lent as the bits of
 // their numbers; in between they are numbers, of which none is a NaN.
+#![tactic(auto)]
+
+ghost use Rattle.std.specs.Prelude.{◌≡◌, ℕ, ◌+◌, ◌*◌, ◌/◌, ◌≤◌, ◌<◌, length, drop};
+ghost use Rattle.rules.specs.Plane.{point, points, reads};
+ghost use Rattle.rules.specs.Boxes.{spot as spot_of_lem, empty, box_of, four, in_pairs, stacked, box_numbers, box_at, box_size};
+ghost use Rattle.rules.specs.Calls.{written};
+ghost use Rattle.point_slices.specs.Holds.{HoldsFrom};
+ghost use Rattle.box_laws.specs.Sound.{Number, BoxSound};
+ghost use Rattle.box_laws.specs.Rows.{row};
+ghost use Rattle.box_levels.specs.Extents.{lower, higher, joined, boxed_of, Real, Boxed};
+ghost use Rattle.box_levels.specs.Lying.{Lying, FourAt, Raisable};
+
 use rules::BOX;
-ghost use mathlib.Core.Path.{_≡_};
-ghost use Prim.Native.Nat.{ℕ, _+_, _*_, _/_, _≤_, _<_};
-ghost use lib.ListN.{length, drop};
-ghost use Rattle·rules.specs.Plane.{point, points, reads};
-ghost use Rattle·rules.specs.Boxes.{spot as spot-of, empty, boxOf, four, inPairs, stacked, boxNumbers, boxAt, boxSize};
-ghost use Rattle·rules.specs.Calls.{written};
-ghost use Rattle·point_slices.specs.Holds.{HoldsFrom};
-ghost use Rattle·box_laws.specs.Sound.{Number, BoxSound};
-ghost use Rattle·box_laws.specs.Rows.{row};
-ghost use Rattle·box_levels·specs.specs.Extents.{lower, higher, joined, boxedOf, Real, Boxed};
-ghost use Rattle·box_levels·specs.specs.Lying.{Lying, FourAt, Raisable};
 
 // The bits of the infinities.
 const INFINITE: u64 = 0x7FF0_0000_0000_0000;
@@ -22,6 +23,7 @@ const MINUS_INFINITE: u64 = 0xFFF0_0000_0000_0000;
 const TAKEN: usize = 4;
 
 // A box as numbers.
+#[derive(Clone, Copy)]
 pub struct Extent {
     pub least_x: f64,
     pub least_y: f64,
@@ -31,21 +33,21 @@ pub struct Extent {
 
 // The lesser of two numbers, and of equal ones the first.
 fn lesser(a: f64, b: f64) -> f64
-    ensures { λ r. ⌜ r ≡ lower a b ⌝ }
+    ensures { result ≡ lower a b }
 {
     if b < a { b } else { a }
 }
 
 // The greater of two numbers, and of equal ones the first.
 fn greater(a: f64, b: f64) -> f64
-    ensures { λ r. ⌜ r ≡ higher a b ⌝ }
+    ensures { result ≡ higher a b }
 {
     if a < b { b } else { a }
 }
 
 // The extent of two.
 fn around(a: Extent, b: Extent) -> Extent
-    ensures { λ r. ⌜ r ≡ joined a b ⌝ }
+    ensures { result ≡ joined a b }
 {
     Extent {
         least_x: lesser(a.least_x, b.least_x),
@@ -57,8 +59,8 @@ fn around(a: Extent, b: Extent) -> Extent
 
 // The extent of the point x, y.
 fn spot(x: u64, y: u64) -> Extent
-    requires { ⌜ Number x × Number y ⌝ }
-    ensures { λ r. ⌜ Boxed r (spot-of (point x y)) ⌝ }
+    requires { Number x × Number y }
+    ensures { Boxed result (spot_of_lem (point x y)) }
 {
     let a = f64::from_bits(x);
     let b = f64::from_bits(y);
@@ -72,7 +74,7 @@ fn spot(x: u64, y: u64) -> Extent
 
 // The extent of no points.
 fn nothing() -> Extent
-    ensures { λ r. ⌜ Boxed r empty ⌝ }
+    ensures { Boxed result empty }
 {
     let top = f64::from_bits(INFINITE);
     let bottom = f64::from_bits(MINUS_INFINITE);
@@ -86,8 +88,8 @@ fn nothing() -> Extent
 
 // The extent of the four points from the i-th number on. Two pairs at once, so that no comparison waits for all before it.
 fn of_four(part: &[u64], width: usize, i: usize) -> Extent
-    requires { ⌜ FourAt width (now part) i ⌝ }
-    ensures { λ r. ⌜ Boxed r (boxOf (reads width 4 (drop i (now (part .entry))))) ⌝ }
+    requires { FourAt width part.now i }
+    ensures { Boxed result (box_of (reads width 4 (drop i part.now))) }
 {
     let j = i + width;
     let k = j + width;
@@ -100,8 +102,8 @@ fn of_four(part: &[u64], width: usize, i: usize) -> Extent
 
 // The extent of points of a width, one by one.
 fn of_few(part: &[u64], width: usize) -> Extent
-    requires { ⌜ Lying width (now part) ⌝ }
-    ensures { λ r. ⌜ Boxed r (boxOf (points width (now (part .entry)))) ⌝ }
+    requires { Lying width part.now }
+    ensures { Boxed result (box_of (points width part.now)) }
 {
     let mut all = nothing();
     let mut i: usize = 0;
@@ -115,8 +117,8 @@ fn of_few(part: &[u64], width: usize) -> Extent
 // The extent of points of a width, four at a time. The last four are taken once more where they don't begin behind a four: a point that was taken
 // already changes nothing.
 pub fn extent_of(part: &[u64], width: usize) -> Extent
-    requires { ⌜ Lying width (now part) ⌝ }
-    ensures { λ r. ⌜ Boxed r (boxOf (points width (now (part .entry)))) ⌝ }
+    requires { Lying width part.now }
+    ensures { Boxed result (box_of (points width part.now)) }
 {
     let n = part.len();
     if n < width * TAKEN {
@@ -134,8 +136,8 @@ pub fn extent_of(part: &[u64], width: usize) -> Extent
 
 // Box j as numbers.
 fn extent_at(boxes: &[u64], j: usize) -> Extent
-    requires { ⌜ (j * boxSize + boxSize ≤ length (now boxes)) × BoxSound (boxAt (now boxes) j) ⌝ }
-    ensures { λ r. ⌜ Boxed r (boxAt (now (boxes .entry)) j) ⌝ }
+    requires { (j * box_size + box_size ≤ length boxes.now) × BoxSound (box_at boxes.now j) }
+    ensures { Boxed result (box_at boxes.now j) }
 {
     let at = j * BOX;
     Extent {
@@ -148,8 +150,8 @@ fn extent_at(boxes: &[u64], j: usize) -> Extent
 
 // An extent as box j.
 pub fn put(boxes: &mut [u64], j: usize, e: Extent)
-    requires { ⌜ (j * boxSize + boxSize ≤ length (now boxes)) × Real e ⌝ }
-    ensures { λ _. ⌜ HoldsFrom (now (boxes .exit)) (now (boxes .entry)) (j * boxSize) boxSize (four (boxedOf e)) ⌝ }
+    requires { (j * box_size + box_size ≤ length boxes.old) × Real e }
+    ensures { HoldsFrom boxes.new boxes.old (j * box_size) box_size (four (boxed_of e)) }
 {
     let at = j * BOX;
     boxes[at] = f64::to_bits(e.least_x);
@@ -160,9 +162,9 @@ pub fn put(boxes: &mut [u64], j: usize, e: Extent)
 
 // Above a level of n boxes that begins with box `at`, and right behind it, the boxes of its pairs, an odd last one alone.
 fn raise(boxes: &mut [u64], at: usize, n: usize)
-    requires { ⌜ ((at + n + (n + 1) / 2) * boxSize ≤ length (now boxes)) × ((i : ℕ) → i < n → BoxSound (boxAt (now boxes) (at + i))) ⌝ }
-    ensures { λ _. ⌜ HoldsFrom (now (boxes .exit)) (now (boxes .entry)) ((at + n) * boxSize) ((n + 1) / 2 * boxSize)
-        (boxNumbers (inPairs (row (now (boxes .entry)) at n))) ⌝ }
+    requires { ((at + n + (n + 1) / 2) * box_size ≤ length boxes.old) × ((i : ℕ) → i < n → BoxSound (box_at boxes.old (at + i))) }
+    ensures { HoldsFrom boxes.new boxes.old ((at + n) * box_size) ((n + 1) / 2 * box_size)
+        (box_numbers (in_pairs (row boxes.old at n))) }
 {
     let mut i: usize = 0;
     while i * 2 + 1 < n {
@@ -182,8 +184,8 @@ fn raise(boxes: &mut [u64], at: usize, n: usize)
 
 // Above the first k boxes, level by level, those of pairs, up to one for all.
 pub fn raise_all(boxes: &mut [u64], k: usize)
-    requires { ⌜ Raisable (now boxes) k ⌝ }
-    ensures { λ _. ⌜ now (boxes .exit) ≡ written (boxNumbers (stacked (row (now (boxes .entry)) 0 k))) (now (boxes .entry)) ⌝ }
+    requires { Raisable boxes.old k }
+    ensures { boxes.new ≡ written (box_numbers (stacked (row boxes.old 0 k))) boxes.old }
 {
     let mut at: usize = 0;
     let mut n = k;

@@ -1,11 +1,9 @@
 -- Bounds of a window among the bits of numbers from zero on, which are in order as the numbers are.
-use Prim.Native.Nat.{ℕ, _+_, _≤_}
-use mathlib.Core.Path.{_≡_}
-use lib.Dec.{leb, ltb}
-use lib.Ieee.{Float, le}
-use Rattle·rules.specs.declared.Window.{Window}
-use Rattle·rules.specs.Plane.{float}
-use Rattle·box_window·specs.specs.declared.Sides.{Sides}
+use Rattle.std.specs.Prelude.{ℕ, ◌+◌, ◌≤◌, ◌≡◌, leb, ltb, Float}
+use Rattle.std.specs.Float.Ieee.{le}
+use Rattle.rules.specs.declared.Window.{Window}
+use Rattle.rules.specs.Plane.{float}
+use Rattle.box_window.specs.declared.Sides.{Sides}
 
 -- the bits of the infinity above zero, which is the last of these numbers
 abbrev pub infinite : ℕ
@@ -21,7 +19,7 @@ pub record AtMost (x : Float) (r : ℕ) : Type 0 where
   pub most : r ≤ infinite + 1
 
 pub record Sided (w : Window) (s : Sides) : Type 0 where
-  pub least-x : AtLeast (w .«least_x») (s .«first_x»)
-  pub least-y : AtLeast (w .«least_y») (s .«first_y»)
-  pub greatest-x : AtMost (w .«greatest_x») (s .«past_x»)
-  pub greatest-y : AtMost (w .«greatest_y») (s .«past_y»)
+  pub at_least_x : AtLeast w.least_x s.first_x
+  pub at_least_y : AtLeast w.least_y s.first_y
+  pub at_greatest_x : AtMost w.greatest_x s.past_x
+  pub at_greatest_y : AtMost w.greatest_y s.past_y

@@ -1,11 +1,6 @@
 -- The levels of boxes of k chains, and the boxes that begin at one chain.
-use Prim.Native.Nat.{ℕ, zero, suc, _+_, _*_, _/_, _%_, _≤_, _<_}
-use mathlib.Core.Path.{_≡_}
-use mathlib.Core.Bool.{true, false}
-use mathlib.Core.List.{List}
-use lib.Dec.{eqb}
-use lib.ListN.{length, getD}
-use Rattle·box_window·specs.specs.declared.Place.{Place}
+use Rattle.std.specs.Prelude.{ℕ, zero, suc, ◌+◌, ◌*◌, ◌/◌, ◌%◌, ◌≤◌, ◌<◌, ◌≡◌, true, false, List, eqb, length, get_or}
+use Rattle.box_window.specs.declared.Place.{Place}
 
 -- how many boxes a level has, and with which box it begins
 unfoldable pub many : ℕ → ℕ → ℕ
@@ -34,6 +29,6 @@ highest (suc f) l i = elim (eqb (i % 2) 1) [ true ↦ place l i | false ↦ high
 pub record Leveled (k : ℕ) (starts : List ℕ) (top : ℕ) : Type 0 where
   pub size : length starts ≡ 34
   pub few : top ≤ 32
-  pub begun : (l : ℕ) → l ≤ top + 1 → getD starts l 0 ≡ start k l
+  pub begun : (l : ℕ) → l ≤ top + 1 → get_or starts l 0 ≡ start k l
   pub more : (l : ℕ) → l < top → 1 < many k l
   pub last : many k top ≤ 1

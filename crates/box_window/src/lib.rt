@@ -1,17 +1,14 @@
 // The window question: which chains' boxes, and all boxes above them, meet a window.
-use rules::Answer;
-use rules::BOX;
-use rules::BOX_ROOM;
-use rules::BOX_ROOM_BESIDE;
-use rules::Window;
-ghost use mathlib.Core.Path.{_≡_};
-ghost use Prim.Native.Nat.{_*_, _-_, _≤_, _^_};
-ghost use lib.ListN.{length};
-ghost use Rattle·rules.specs.Plane.{float};
-ghost use Rattle·rules.specs.Windows.{overlap as overlap-of, shown as shown-of, windowBad, inWindow, boxesAs, Windowed};
-ghost use Rattle·point_slices.specs.Holds.{Holds};
-ghost use Rattle·box_window·specs.specs.Bounds.{AtLeast, AtMost, Sided};
-ghost use Rattle·box_window·specs.specs.Levels.{Leveled, highest as highest-of};
+#![tactic(auto)]
+
+ghost use Rattle.std.specs.Prelude.{◌≡◌, ◌*◌, ◌-◌, ◌≤◌, ◌^◌, length};
+ghost use Rattle.rules.specs.Plane.{float};
+ghost use Rattle.rules.specs.Windows.{overlap as overlap_of, shown as ShownOf, window_bad, in_window, boxes_as, Windowed};
+ghost use Rattle.point_slices.specs.Holds.{Holds};
+ghost use Rattle.box_window.specs.Bounds.{AtLeast, AtMost, Sided};
+ghost use Rattle.box_window.specs.Levels.{Leveled, highest as highest_of};
+
+use rules::{Answer, BOX, BOX_ROOM, BOX_ROOM_BESIDE, Window};
 
 // The bits of zero below zero, and of the infinity above it. Bits up to the infinity's are those of numbers from zero on, and in order as the numbers are.
 const SIGN: u64 = 0x8000_0000_0000_0000;
@@ -23,7 +20,7 @@ const NAMES: usize = 4294967296;
 
 // Whether low to high and from to to, along x or along y, overlap or touch.
 fn overlap(low: u64, high: u64, from: f64, to: f64) -> bool
-    ensures { λ r. ⌜ r ≡ overlap-of (float low) (float high) from to ⌝ }
+    ensures { result ≡ overlap_of (float low) (float high) from to }
 {
     let a = float_bits::of_bits(low);
     if a <= to {
@@ -37,7 +34,7 @@ fn overlap(low: u64, high: u64, from: f64, to: f64) -> bool
 
 // The first bits, of numbers from zero on, that stand for at least x.
 fn first(x: f64) -> u64
-    ensures { λ r. ⌜ AtLeast x r ⌝ }
+    ensures { AtLeast x result }
 {
     let k = float_order::key(x);
     if k < SIGN {
@@ -48,7 +45,7 @@ fn first(x: f64) -> u64
 
 // The bits behind the last ones, of numbers from zero on, that stand for at most x.
 fn past(x: f64) -> u64
-    ensures { λ r. ⌜ AtMost x r ⌝ }
+    ensures { AtMost x result }
 {
     let k = float_order::low_key(x);
     if k < SIGN {
@@ -58,6 +55,7 @@ fn past(x: f64) -> u64
 }
 
 // A window's bounds among the bits of numbers from zero on: the first within its least bounds, and those behind the last within its greatest.
+#[derive(Clone, Copy)]
 pub struct Sides {
     first_x: u64,
     first_y: u64,
@@ -66,7 +64,7 @@ pub struct Sides {
 }
 
 fn sides_of(w: Window) -> Sides
-    ensures { λ r. ⌜ Sided w r ⌝ }
+    ensures { Sided w result }
 {
     Sides {
         first_x: first(w.least_x),
@@ -78,8 +76,8 @@ fn sides_of(w: Window) -> Sides
 
 // Whether low to high and from to to overlap or touch, by comparisons of bits where both are those of numbers from zero on.
 fn touch(low: u64, high: u64, from: f64, to: f64, first: u64, past: u64) -> bool
-    requires { ⌜ AtLeast from first × AtMost to past ⌝ }
-    ensures { λ r. ⌜ r ≡ overlap-of (float low) (float high) from to ⌝ }
+    requires { AtLeast from first × AtMost to past }
+    ensures { result ≡ overlap_of (float low) (float high) from to }
 {
     if high <= INFINITE {
         if low < past {
@@ -97,8 +95,8 @@ fn touch(low: u64, high: u64, from: f64, to: f64, first: u64, past: u64) -> bool
 
 // Whether box j meets the window. A box that isn't wholly lent is not looked at.
 fn shown(boxes: &[u64], w: Window, s: Sides, j: usize) -> bool
-    requires { ⌜ Sided w s ⌝ }
-    ensures { λ r. ⌜ r ≡ shown-of w (now (boxes .entry)) j ⌝ }
+    requires { Sided w s }
+    ensures { result ≡ ShownOf w boxes.now j }
 {
     if boxes.len() / BOX <= j {
         return true;
@@ -125,6 +123,7 @@ fn shown(boxes: &[u64], w: Window, s: Sides, j: usize) -> bool
 }
 
 // A box among the levels: the level that it is of, and which of that level's it is.
+#[derive(Clone, Copy)]
 pub struct Place {
     level: usize,
     j: usize,
@@ -132,8 +131,8 @@ pub struct Place {
 
 // Where each level of k chains' boxes begins, and where the last one ends, into `starts`. Returns the last level, which has at most one box.
 fn starts_of(k: usize, starts: &mut [usize]) -> usize
-    requires { ⌜ (k ≤ 2 ^ 32) × (length (now starts) ≡ 34) ⌝ }
-    ensures { λ r. ⌜ Leveled k (now (starts .exit)) r ⌝ }
+    requires { (k ≤ 2 ^ 32) × (length starts.old ≡ 34) }
+    ensures { Leveled k starts.new result }
 {
     let mut n = k;
     let mut level: usize = 0;
@@ -151,7 +150,7 @@ fn starts_of(k: usize, starts: &mut [usize]) -> usize
 
 // Of the boxes that begin where box j of a level does, the one of the highest level up to `top`.
 fn highest(top: usize, level: usize, j: usize) -> Place
-    ensures { λ r. ⌜ r ≡ highest-of (top - level) level j ⌝ }
+    ensures { result ≡ highest_of (top - level) level j }
 {
     let mut up = level;
     let mut i = j;
@@ -176,8 +175,8 @@ fn walk(
     top: usize,
     found: &mut [u32],
 ) -> usize
-    requires { ⌜ Leveled k (now starts) top × (k ≤ length (now found)) × (k ≤ 2 ^ 32) × Sided w s ⌝ }
-    ensures { λ r. ⌜ Holds (now (found .exit)) (now (found .entry)) r (inWindow w (now (boxes .entry)) k) ⌝ }
+    requires { Leveled k starts.now top × (k ≤ length found.old) × (k ≤ 2 ^ 32) × Sided w s }
+    ensures { Holds found.new found.old result (in_window w boxes.now k) }
 {
     let mut have: usize = 0;
     let mut level = top;
@@ -201,8 +200,8 @@ fn walk(
 
 // The same, after it is known where the levels begin.
 fn list(boxes: &[u64], w: Window, k: usize, found: &mut [u32]) -> usize
-    requires { ⌜ (k ≤ length (now found)) × (k ≤ 2 ^ 32) ⌝ }
-    ensures { λ r. ⌜ Holds (now (found .exit)) (now (found .entry)) r (inWindow w (now (boxes .entry)) k) ⌝ }
+    requires { (k ≤ length found.old) × (k ≤ 2 ^ 32) }
+    ensures { Holds found.new found.old result (in_window w boxes.now k) }
 {
     let mut starts: [usize; 34] = [0; 34];
     let top = starts_of(k, &mut starts[..]);
@@ -211,7 +210,7 @@ fn list(boxes: &[u64], w: Window, k: usize, found: &mut [u32]) -> usize
 
 // Whether the window has a NaN, or a lower bound above its upper one.
 fn bad(w: Window) -> bool
-    ensures { λ r. ⌜ r ≡ windowBad w ⌝ }
+    ensures { result ≡ window_bad w }
 {
     if w.least_x <= w.greatest_x {
         if w.least_y <= w.greatest_y {
@@ -223,7 +222,7 @@ fn bad(w: Window) -> bool
 
 // What lies in the window: the chains are listed in `found`, and the answer is their number. Refused with 18 or 7.
 pub fn chains_in(boxes: &[u64], k: usize, w: Window, found: &mut [u32]) -> Answer
-    ensures { λ r. ⌜ Windowed (boxesAs (now (boxes .entry)) k w (now (found .entry))) r (now (found .exit)) ⌝ }
+    ensures { Windowed (boxes_as boxes.now k w found.old) result found.new }
 {
     if bad(w) {
         return Answer::Refused(18);

@@ -1,8 +1,10 @@
 // The boxes of a table's chains, and above them, level by level, those of pairs.
-ghost use mathlib.Core.Path.{_≡_};
-ghost use Rattle·rules.specs.Boxes.{stacked, boxNumbers};
-ghost use Rattle·rules.specs.Calls.{written};
-ghost use Rattle·build_boxes·specs.specs.Boxing.{Boxable, chainBoxes};
+#![tactic(auto)]
+
+ghost use Rattle.std.specs.Prelude.{◌≡◌};
+ghost use Rattle.rules.specs.Boxes.{stacked, box_numbers};
+ghost use Rattle.rules.specs.Calls.{written};
+ghost use Rattle.build_boxes.specs.Boxing.{Boxable, chain_boxes};
 
 // The boxes of the table's first k chains, and above them, level by level, those of pairs, up to one for all.
 pub fn lay_boxes<'a>(
@@ -13,9 +15,9 @@ pub fn lay_boxes<'a>(
     k: usize,
     boxes: &mut [u64],
 )
-    requires { ⌜ Boxable width (now input) (now merged) (now table) k (now boxes) ⌝ }
-    ensures { λ _. ⌜ now (boxes .exit)
-        ≡ written (boxNumbers (stacked (chainBoxes width (now (input .entry)) (now (merged .entry)) (now (table .entry)) k))) (now (boxes .entry)) ⌝ }
+    requires { Boxable width input.now merged.now table.now k boxes.old }
+    ensures { boxes.new
+        ≡ written (box_numbers (stacked (chain_boxes width input.now merged.now table.now k))) boxes.old }
 {
     let mut j: usize = 0;
     while j < k {

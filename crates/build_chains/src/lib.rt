@@ -1,22 +1,21 @@
 // Building: refusals, round one, round two where the tolerance is above 0, the layout, and the zeros that are left.
+#![tactic(auto)]
+
+ghost use Rattle.std.specs.Prelude.{◌≡◌, ◌*◌, ◌≤◌, length};
+ghost use Rattle.rules.specs.Chaining.{rule_of, cells_of, join, round_one};
+ghost use Rattle.rules.specs.Layout.{lent};
+ghost use Rattle.rules.specs.Refusals.{rooms, refusal_of};
+ghost use Rattle.rules.specs.Calls.{Built};
+ghost use Rattle.chain_pieces.specs.Map.{taken_block};
+ghost use Rattle.build_lines.specs.Taken.{plain_of};
+ghost use Rattle.build_chains.specs.Building.{Buildable, Left, Layable, WalksLaid, Second, Twice, AllLeft};
+
 use build_walks::Walked;
 use chain_pieces::TAKEN;
-use rules::Answer;
-use rules::Grid;
-use rules::LINE_ROOM;
-use rules::Settings;
-ghost use mathlib.Core.Path.{_≡_};
-ghost use Prim.Native.Nat.{_*_, _≤_};
-ghost use lib.ListN.{length};
-ghost use Rattle·rules.specs.Chaining.{ruleOf, cellsOf, join, roundOne};
-ghost use Rattle·rules.specs.Layout.{lent};
-ghost use Rattle·rules.specs.Refusals.{rooms, refusalOf};
-ghost use Rattle·rules.specs.Calls.{Built};
-ghost use Rattle·chain_pieces.specs.Map.{takenBlock};
-ghost use Rattle·build_lines.specs.Taken.{plainOf};
-ghost use Rattle·build_chains·specs.specs.Building.{Buildable, Left, Layable, WalksLaid, Second, Twice, AllLeft};
+use rules::{Answer, Grid, LINE_ROOM, Settings};
 
 // Where the pieces that the rounds leave stand in the workspace, how many there are, and how many lines they have.
+#[derive(Clone, Copy)]
 pub struct Pieces {
     pub at: usize,
     pub number: usize,
@@ -34,12 +33,12 @@ pub fn round_one(
     out: &mut [u64],
     workspace: &mut [u64],
 ) -> Pieces
-    requires { ⌜ Buildable width (lent (now coordinates) (now counts) (now groups) (now kinds)) settings (now out) (now workspace) ⌝ }
-    ensures { λ r. ⌜ Left width (length (now (counts .entry))) (now (coordinates .entry)) (now (counts .entry))
-        (roundOne settings (plainOf width (lent (now (coordinates .entry)) (now (counts .entry)) (now (groups .entry)) (now (kinds .entry)))))
-        (r .at) (r .number) (now (out .exit)) (now (out .entry)) (now (workspace .exit)) (now (workspace .entry))
-        × (r .at ≡ length (now (counts .entry)) * takenBlock)
-        × (r .lines ≡ length (plainOf width (lent (now (coordinates .entry)) (now (counts .entry)) (now (groups .entry)) (now (kinds .entry))))) ⌝ }
+    requires { Buildable width (lent coordinates.now counts.now groups.now kinds.now) settings out.old workspace.old }
+    ensures { Left width (length counts.now) coordinates.now counts.now
+        (round_one settings (plain_of width (lent coordinates.now counts.now groups.now kinds.now)))
+        result.at result.number out.new out.old workspace.new workspace.old
+        × (result.at ≡ length counts.now * taken_block)
+        × (result.lines ≡ length (plain_of width (lent coordinates.now counts.now groups.now kinds.now))) }
 {
     let n = counts.len();
     let at = n * TAKEN;
@@ -72,11 +71,11 @@ pub fn round_two<'a>(
     merged: &mut [u64],
     workspace: &mut [u64],
 ) -> usize
-    requires { ⌜ Second width n m settings (now coordinates) (now groups) (now copies) (now merged) (now workspace) ⌝ }
-    ensures { λ r. ⌜ ((y : Second width n m settings (now (coordinates .entry)) (now (groups .entry)) (now (copies .entry)) (now (merged .entry))
-        (now (workspace .entry)))
-        → Left width n (now (coordinates .entry)) (y .counts) (join (ruleOf (cellsOf settings) settings) (y .ps))
-        0 r (now (merged .exit)) (now (merged .entry)) (now (workspace .exit)) (now (workspace .entry))) ⌝ }
+    requires { Second width n m settings coordinates.now groups.now copies.now merged.old workspace.old }
+    ensures { (y : Second width n m settings coordinates.now groups.now copies.now merged.old
+        workspace.old)
+        → Left width n coordinates.now y.counts (join (rule_of (cells_of settings) settings) y.ps)
+        0 result merged.new merged.old workspace.new workspace.old }
 {
     let end = n * LINE_ROOM;
     let grid = Grid::Cells(settings.tolerance, settings.origin_x, settings.origin_y);
@@ -103,10 +102,10 @@ fn lay_walks(
     coordinates: &[u64],
     out: &mut [u64],
 )
-    requires { ⌜ Layable width n (one .lines) (one .number) (now coordinates) (now out) (now workspace) ⌝ }
-    ensures { λ _. ⌜ ((y : Layable width n (one .lines) (one .number) (now (coordinates .entry)) (now (out .entry)) (now (workspace .entry)))
-        → WalksLaid width n (one .number) (now (coordinates .entry)) (y .emits .counts) (join (y .emits .rule) (y .emits .ps))
-        (now (out .exit)) (now (out .entry)) (now (workspace .exit)) (now (workspace .entry))) ⌝ }
+    requires { Layable width n one.lines one.number coordinates.now out.old workspace.old }
+    ensures { (y : Layable width n one.lines one.number coordinates.now out.old workspace.old)
+        → WalksLaid width n one.number coordinates.now y.emits.counts (join y.emits.rule y.emits.ps)
+        out.new out.old workspace.new workspace.old }
 {
     let at = n * TAKEN;
     let end = n * LINE_ROOM;
@@ -135,10 +134,10 @@ fn join_twice(
     spare: &mut [u64],
     workspace: &mut [u64],
 ) -> Pieces
-    requires { ⌜ Twice width (lent (now coordinates) (now counts) (now groups) (now kinds)) settings (now merged) (now spare) (now workspace) ⌝ }
-    ensures { λ r. ⌜ AllLeft width (lent (now (coordinates .entry)) (now (counts .entry)) (now (groups .entry)) (now (kinds .entry))) settings
-        (r .at) (r .number) (r .lines) (now (merged .exit)) (now (merged .entry)) (now (spare .exit)) (now (spare .entry))
-        (now (workspace .exit)) (now (workspace .entry)) ⌝ }
+    requires { Twice width (lent coordinates.now counts.now groups.now kinds.now) settings merged.old spare.old workspace.old }
+    ensures { AllLeft width (lent coordinates.now counts.now groups.now kinds.now) settings
+        result.at result.number result.lines merged.new merged.old spare.new spare.old
+        workspace.new workspace.old }
 {
     let n = counts.len();
     let at = n * TAKEN;
@@ -192,11 +191,11 @@ fn join_lines(
     spare: &mut [u64],
     workspace: &mut [u64],
 ) -> Pieces
-    requires { ⌜ Buildable width (lent (now coordinates) (now counts) (now groups) (now kinds)) settings (now merged) (now workspace)
-        × (length (now coordinates) ≤ length (now spare)) ⌝ }
-    ensures { λ r. ⌜ AllLeft width (lent (now (coordinates .entry)) (now (counts .entry)) (now (groups .entry)) (now (kinds .entry))) settings
-        (r .at) (r .number) (r .lines) (now (merged .exit)) (now (merged .entry)) (now (spare .exit)) (now (spare .entry))
-        (now (workspace .exit)) (now (workspace .entry)) ⌝ }
+    requires { Buildable width (lent coordinates.now counts.now groups.now kinds.now) settings merged.old workspace.old
+        × (length coordinates.now ≤ length spare.old) }
+    ensures { AllLeft width (lent coordinates.now counts.now groups.now kinds.now) settings
+        result.at result.number result.lines merged.new merged.old spare.new spare.old
+        workspace.new workspace.old }
 {
     if 0.0 < settings.tolerance {
         return join_twice(
@@ -240,13 +239,13 @@ fn build_admitted(
     spare: &mut [u64],
     workspace: &mut [u64],
 ) -> Answer
-    requires { ⌜ refusalOf «wkb_type» (lent (now coordinates) (now counts) (now groups) (now kinds)) settings
-        (rooms (now table) (now members) (now marks) (now listing) (now merged) (now boxes) (now spare) (now workspace)) ≡ 0 ⌝ }
-    ensures { λ r. ⌜ Built «wkb_type» (lent (now (coordinates .entry)) (now (counts .entry)) (now (groups .entry)) (now (kinds .entry))) settings
-        (rooms (now (table .entry)) (now (members .entry)) (now (marks .entry)) (now (listing .entry))
-        (now (merged .entry)) (now (boxes .entry)) (now (spare .entry)) (now (workspace .entry)))
-        r (rooms (now (table .exit)) (now (members .exit)) (now (marks .exit)) (now (listing .exit))
-        (now (merged .exit)) (now (boxes .exit)) (now (spare .exit)) (now (workspace .exit))) ⌝ }
+    requires { refusal_of wkb_type (lent coordinates.now counts.now groups.now kinds.now) settings
+        (rooms table.old members.old marks.old listing.old merged.old boxes.old spare.old workspace.old) ≡ 0 }
+    ensures { Built wkb_type (lent coordinates.now counts.now groups.now kinds.now) settings
+        (rooms table.old members.old marks.old listing.old
+        merged.old boxes.old spare.old workspace.old)
+        result (rooms table.new members.new marks.new listing.new
+        merged.new boxes.new spare.new workspace.new) }
 {
     let n = counts.len();
     let width = point_numbers::width_of(wkb_type);
@@ -302,11 +301,11 @@ pub fn build(
     spare: &mut [u64],
     workspace: &mut [u64],
 ) -> Answer
-    ensures { λ r. ⌜ Built «wkb_type» (lent (now (coordinates .entry)) (now (counts .entry)) (now (groups .entry)) (now (kinds .entry))) settings
-        (rooms (now (table .entry)) (now (members .entry)) (now (marks .entry)) (now (listing .entry))
-        (now (merged .entry)) (now (boxes .entry)) (now (spare .entry)) (now (workspace .entry)))
-        r (rooms (now (table .exit)) (now (members .exit)) (now (marks .exit)) (now (listing .exit))
-        (now (merged .exit)) (now (boxes .exit)) (now (spare .exit)) (now (workspace .exit))) ⌝ }
+    ensures { Built wkb_type (lent coordinates.now counts.now groups.now kinds.now) settings
+        (rooms table.old members.old marks.old listing.old
+        merged.old boxes.old spare.old workspace.old)
+        result (rooms table.new members.new marks.new listing.new
+        merged.new boxes.new spare.new workspace.new) }
 {
     let refused = build_refusals::refusal(
         wkb_type,

@@ -1,1 +1,2 @@
 // Laws of districts over building calls: proofs/ has them, and there is no code.
+#![tactic(auto)]

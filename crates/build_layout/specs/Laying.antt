@@ -1,30 +1,26 @@
 -- From the pieces that the rounds of an accepted call leave to its answer. Chains and members are numbered on from the pieces to the lines that pass
 -- through. In each record a name with a prime is what a slice is at return, and the plain name what it was.
-use Prim.Native.Nat.{ℕ, _+_, _*_, _^_, _≤_, _<_}
-use mathlib.Core.Path.{_≡_}
-use mathlib.Core.Bool.{false}
-use mathlib.Core.List.{List, [], _∷_, map}
-use lib.ListN.{length, getD}
-use Rattle·rules.specs.declared.Settings.{Settings}
-use Rattle·rules.specs.Lists.{total}
-use Rattle·rules.specs.Chaining.{Piece, pieces, roundOne, roundTwo}
-use Rattle·rules.specs.Layout.{Lines, lent, linesIn, table as table-of, Laid}
-use Rattle·rules.specs.Refusals.{mostLines, mostPoints, recordSize, pieceSize}
-use Rattle·rules.specs.Calls.{written}
-use Rattle·point_slices.specs.Holds.{HoldsFrom}
-use Rattle·chain_laws.proofs.Drawn.{Low}
-use Rattle·chain_pieces.specs.Held.{linesOf, marksOf, listingOf, Packed}
-use Rattle·build_lines.specs.Taken.{Adds, plainOf}
+use Rattle.std.specs.Prelude.{ℕ, ◌+◌, ◌*◌, ◌^◌, ◌≤◌, ◌<◌, ◌≡◌, false, List, [], ◌∷◌, map, length, get_or}
+use Rattle.rules.specs.declared.Settings.{Settings}
+use Rattle.rules.specs.Lists.{total}
+use Rattle.rules.specs.Chaining.{Piece, pieces, round_one, round_two}
+use Rattle.rules.specs.Layout.{Lines, lent, lines_in, table as table_of, Laid}
+use Rattle.rules.specs.Refusals.{most_lines, most_points, record_size, piece_size}
+use Rattle.rules.specs.Calls.{written}
+use Rattle.point_slices.specs.Holds.{HoldsFrom}
+use Rattle.chain_laws.proofs.Drawn.{Low}
+use Rattle.chain_pieces.specs.Held.{lines_of, marks_of, listing_of, Packed}
+use Rattle.build_lines.specs.Taken.{Adds, plain_of}
 
 -- ---- the pieces of a call
 
 -- the lines that pass through
-abbrev pub passingOf : ℕ → Lines → List Piece
-passingOf width l = pieces false 0 (linesIn width l)
+abbrev pub passing_of : ℕ → Lines → List Piece
+passing_of width l = pieces false 0 (lines_in width l)
 
 -- the pieces that the rounds leave
-abbrev pub leftOf : ℕ → Settings → Lines → List Piece
-leftOf width s l = roundTwo s (roundOne s (plainOf width l))
+abbrev pub left_of : ℕ → Settings → Lines → List Piece
+left_of width s l = round_two s (round_one s (plain_of width l))
 
 -- ---- words that are read narrower than they stand
 
@@ -32,7 +28,7 @@ leftOf width s l = roundTwo s (roundOne s (plainOf width l))
 pub record Narrow (w : List ℕ) (from k most : ℕ) (out : List ℕ) (at : ℕ) : Type 0 where
   pub inside : from + k ≤ length w
   pub room : at + k ≤ length out
-  pub below : (i : ℕ) → i < k → getD w (from + i) 0 < most
+  pub below : (i : ℕ) → i < k → get_or w (from + i) 0 < most
 
 -- ---- pieces whose numbers are small
 
@@ -41,11 +37,11 @@ pub record SmallPieces (width : ℕ) (w : List ℕ) (n p l : ℕ) (coordinates c
   pub ps : List Piece
   pub held : Packed width w 0 n coordinates copies counts ps
   pub number : p ≡ length ps
-  pub listed : l ≡ length (linesOf ps)
-  pub members-low : Low mostLines (linesOf ps)
-  pub points-few : total (map (λ (q : Piece). length (q .points)) ps) ≤ mostPoints
-  pub few : n ≤ mostLines
-  pub small : total counts ≤ mostPoints
+  pub listed : l ≡ length (lines_of ps)
+  pub members_low : Low most_lines (lines_of ps)
+  pub points_few : total (map (λ (q : Piece). length q.points) ps) ≤ most_points
+  pub few : n ≤ most_lines
+  pub small : total counts ≤ most_points
 
 -- ---- the pieces as chains
 
@@ -57,47 +53,47 @@ pub record PiecesLayable (width : ℕ) (w : List ℕ) (p : ℕ) (coordinates cop
   pub two : 2 ≤ width
   pub held : Packed width w 0 n coordinates copies counts ps
   pub number : p ≡ length ps
-  pub small : (i : ℕ) → i < p * pieceSize → getD w i 0 < 2 ^ 32
-  pub room : p * recordSize ≤ length table
+  pub small : (i : ℕ) → i < p * piece_size → get_or w i 0 < 2 ^ 32
+  pub room : p * record_size ≤ length table
 
 -- ---- one line that passes through
 
 pub record ChainLayable (k chain m : ℕ) (table members marks listing : List ℕ) : Type 0 where
-  pub narrow : (k ≤ mostLines) × (m ≤ mostLines)
-  pub record-fits : chain * recordSize + recordSize ≤ length table
-  pub member-fits : m < length members
-  pub mark-fits : m < length marks
-  pub line-fits : m < length listing
+  pub narrow : (k ≤ most_lines) × (m ≤ most_lines)
+  pub record_fits : chain * record_size + record_size ≤ length table
+  pub member_fits : m < length members
+  pub mark_fits : m < length marks
+  pub line_fits : m < length listing
 
 -- `closed` tells whether it is a loop
-pub record Chained (k first count closed chain m : ℕ) (table′ table members′ members marks′ marks listing′ listing : List ℕ) : Type 0 where
-  pub row : HoldsFrom table′ table (chain * recordSize) recordSize (m ∷ 1 ∷ 0 ∷ first ∷ count ∷ closed ∷ [])
-  pub member : HoldsFrom members′ members m 1 (k ∷ [])
-  pub mark : HoldsFrom marks′ marks m 1 (0 ∷ [])
-  pub line : HoldsFrom listing′ listing m 1 (k ∷ [])
+pub record Chained (k first count closed chain m : ℕ) (table' table members' members marks' marks listing' listing : List ℕ) : Type 0 where
+  pub row : HoldsFrom table' table (chain * record_size) record_size (m ∷ 1 ∷ 0 ∷ first ∷ count ∷ closed ∷ [])
+  pub member : HoldsFrom members' members m 1 (k ∷ [])
+  pub mark : HoldsFrom marks' marks m 1 (0 ∷ [])
+  pub line : HoldsFrom listing' listing m 1 (k ∷ [])
 
 -- ---- all lines that pass through
 
 -- the groups are any, and the counts add up to the coordinates; j chains and m members stand before
 pub record Rest (width : ℕ) (coordinates counts kinds : List ℕ) (j m : ℕ) (table members marks listing : List ℕ) : Type 0 where
   pub groups : List ℕ
-  pub few : length counts ≤ mostLines
-  pub kinds-long : length kinds ≡ length counts
+  pub few : length counts ≤ most_lines
+  pub kinds_long : length kinds ≡ length counts
   pub adds : Adds width counts coordinates
-  pub small : total counts ≤ mostPoints
-  pub members-few : m + length (passingOf width (lent coordinates counts groups kinds)) ≤ mostLines
-  pub table-fits : (j + length (passingOf width (lent coordinates counts groups kinds))) * recordSize ≤ length table
-  pub members-fit : m + length (passingOf width (lent coordinates counts groups kinds)) ≤ length members
-  pub marks-fit : m + length (passingOf width (lent coordinates counts groups kinds)) ≤ length marks
-  pub listing-fit : m + length (passingOf width (lent coordinates counts groups kinds)) ≤ length listing
+  pub small : total counts ≤ most_points
+  pub members_few : m + length (passing_of width (lent coordinates counts groups kinds)) ≤ most_lines
+  pub table_fits : (j + length (passing_of width (lent coordinates counts groups kinds))) * record_size ≤ length table
+  pub members_fit : m + length (passing_of width (lent coordinates counts groups kinds)) ≤ length members
+  pub marks_fit : m + length (passing_of width (lent coordinates counts groups kinds)) ≤ length marks
+  pub listing_fit : m + length (passing_of width (lent coordinates counts groups kinds)) ≤ length listing
 
 -- the lines ps that pass through are chains; r chains stand then. What they copy is nothing, so that any number of points may stand before
-pub record Rested (counts : List ℕ) (j m : ℕ) (ps : List Piece) (table′ table members′ members marks′ marks listing′ listing : List ℕ) (r : ℕ) : Type 0 where
+pub record Rested (counts : List ℕ) (j m : ℕ) (ps : List Piece) (table' table members' members marks' marks listing' listing : List ℕ) (r : ℕ) : Type 0 where
   pub number : r ≡ j + length ps
-  pub records : (c : ℕ) → HoldsFrom table′ table (j * recordSize) (length ps * recordSize) (table-of counts m c ps)
-  pub listed : HoldsFrom members′ members m (length ps) (linesOf ps)
-  pub turned : HoldsFrom marks′ marks m (length ps) (marksOf ps)
-  pub passed : HoldsFrom listing′ listing m (length ps) (listingOf ps)
+  pub records : (c : ℕ) → HoldsFrom table' table (j * record_size) (length ps * record_size) (table_of counts m c ps)
+  pub listed : HoldsFrom members' members m (length ps) (lines_of ps)
+  pub turned : HoldsFrom marks' marks m (length ps) (marks_of ps)
+  pub passed : HoldsFrom listing' listing m (length ps) (listing_of ps)
 
 -- ---- a call
 
@@ -108,25 +104,25 @@ pub record Layable (width : ℕ) (w : List ℕ) (n p l : ℕ) (coordinates copie
   pub ps : List Piece
   pub held : Packed width w 0 n coordinates copies counts ps
   pub number : p ≡ length ps
-  pub listed : l ≡ length (linesOf ps)
-  pub members-low : Low mostLines (linesOf ps)
-  pub points-few : total (map (λ (q : Piece). length (q .points)) ps) ≤ mostPoints
-  pub pieces-all : length ps + length (passingOf width (lent coordinates counts groups kinds)) ≤ n
-  pub members-all : length (linesOf ps) + length (passingOf width (lent coordinates counts groups kinds)) ≤ n
-  pub few : n ≤ mostLines
-  pub counts-long : length counts ≡ n
-  pub kinds-long : length kinds ≡ n
+  pub listed : l ≡ length (lines_of ps)
+  pub members_low : Low most_lines (lines_of ps)
+  pub points_few : total (map (λ (q : Piece). length q.points) ps) ≤ most_points
+  pub pieces_all : length ps + length (passing_of width (lent coordinates counts groups kinds)) ≤ n
+  pub members_all : length (lines_of ps) + length (passing_of width (lent coordinates counts groups kinds)) ≤ n
+  pub few : n ≤ most_lines
+  pub counts_long : length counts ≡ n
+  pub kinds_long : length kinds ≡ n
   pub adds : Adds width counts coordinates
-  pub small : total counts ≤ mostPoints
-  pub table-long : n * recordSize ≤ length table
-  pub members-long : n ≤ length members
-  pub marks-long : n ≤ length marks
-  pub listing-long : n ≤ length listing
+  pub small : total counts ≤ most_points
+  pub table_long : n * record_size ≤ length table
+  pub members_long : n ≤ length members
+  pub marks_long : n ≤ length marks
+  pub listing_long : n ≤ length listing
 
 -- what is laid out stands at the front of each slice, and beyond it the slice is as before
-pub record Outputs (a : Laid) (table′ table members′ members marks′ marks listing′ listing : List ℕ) (r : ℕ) : Type 0 where
-  pub number : r ≡ a .number
-  pub records : table′ ≡ written (a .records) table
-  pub listed : members′ ≡ written (a .members) members
-  pub turned : marks′ ≡ written (a .marks) marks
-  pub passed : listing′ ≡ written (a .listing) listing
+pub record Outputs (a : Laid) (table' table members' members marks' marks listing' listing : List ℕ) (r : ℕ) : Type 0 where
+  pub number : r ≡ a.number
+  pub records : table' ≡ written a.records table
+  pub listed : members' ≡ written a.members members
+  pub turned : marks' ≡ written a.marks marks
+  pub passed : listing' ≡ written a.listing listing

@@ -1,21 +1,20 @@
 // The answer of an accepted call: the pieces that its rounds leave, and behind them the lines that pass through, as table, members, marks and listing.
-use chain_pieces::LISTING;
-use chain_pieces::MARKS;
-use chain_pieces::MEMBERS;
-use rules::PIECE;
-use rules::RECORD;
-ghost use Prim.Native.Nat.{_+_, _*_, _^_};
-ghost use lib.Seq.{slice};
-ghost use mathlib.Core.List.{_++_};
-ghost use Rattle·rules.specs.Layout.{table as table-of, laidOut, lent};
-ghost use Rattle·rules.specs.Refusals.{recordSize};
-ghost use Rattle·point_slices.specs.Holds.{HoldsFrom};
-ghost use Rattle·build_layout·specs.specs.Laying.{Narrow, PiecesLayable, ChainLayable, Chained, Rest, passingOf, Rested, Layable, Outputs};
+#![tactic(auto)]
+
+ghost use Rattle.std.specs.Prelude.{◌+◌, ◌*◌, ◌^◌, ◌++◌};
+ghost use Rattle.std.proofs.Math.Seq.{slice};
+ghost use Rattle.rules.specs.Layout.{table as table_of, laid_out, lent};
+ghost use Rattle.rules.specs.Refusals.{record_size};
+ghost use Rattle.point_slices.specs.Holds.{HoldsFrom};
+ghost use Rattle.build_layout.specs.Laying.{Narrow, PiecesLayable, ChainLayable, Chained, Rest, passing_of, Rested, Layable, Outputs};
+
+use chain_pieces::{LISTING, MARKS, MEMBERS};
+use rules::{PIECE, RECORD};
 
 // The k words of w from `from` on, as u32, in `out` from `at` on.
 pub fn lay_words(w: &[u64], from: usize, k: usize, out: &mut [u32], at: usize)
-    requires { ⌜ Narrow (now w) from k (2 ^ 32) (now out) at ⌝ }
-    ensures { λ _. ⌜ HoldsFrom (now (out .exit)) (now (out .entry)) at k (slice from (from + k) (now (w .entry))) ⌝ }
+    requires { Narrow w.now from k (2 ^ 32) out.old at }
+    ensures { HoldsFrom out.new out.old at k (slice from (from + k) w.now) }
 {
     let mut i = 0;
     while i < k {
@@ -26,8 +25,8 @@ pub fn lay_words(w: &[u64], from: usize, k: usize, out: &mut [u32], at: usize)
 
 // The k words of w from `from` on, as u8.
 pub fn lay_marks(w: &[u64], from: usize, k: usize, out: &mut [u8])
-    requires { ⌜ Narrow (now w) from k (2 ^ 8) (now out) 0 ⌝ }
-    ensures { λ _. ⌜ HoldsFrom (now (out .exit)) (now (out .entry)) 0 k (slice from (from + k) (now (w .entry))) ⌝ }
+    requires { Narrow w.now from k (2 ^ 8) out.old 0 }
+    ensures { HoldsFrom out.new out.old 0 k (slice from (from + k) w.now) }
 {
     let mut i = 0;
     while i < k {
@@ -45,9 +44,9 @@ fn lay_pieces<'a>(
     copies: &'a [u64],
     table: &mut [u32],
 )
-    requires { ⌜ PiecesLayable width (now w) p (now coordinates) (now copies) (now table) ⌝ }
-    ensures { λ _. ⌜ ((y : PiecesLayable width (now (w .entry)) p (now (coordinates .entry)) (now (copies .entry)) (now (table .entry)))
-        → HoldsFrom (now (table .exit)) (now (table .entry)) 0 (p * recordSize) (table-of (y .counts) 0 0 (y .ps))) ⌝ }
+    requires { PiecesLayable width w.now p coordinates.now copies.now table.old }
+    ensures { (y : PiecesLayable width w.now p coordinates.now copies.now table.old)
+        → HoldsFrom table.new table.old 0 (p * record_size) (table_of y.counts 0 0 y.ps) }
 {
     let mut q = 0;
     while q < p {
@@ -71,12 +70,12 @@ fn lay_line(
     marks: &mut [u8],
     listing: &mut [u32],
 )
-    requires { ⌜ ChainLayable k chain m (now table) (now members) (now marks) (now listing) ⌝ }
-    ensures { λ _. ⌜ Chained k first count closed chain m
-        (now (table .exit)) (now (table .entry))
-        (now (members .exit)) (now (members .entry))
-        (now (marks .exit)) (now (marks .entry))
-        (now (listing .exit)) (now (listing .entry)) ⌝ }
+    requires { ChainLayable k chain m table.old members.old marks.old listing.old }
+    ensures { Chained k first count closed chain m
+        table.new table.old
+        members.new members.old
+        marks.new marks.old
+        listing.new listing.old }
 {
     let at = chain * RECORD;
     table[at] = m as u32;
@@ -103,14 +102,14 @@ fn lay_rest(
     marks: &mut [u8],
     listing: &mut [u32],
 ) -> usize
-    requires { ⌜ Rest width (now coordinates) (now counts) (now kinds) j m (now table) (now members) (now marks) (now listing) ⌝ }
-    ensures { λ r. ⌜ ((y : Rest width (now (coordinates .entry)) (now (counts .entry)) (now (kinds .entry)) j m
-        (now (table .entry)) (now (members .entry)) (now (marks .entry)) (now (listing .entry)))
-        → Rested (now (counts .entry)) j m (passingOf width (lent (now (coordinates .entry)) (now (counts .entry)) (y .groups) (now (kinds .entry))))
-        (now (table .exit)) (now (table .entry))
-        (now (members .exit)) (now (members .entry))
-        (now (marks .exit)) (now (marks .entry))
-        (now (listing .exit)) (now (listing .entry)) r) ⌝ }
+    requires { Rest width coordinates.now counts.now kinds.now j m table.old members.old marks.old listing.old }
+    ensures { (y : Rest width coordinates.now counts.now kinds.now j m
+        table.old members.old marks.old listing.old)
+        → Rested counts.now j m (passing_of width (lent coordinates.now counts.now y.groups kinds.now))
+        table.new table.old
+        members.new members.old
+        marks.new marks.old
+        listing.new listing.old result }
 {
     let mut k = 0;
     let mut r = 0;
@@ -158,15 +157,15 @@ pub fn lay_out<'a>(
     marks: &mut [u8],
     listing: &mut [u32],
 ) -> usize
-    requires { ⌜ Layable width (now w) n p l (now coordinates) (now copies) (now counts) (now kinds) (now table) (now members) (now marks) (now listing) ⌝ }
-    ensures { λ r. ⌜ ((y : Layable width (now (w .entry)) n p l (now (coordinates .entry)) (now (copies .entry)) (now (counts .entry)) (now (kinds .entry))
-        (now (table .entry)) (now (members .entry)) (now (marks .entry)) (now (listing .entry)))
-        → Outputs (laidOut width (now (counts .entry))
-        (y .ps ++ passingOf width (lent (now (coordinates .entry)) (now (counts .entry)) (y .groups) (now (kinds .entry)))))
-        (now (table .exit)) (now (table .entry))
-        (now (members .exit)) (now (members .entry))
-        (now (marks .exit)) (now (marks .entry))
-        (now (listing .exit)) (now (listing .entry)) r) ⌝ }
+    requires { Layable width w.now n p l coordinates.now copies.now counts.now kinds.now table.old members.old marks.old listing.old }
+    ensures { (y : Layable width w.now n p l coordinates.now copies.now counts.now kinds.now
+        table.old members.old marks.old listing.old)
+        → Outputs (laid_out width counts.now
+        (y.ps ++ passing_of width (lent coordinates.now counts.now y.groups kinds.now)))
+        table.new table.old
+        members.new members.old
+        marks.new marks.old
+        listing.new listing.old result }
 {
     lay_pieces(w, p, width, coordinates, copies, table);
     lay_words(w, n * MEMBERS, l, members, 0);

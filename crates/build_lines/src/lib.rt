@@ -1,18 +1,15 @@
 // The plain lines of a call as the pieces that go into its first round.
-use chain_pieces::TAKEN;
-use chain_pieces::TAKEN_LISTING;
-use chain_pieces::TAKEN_MARKS;
-use chain_pieces::TAKEN_MEMBERS;
+#![tactic(auto)]
+
+ghost use Rattle.std.specs.Prelude.{◌≡◌, ◌&&◌, ◌+◌, ◌*◌, leb, eqb};
+ghost use Rattle.build_lines.specs.Taken.{Takable, Taken};
+
+use chain_pieces::{TAKEN, TAKEN_LISTING, TAKEN_MARKS, TAKEN_MEMBERS};
 use rules::PIECE;
-ghost use mathlib.Core.Path.{_≡_};
-ghost use mathlib.Core.Bool.{_&&_};
-ghost use Prim.Native.Nat.{_+_, _*_};
-ghost use lib.Dec.{leb, eqb};
-ghost use Rattle·build_lines·specs.specs.Taken.{Takable, Taken};
 
 // Whether a line is plain, by its coordinate count and its kind.
 pub fn is_plain(count: u32, kind: u8) -> bool
-    ensures { λ r. ⌜ r ≡ (eqb kind 0 && leb 2 count) ⌝ }
+    ensures { result ≡ (eqb kind 0 && leb 2 count) }
 {
     if kind != 0 {
         return false;
@@ -22,8 +19,8 @@ pub fn is_plain(count: u32, kind: u8) -> bool
 
 // The plain lines as pieces, into the block at 13 n. Returns how many there are.
 pub fn take_lines(w: &mut [u64], n: usize, counts: &[u32], kinds: &[u8]) -> usize
-    requires { ⌜ Takable (now w) n (now counts) (now kinds) ⌝ }
-    ensures { λ r. ⌜ Taken (now (w .exit)) (now (w .entry)) n (now (counts .entry)) (now (kinds .entry)) r ⌝ }
+    requires { Takable w.old n counts.now kinds.now }
+    ensures { Taken w.new w.old n counts.now kinds.now result }
 {
     let mut k = 0;
     let mut m = 0;

@@ -1,17 +1,17 @@
 // The chain question, and the view of a chain's coordinates.
-use rules::Answer;
-use rules::RECORD;
-ghost use mathlib.Core.Path.{_≡_};
-ghost use Prim.Native.Nat.{_≤_, _^_};
-ghost use mathlib.Core.Bool.{false};
-ghost use Rattle·rules.specs.Refusals.{noChain};
-ghost use Rattle·rules.specs.Calls.{asked, viewed};
-ghost use Rattle·build_question·specs.specs.Parts.{partOf};
+#![tactic(auto)]
+
+ghost use Rattle.std.specs.Prelude.{◌≡◌, ◌≤◌, ◌^◌, false};
+ghost use Rattle.rules.specs.Refusals.{no_chain};
+ghost use Rattle.rules.specs.Calls.{asked, viewed};
+ghost use Rattle.build_question.specs.Parts.{part_of};
+
+use rules::{Answer, RECORD};
 
 // Whether the table has no record k, or its coordinates aren't in the slice that its source names.
 pub fn no_chain(input: &[u64], merged: &[u64], table: &[u32], width: usize, k: usize) -> bool
-    requires { ⌜ width ≤ 2 ^ 31 ⌝ }
-    ensures { λ r. ⌜ r ≡ noChain width (now (input .entry)) (now (merged .entry)) (now (table .entry)) k ⌝ }
+    requires { width ≤ 2 ^ 31 }
+    ensures { result ≡ no_chain width input.now merged.now table.now k }
 {
     if table.len() / RECORD <= k {
         return true;
@@ -35,8 +35,8 @@ pub fn known_part<'a>(
     width: usize,
     k: usize,
 ) -> &'a [u64]
-    requires { ⌜ (width ≤ 2 ^ 31) × (noChain width (now input) (now merged) (now table) k ≡ false) ⌝ }
-    ensures { λ r. ⌜ now r ≡ partOf width (now (input .entry)) (now (merged .entry)) (now (table .entry)) k ⌝ }
+    requires { (width ≤ 2 ^ 31) × (no_chain width input.now merged.now table.now k ≡ false) }
+    ensures { result.now ≡ part_of width input.now merged.now table.now k }
 {
     let from = table[k * RECORD + 3] as usize * width;
     let to = from + table[k * RECORD + 4] as usize * width;
@@ -54,8 +54,8 @@ pub fn part<'a>(
     width: usize,
     k: usize,
 ) -> &'a [u64]
-    requires { ⌜ width ≤ 2 ^ 31 ⌝ }
-    ensures { λ r. ⌜ now r ≡ partOf width (now (input .entry)) (now (merged .entry)) (now (table .entry)) k ⌝ }
+    requires { width ≤ 2 ^ 31 }
+    ensures { result.now ≡ part_of width input.now merged.now table.now k }
 {
     if no_chain(input, merged, table, width, k) {
         return &input[..0];
@@ -65,7 +65,7 @@ pub fn part<'a>(
 
 // The chain question: accepted with 0, refused with 12 for a number that is no type, or with 10.
 pub fn chain(wkb_type: u32, input: &[u64], merged: &[u64], table: &[u32], k: usize) -> Answer
-    ensures { λ r. ⌜ r ≡ asked «wkb_type» (now (input .entry)) (now (merged .entry)) (now (table .entry)) k ⌝ }
+    ensures { result ≡ asked wkb_type input.now merged.now table.now k }
 {
     let width = point_numbers::width_of(wkb_type);
     if width == 0 {
@@ -85,7 +85,7 @@ pub fn view<'a>(
     table: &[u32],
     k: usize,
 ) -> &'a [u64]
-    ensures { λ r. ⌜ now r ≡ viewed «wkb_type» (now (input .entry)) (now (merged .entry)) (now (table .entry)) k ⌝ }
+    ensures { result.now ≡ viewed wkb_type input.now merged.now table.now k }
 {
     part(input, merged, table, point_numbers::width_of(wkb_type), k)
 }

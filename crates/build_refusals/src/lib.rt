@@ -1,28 +1,21 @@
 // The refusals of building, in the order of checking.
+#![tactic(auto)]
+
+ghost use Rattle.std.specs.Prelude.{◌≡◌, not, ◌||◌, ◌+◌, ◌/◌, ◌^◌, ◌≤◌, ◌<◌, eqb, ltb, length, take, drop};
+ghost use Rattle.rules.specs.Lists.{total as total_of};
+ghost use Rattle.rules.specs.Plane.{points};
+ghost use Rattle.rules.specs.Layout.{lent};
+ghost use Rattle.rules.specs.Refusals.{any_above, any_nowhere, limit_bad, origin_bad, rooms, first_of, line_tests, refusal_of, most_lines};
+ghost use Rattle.point_numbers.specs.Width.{Whole};
+ghost use Rattle.build_refusals.specs.Tests.{wild_of, switch_bad, room_short};
+
 use float_bits::SIGN;
-use rules::BOX_ROOM;
-use rules::BOX_ROOM_BESIDE;
-use rules::LINE_ROOM;
-use rules::MOST_LINES;
-use rules::MOST_POINTS;
-use rules::RECORD;
-use rules::Settings;
-ghost use mathlib.Core.Path.{_≡_};
-ghost use mathlib.Core.Bool.{not, _||_};
-ghost use Prim.Native.Nat.{_+_, _/_, _^_, _≤_, _<_};
-ghost use lib.Dec.{eqb, ltb};
-ghost use lib.ListN.{length, take, drop};
-ghost use Rattle·rules.specs.Lists.{total as total-of};
-ghost use Rattle·rules.specs.Plane.{points};
-ghost use Rattle·rules.specs.Layout.{lent};
-ghost use Rattle·rules.specs.Refusals.{anyAbove, anyNowhere, limitBad, originBad, rooms, firstOf, lineTests, refusalOf, mostLines};
-ghost use Rattle·point_numbers.specs.Width.{Whole};
-ghost use Rattle·build_refusals·specs.specs.Tests.{wildOf, switchBad, roomShort};
+use rules::{BOX_ROOM, BOX_ROOM_BESIDE, LINE_ROOM, MOST_LINES, MOST_POINTS, RECORD, Settings};
 
 // The sum of the counts, of which there are at most 4,096.
 fn total(counts: &[u32]) -> u64
-    requires { ⌜ length (now counts) ≤ mostLines ⌝ }
-    ensures { λ r. ⌜ (r ≡ total-of (now (counts .entry))) × (r < 17592186044416) ⌝ }
+    requires { length counts.now ≤ most_lines }
+    ensures { (result ≡ total_of counts.now) × (result < 17592186044416) }
 {
     let mut sum: u64 = 0;
     let mut i = 0;
@@ -35,7 +28,7 @@ fn total(counts: &[u32]) -> u64
 
 // Whether a kind is above 1.
 pub fn any_above_one(kinds: &[u8]) -> bool
-    ensures { λ r. ⌜ r ≡ anyAbove 1 (now (kinds .entry)) ⌝ }
+    ensures { result ≡ any_above 1 kinds.now }
 {
     let mut i = 0;
     while i < kinds.len() {
@@ -49,8 +42,8 @@ pub fn any_above_one(kinds: &[u8]) -> bool
 
 // What the n numbers from i on make together, each raised: the sign's place is taken where one of them is a NaN or infinite.
 fn raised_part(numbers: &[u64], i: usize, n: usize) -> u64
-    requires { ⌜ i + n ≤ length (now numbers) ⌝ }
-    ensures { λ r. ⌜ (r < 2 ^ 64) × (ltb 0 (r / 2 ^ 63) ≡ ltb 0 (wildOf (take n (drop i (now (numbers .entry)))))) ⌝ }
+    requires { i + n ≤ length numbers.now }
+    ensures { (result < 2 ^ 64) × (ltb 0 (result / 2 ^ 63) ≡ ltb 0 (wild_of (take n (drop i numbers.now)))) }
 {
     let mut any: u64 = 0;
     let mut k: usize = 0;
@@ -64,7 +57,7 @@ fn raised_part(numbers: &[u64], i: usize, n: usize) -> u64
 // Whether one of the numbers is a NaN or infinite: then the sign's place of what they make together is taken. All are looked at, 32 by 32, so that several
 // go at once.
 fn any_wild(numbers: &[u64]) -> bool
-    ensures { λ r. ⌜ r ≡ ltb 0 (wildOf (now (numbers .entry))) ⌝ }
+    ensures { result ≡ ltb 0 (wild_of numbers.now) }
 {
     let mut any: u64 = 0;
     let mut i: usize = 0;
@@ -78,8 +71,8 @@ fn any_wild(numbers: &[u64]) -> bool
 
 // Whether the x or the y of a point is a NaN or infinite, with extras between the points. All are looked at, x and y at once.
 fn any_nowhere_wide(numbers: &[u64], width: usize) -> bool
-    requires { ⌜ (2 ≤ width) × Whole width (now numbers) ⌝ }
-    ensures { λ r. ⌜ r ≡ anyNowhere (points width (now (numbers .entry))) ⌝ }
+    requires { (2 ≤ width) × Whole width numbers.now }
+    ensures { result ≡ any_nowhere (points width numbers.now) }
 {
     let mut any_x: u64 = 0;
     let mut any_y: u64 = 0;
@@ -94,8 +87,8 @@ fn any_nowhere_wide(numbers: &[u64], width: usize) -> bool
 
 // Whether a coordinate is no place. Without extras every number is an x or a y.
 pub fn any_nowhere(numbers: &[u64], width: usize) -> bool
-    requires { ⌜ (2 ≤ width) × Whole width (now numbers) ⌝ }
-    ensures { λ r. ⌜ r ≡ anyNowhere (points width (now (numbers .entry))) ⌝ }
+    requires { (2 ≤ width) × Whole width numbers.now }
+    ensures { result ≡ any_nowhere (points width numbers.now) }
 {
     if width == 2 {
         return any_wild(numbers);
@@ -105,7 +98,7 @@ pub fn any_nowhere(numbers: &[u64], width: usize) -> bool
 
 // Whether the groups or the kinds are not as many as the lines.
 fn tables_differ(n: usize, groups: usize, kinds: usize) -> bool
-    ensures { λ r. ⌜ r ≡ not (eqb groups n) || not (eqb kinds n) ⌝ }
+    ensures { result ≡ not (eqb groups n) || not (eqb kinds n) }
 {
     if groups != n {
         return true;
@@ -115,7 +108,7 @@ fn tables_differ(n: usize, groups: usize, kinds: usize) -> bool
 
 // Whether a limit is NaN, below -1 or above 1.
 pub fn limit_bad(limit: f64) -> bool
-    ensures { λ r. ⌜ r ≡ limitBad limit ⌝ }
+    ensures { result ≡ limit_bad limit }
 {
     if -1.0 <= limit {
         if limit <= 1.0 {
@@ -127,7 +120,7 @@ pub fn limit_bad(limit: f64) -> bool
 
 // With the switch at 0 the limit isn't looked at.
 pub fn switch_bad(switch: u8, limit: f64) -> bool
-    ensures { λ r. ⌜ r ≡ switchBad switch limit ⌝ }
+    ensures { result ≡ switch_bad switch limit }
 {
     if 1 < switch {
         return true;
@@ -140,7 +133,7 @@ pub fn switch_bad(switch: u8, limit: f64) -> bool
 
 // Whether an origin is NaN or infinite.
 pub fn origin_bad(x: f64, y: f64) -> bool
-    ensures { λ r. ⌜ r ≡ originBad x y ⌝ }
+    ensures { result ≡ origin_bad x y }
 {
     if float_order::is_finite(x) {
         return !float_order::is_finite(y);
@@ -161,8 +154,8 @@ fn room_short(
     spare: usize,
     workspace: usize,
 ) -> bool
-    requires { ⌜ n ≤ mostLines ⌝ }
-    ensures { λ r. ⌜ r ≡ roomShort n numbers table members marks listing merged boxes spare workspace ⌝ }
+    requires { n ≤ most_lines }
+    ensures { result ≡ room_short n numbers table members marks listing merged boxes spare workspace }
 {
     if table < n * RECORD {
         return true;
@@ -196,7 +189,7 @@ pub fn line_refusal(
     groups: &[u32],
     kinds: &[u8],
 ) -> u64
-    ensures { λ r. ⌜ r ≡ firstOf (lineTests «wkb_type» (lent (now (coordinates .entry)) (now (counts .entry)) (now (groups .entry)) (now (kinds .entry)))) ⌝ }
+    ensures { result ≡ first_of (line_tests wkb_type (lent coordinates.now counts.now groups.now kinds.now)) }
 {
     let width = point_numbers::width_of(wkb_type);
     if width == 0 {
@@ -247,10 +240,10 @@ pub fn refusal(
     spare: &[u64],
     workspace: &[u64],
 ) -> u64
-    ensures { λ r. ⌜ r ≡ refusalOf «wkb_type»
-        (lent (now (coordinates .entry)) (now (counts .entry)) (now (groups .entry)) (now (kinds .entry))) settings
-        (rooms (now (table .entry)) (now (members .entry)) (now (marks .entry)) (now (listing .entry))
-        (now (merged .entry)) (now (boxes .entry)) (now (spare .entry)) (now (workspace .entry))) ⌝ }
+    ensures { result ≡ refusal_of wkb_type
+        (lent coordinates.now counts.now groups.now kinds.now) settings
+        (rooms table.now members.now marks.now listing.now
+        merged.now boxes.now spare.now workspace.now) }
 {
     let refused = line_refusal(wkb_type, coordinates, counts, groups, kinds);
     if refused != 0 {

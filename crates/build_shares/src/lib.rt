@@ -1,19 +1,16 @@
 // What two districts bring to a call, and whether that is more than their shares. Groups below 2^31 are the first district's and the rest the second's, so
 // that the first brings what the second doesn't.
-use rules::BORDER;
-use rules::MOST_DISTRICT_LINES;
-use rules::MOST_DISTRICT_POINTS;
-ghost use mathlib.Core.Path.{_≡_};
-ghost use mathlib.Core.Bool.{_||_};
-ghost use mathlib.Core.List.{[], _∷_};
-ghost use Prim.Native.Nat.{_-_, _≤_};
-ghost use lib.Dec.{ltb};
-ghost use lib.ListN.{length};
-ghost use Rattle·rules.specs.Lists.{total};
-ghost use Rattle·rules.specs.Districts.{linesBrought, pointsBrought, overLines, overPoints};
-ghost use Rattle·rules.specs.Refusals.{firstOf, mostLines};
+#![tactic(auto)]
+
+ghost use Rattle.std.specs.Prelude.{◌≡◌, ◌||◌, [], ◌∷◌, ◌-◌, ◌≤◌, ltb, length};
+ghost use Rattle.rules.specs.Lists.{total};
+ghost use Rattle.rules.specs.Districts.{lines_brought, points_brought, over_lines, over_points};
+ghost use Rattle.rules.specs.Refusals.{first_of, most_lines};
+
+use rules::{BORDER, MOST_DISTRICT_LINES, MOST_DISTRICT_POINTS};
 
 // A district's lines and its coordinates.
+#[derive(Clone, Copy)]
 pub struct Share {
     pub lines: u64,
     pub points: u64,
@@ -21,9 +18,9 @@ pub struct Share {
 
 // What the second district brings. A group by the border is 1 for its lines and 0 for the other's.
 fn second_share(counts: &[u32], groups: &[u32]) -> Share
-    requires { ⌜ (length (now counts) ≤ mostLines) × (length (now groups) ≡ length (now counts)) ⌝ }
-    ensures { λ r. ⌜ (r .lines ≡ linesBrought 1 (now (groups .entry)))
-        × (r .points ≡ pointsBrought 1 (now (counts .entry)) (now (groups .entry))) ⌝ }
+    requires { (length counts.now ≤ most_lines) × (length groups.now ≡ length counts.now) }
+    ensures { (result.lines ≡ lines_brought 1 groups.now)
+        × (result.points ≡ points_brought 1 counts.now groups.now) }
 {
     let mut lines: u64 = 0;
     let mut points: u64 = 0;
@@ -39,8 +36,8 @@ fn second_share(counts: &[u32], groups: &[u32]) -> Share
 
 // Whether more than a share is brought by the second district, or by the first, which brings the rest of all.
 fn over(all: u64, second: u64, most: u64) -> bool
-    requires { ⌜ second ≤ all ⌝ }
-    ensures { λ r. ⌜ r ≡ ltb most (all - second) || ltb most second ⌝ }
+    requires { second ≤ all }
+    ensures { result ≡ ltb most (all - second) || ltb most second }
 {
     if most < all - second {
         return true;
@@ -50,8 +47,8 @@ fn over(all: u64, second: u64, most: u64) -> bool
 
 // 20 where a district brings more lines than its share, else 21 where one brings more coordinates, else 0. All lines together have c coordinates.
 pub fn share_refusal(counts: &[u32], groups: &[u32], c: u64) -> u64
-    requires { ⌜ (length (now counts) ≤ mostLines) × (length (now groups) ≡ length (now counts)) × (c ≡ total (now counts)) ⌝ }
-    ensures { λ r. ⌜ r ≡ firstOf ((20, overLines (now (groups .entry))) ∷ (21, overPoints (now (counts .entry)) (now (groups .entry))) ∷ []) ⌝ }
+    requires { (length counts.now ≤ most_lines) × (length groups.now ≡ length counts.now) × (c ≡ total counts.now) }
+    ensures { result ≡ first_of ((20, over_lines groups.now) ∷ (21, over_points counts.now groups.now) ∷ []) }
 {
     let second = second_share(counts, groups);
     if over(

@@ -1,11 +1,14 @@
 // The walks of a call's lines in round one, before anything is laid, and whether round two can join any of them.
+#![tactic(auto)]
+
+ghost use Rattle.rules.specs.Layout.{lent};
+ghost use Rattle.build_walks.specs.Walking.{LinesWalkable, LinesWalked};
+
 use chain_meeting::MEETING;
-use rules::Grid;
-use rules::Settings;
-ghost use Rattle·rules.specs.Layout.{lent};
-ghost use Rattle·build_walks·specs.specs.Walking.{LinesWalkable, LinesWalked};
+use rules::{Grid, Settings};
 
 // How many lines went in, how many walks there are, and whether cells leave them apart.
+#[derive(Clone, Copy)]
 pub struct Walked {
     pub lines: usize,
     pub number: usize,
@@ -23,9 +26,9 @@ pub fn walk_lines(
     kinds: &[u8],
     settings: Settings,
 ) -> Walked
-    requires { ⌜ LinesWalkable width n (lent (now coordinates) (now counts) (now groups) (now kinds)) settings (now w) ⌝ }
-    ensures { λ r. ⌜ LinesWalked width n (lent (now (coordinates .entry)) (now (counts .entry)) (now (groups .entry)) (now (kinds .entry))) settings
-        (now (w .exit)) (r .lines) (r .number) (r .apart) ⌝ }
+    requires { LinesWalkable width n (lent coordinates.now counts.now groups.now kinds.now) settings w.old }
+    ensures { LinesWalked width n (lent coordinates.now counts.now groups.now kinds.now) settings
+        w.new result.lines result.number result.apart }
 {
     let lines = build_lines::take_lines(w, n, counts, kinds);
     let number = chain_round::walk_round(

@@ -1,11 +1,7 @@
 // The cases M and N, of directions and cells: their values, and what building makes of them.
-use crate::building_cases::THREE_LINES;
-use crate::building_cases::close;
-use crate::building_cases::too_far;
-use crate::judge::apart;
-use crate::judge::builds;
-use rules::Direction;
-use rules::Settings;
+use crate::building_cases::{THREE_LINES, close, too_far};
+use crate::judge::{apart, builds};
+use rules::{Direction, Settings};
 
 // 2^-537, 2^-538, 2^511 and 2^512
 const LEAST_PRESENT: u64 = 0x1E60_0000_0000_0000;

@@ -1,9 +1,5 @@
 // A call with rooms that hold 7 everywhere, and whether what it leaves is what is expected: the written part, 7 beyond it, and zeros where 01 asks for them.
-use rules::Answer;
-use rules::LINE_ROOM;
-use rules::RECORD;
-use rules::Settings;
-use rules::Window;
+use rules::{Answer, LINE_ROOM, RECORD, Settings, Window};
 
 // Whether a begins with b and is 7 from there on.
 pub fn begins_u32(a: &[u32], b: &[u32]) -> bool {
@@ -96,9 +92,9 @@ fn in_bits(numbers: &[f64]) -> [u64; 16] {
 }
 
 // Whether the call is accepted with this result.
-pub fn accepted(answer: Answer, result: usize) -> bool {
+pub fn accepted(answer: Answer, res: usize) -> bool {
     match answer {
-        Answer::Accepted(n) => n == result as u64,
+        Answer::Accepted(n) => n == res as u64,
         Answer::Refused(_) => false,
     }
 }

@@ -1,9 +1,6 @@
 // A pairing call with rooms that hold 7 everywhere, by each route, and whether what it leaves is what is expected.
-use crate::judge::accepted;
-use crate::judge::begins_u32;
-use crate::judge::cleared;
-use rules::Answer;
-use rules::END_ROOM;
+use crate::judge::{accepted, begins_u32, cleared};
+use rules::{Answer, END_ROOM};
 
 // Whether a pairing call of d ends, four at most, left these pairs.
 fn paired(answer: Answer, room: &[u32], workspace: &[u64], d: usize, pairs: &[u32]) -> bool {

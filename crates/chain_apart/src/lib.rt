@@ -1,15 +1,16 @@
 // Whether a round can join any of the ends that are grouped by key. Where none can be joined, the pieces that go in come out as they are.
-use chain_grouping::LAST;
-use chain_grouping::NEXT;
-ghost use mathlib.Core.Path.{_≡_};
-ghost use Prim.Native.Nat.{_<_};
-ghost use Rattle·chain_grouping.specs.Group.{GroupingRoom, Nodes};
-ghost use Rattle·chain_apart·specs.specs.Apart.{meetsAt, apartTo};
+#![tactic(auto)]
+
+ghost use Rattle.std.specs.Prelude.{◌≡◌, ◌<◌};
+ghost use Rattle.chain_grouping.specs.Group.{GroupingRoom, Nodes};
+ghost use Rattle.chain_apart.specs.Apart.{meets_at, apart_to};
+
+use chain_grouping::{LAST, NEXT};
 
 // Whether the node that e leads, if it leads one, can join ends: two of two pieces, or three and more where junction pairing is on.
 fn meets(v: &[u64], m: usize, e: usize, on: bool) -> bool
-    requires { ⌜ GroupingRoom (now v) m × Nodes (now v) (now v) m × (e < m) ⌝ }
-    ensures { λ r. ⌜ r ≡ meetsAt on (now (v .entry)) m e ⌝ }
+    requires { GroupingRoom v.now m × Nodes v.now v.now m × (e < m) }
+    ensures { result ≡ meets_at on v.now m e }
 {
     if (v[m * LAST + e] as usize) < e {
         return false;
@@ -26,8 +27,8 @@ fn meets(v: &[u64], m: usize, e: usize, on: bool) -> bool
 
 // Whether no node of m ends, which are grouped in v, can join any.
 pub fn apart(v: &[u64], m: usize, on: bool) -> bool
-    requires { ⌜ GroupingRoom (now v) m × Nodes (now v) (now v) m ⌝ }
-    ensures { λ r. ⌜ r ≡ apartTo on (now (v .entry)) m m ⌝ }
+    requires { GroupingRoom v.now m × Nodes v.now v.now m }
+    ensures { result ≡ apart_to on v.now m m }
 {
     let mut e = 0;
     while e < m {

@@ -1,19 +1,19 @@
 -- The map of the part in which m ends are grouped: where each block begins, in words for each end. The heads of m buckets stand first, then a word of chain for each end.
-use Prim.Native.Nat.{ℕ}
+use Rattle.std.specs.Prelude.{ℕ}
 
-abbrev pub nextBlock : ℕ
-nextBlock = 2
+abbrev pub next_block : ℕ
+next_block = 2
 
-abbrev pub lastBlock : ℕ
-lastBlock = 3
+abbrev pub last_block : ℕ
+last_block = 3
 
-abbrev pub keyBlock : ℕ
-keyBlock = 4
+abbrev pub key_block : ℕ
+key_block = 4
 
 -- all of it
-abbrev pub groupRoom : ℕ
-groupRoom = 7
+abbrev pub group_room : ℕ
+group_room = 7
 
 -- the words of one end's key
-abbrev pub keySize : ℕ
-keySize = 3
+abbrev pub key_size : ℕ
+key_size = 3

@@ -1,10 +1,10 @@
 // Ends grouped by key without a sort: buckets of leaders, and behind each leader the list of its key's ends.
-ghost use mathlib.Core.Path.{_≡_};
-ghost use Prim.Native.Nat.{_+_, _*_, _≤_, _<_};
-ghost use lib.ListN.{length, getD, set};
-ghost use Rattle·rules.specs.Refusals.{mostEnds};
-ghost use Rattle·chain_grouping·specs.specs.Group.{words, sameWords, wordsAt, wordsOf, half, bucketOf, GroupingRoom, GroupedIn, EndPlaced, Found, Nodes};
-ghost use Rattle·chain_grouping·specs.specs.Map.{keySize, lastBlock, nextBlock};
+#![tactic(auto)]
+
+ghost use Rattle.std.specs.Prelude.{◌≡◌, ◌+◌, ◌*◌, ◌≤◌, ◌<◌, length, get_or, set};
+ghost use Rattle.rules.specs.Refusals.{most_ends};
+ghost use Rattle.chain_grouping.specs.Group.{words, same_words, words_at, words_of, half, bucket_of, GroupingRoom, GroupedIn, EndPlaced, Found, Nodes};
+ghost use Rattle.chain_grouping.specs.Map.{key_size, last_block, next_block};
 
 // Where the blocks of the part in which ends are grouped begin, in words for each end. The heads of the buckets stand first, then a word of chain.
 pub const NEXT: usize = 2;
@@ -18,15 +18,15 @@ pub const KEY: usize = 3;
 
 // The two halves of a word, added, without what is carried.
 fn halved(t: u64) -> u64
-    ensures { λ r. ⌜ r ≡ half t ⌝ }
+    ensures { result ≡ half t }
 {
     (t / 4294967296 + t % 4294967296) % 4294967296
 }
 
 // The bucket of a key, one of m.
 fn bucket(g: u64, x: u64, y: u64, m: usize) -> usize
-    requires { ⌜ (0 < m) × (m ≤ mostEnds) ⌝ }
-    ensures { λ r. ⌜ (r ≡ bucketOf m (words g x y)) × (r < m) ⌝ }
+    requires { (0 < m) × (m ≤ most_ends) }
+    ensures { (result ≡ bucket_of m (words g x y)) × (result < m) }
 {
     let a = halved(x);
     let b = halved(y);
@@ -37,8 +37,8 @@ fn bucket(g: u64, x: u64, y: u64, m: usize) -> usize
 
 // Whether ends e and f have one key.
 fn same_key(w: &[u64], keys: usize, e: usize, f: usize) -> bool
-    requires { ⌜ (keys + e * keySize + 2 < length (now w)) × (keys + f * keySize + 2 < length (now w)) ⌝ }
-    ensures { λ r. ⌜ r ≡ sameWords (wordsAt (now (w .entry)) keys e) (wordsAt (now (w .entry)) keys f) ⌝ }
+    requires { (keys + e * key_size + 2 < length w.now) × (keys + f * key_size + 2 < length w.now) }
+    ensures { result ≡ same_words (words_at w.now keys e) (words_at w.now keys f) }
 {
     let p = keys + e * KEY;
     let q = keys + f * KEY;
@@ -53,8 +53,8 @@ fn same_key(w: &[u64], keys: usize, e: usize, f: usize) -> bool
 
 // One more than the leader of end e's key among the ends before e, or 0.
 fn find(w: &[u64], m: usize, e: usize, b: usize) -> usize
-    requires { ⌜ GroupingRoom (now w) m × (e < m) × (b < m) × (b ≡ bucketOf m (wordsOf (now w) m e)) × GroupedIn (now w) (now w) m e ⌝ }
-    ensures { λ r. ⌜ Found (now (w .entry)) m e r ⌝ }
+    requires { GroupingRoom w.now m × (e < m) × (b < m) × (b ≡ bucket_of m (words_of w.now m e)) × GroupedIn w.now w.now m e }
+    ensures { Found w.now m e result }
 {
     let mut c = w[b] as usize;
     while 0 < c {
@@ -69,9 +69,9 @@ fn find(w: &[u64], m: usize, e: usize, b: usize) -> usize
 
 // End e behind the last end of the leader f.
 fn append(w: &mut [u64], m: usize, e: usize, f: usize)
-    requires { ⌜ GroupingRoom (now w) m × (e < m) × (f < e) × (getD (now w) (m * lastBlock + f) 0 < e) ⌝ }
-    ensures { λ _. ⌜ now (w .exit) ≡ set (set (set (set (now (w .entry)) (m * nextBlock + getD (now (w .entry)) (m * lastBlock + f) 0) e)
-        (m * nextBlock + e) 0) (m * lastBlock + f) e) (m * lastBlock + e) f ⌝ }
+    requires { GroupingRoom w.old m × (e < m) × (f < e) × (get_or w.old (m * last_block + f) 0 < e) }
+    ensures { w.new ≡ set (set (set (set w.old (m * next_block + get_or w.old (m * last_block + f) 0) e)
+        (m * next_block + e) 0) (m * last_block + f) e) (m * last_block + e) f }
 {
     let t = w[m * LAST + f] as usize;
     w[m * NEXT + t] = e as u64;
@@ -82,9 +82,9 @@ fn append(w: &mut [u64], m: usize, e: usize, f: usize)
 
 // End e as a leader, in front of the bucket b.
 fn lead(w: &mut [u64], m: usize, e: usize, b: usize)
-    requires { ⌜ GroupingRoom (now w) m × (e < m) × (b < m) ⌝ }
-    ensures { λ _. ⌜ now (w .exit) ≡ set (set (set (set (now (w .entry)) (m + e) (getD (now (w .entry)) b 0)) b (e + 1)) (m * nextBlock + e) 0)
-        (m * lastBlock + e) e ⌝ }
+    requires { GroupingRoom w.old m × (e < m) × (b < m) }
+    ensures { w.new ≡ set (set (set (set w.old (m + e) (get_or w.old b 0)) b (e + 1)) (m * next_block + e) 0)
+        (m * last_block + e) e }
 {
     let h = w[b];
     w[m + e] = h;
@@ -95,8 +95,8 @@ fn lead(w: &mut [u64], m: usize, e: usize, b: usize)
 
 // End e, put where it belongs.
 fn place(w: &mut [u64], m: usize, e: usize)
-    requires { ⌜ GroupingRoom (now w) m × (e < m) × GroupedIn (now w) (now w) m e ⌝ }
-    ensures { λ _. ⌜ EndPlaced (now (w .exit)) (now (w .entry)) m (e + 1) ⌝ }
+    requires { GroupingRoom w.old m × (e < m) × GroupedIn w.old w.old m e }
+    ensures { EndPlaced w.new w.old m (e + 1) }
 {
     let p = m * KEYS + e * KEY;
     let b = bucket(w[p], w[p + 1], w[p + 2], m);
@@ -110,8 +110,8 @@ fn place(w: &mut [u64], m: usize, e: usize)
 
 // The m ends whose keys stand in w from 4 m on, grouped.
 pub fn group(w: &mut [u64], m: usize)
-    requires { ⌜ GroupingRoom (now w) m ⌝ }
-    ensures { λ _. ⌜ Nodes (now (w .exit)) (now (w .entry)) m ⌝ }
+    requires { GroupingRoom w.old m }
+    ensures { Nodes w.new w.old m }
 {
     point_slices::clear(w, m);
     let mut e = 0;

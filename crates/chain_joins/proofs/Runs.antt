@@ -1,224 +1,224 @@
 -- The nodes of the leaders are runs: each end stands in exactly one. So a table filled from their joins is the partners' table, also where
 -- junction pairing is on.
-use Prim.Native.Nat.{ℕ, zero, suc, _+_, _*_, _≤_, _<_, zero-le}
-use mathlib.Core.Path.{_≡_, refl, sym, ap, _∙_}
+use Prim.Native.Nat.{ℕ, zero, suc, ◌+◌, ◌*◌, ◌≤◌, ◌<◌, zero-le}
+use mathlib.Core.Path.{◌≡◌, refl, sym, ap, ◌∙◌}
 use mathlib.Core.Bool.{Bool, true, false}
-use mathlib.Core.List.{List, [], _∷_, _++_, map, flatMap, flatten, append-nil, map-append}
+use mathlib.Core.List.{List, [], ◌∷◌, ◌++◌, map, flat_map, flatten, append-nil, map-append}
 use native.Mathlib.Omega.{arith}
-use native.Mathlib.Decide.{ℕ-discrete, decLt}
+use native.Mathlib.Decide.{ℕ_discrete, dec_lt}
 use lib.Dec.{eqb}
-use lib.ListN.{length, getD}
+use lib.ListN.{length, get_or}
 use borrow.Author.Tests.{leb-true, le-leb, lt-leb}
-use Rattle·rules.specs.Lists.{one, count, keep, from, upto}
-use Rattle·rules.specs.Plane.{sameKey}
-use Rattle·rules.specs.Chaining.{Piece, Rule, keyAt, node, joined, partner}
-use Rattle·chain_laws.specs.Table.{tableOf, fill}
-use Rattle·chain_laws.proofs.Counts.{Each, nil, cons, each-map, one-same, one-other, zero-of, count-append, upto-in, upto-out, upto-once}
-use Rattle·chain_laws.proofs.Kept.{keep-yes, keep-no, keep-in, keep-all}
-use Rattle·chain_laws.proofs.Tables.{Nodes as AreNodes, filled-table}
-use Rattle·chain_grouping.specs.Group.{Words, sameWords, wordsOf, Nodes}
-use Rattle·chain_grouping.proofs.Keys.{same-true, same-refl, same-false}
-use Rattle·chain_joins·specs.specs.Node.{nodeOf, leading, runsTo, Leads}
-use Rattle·chain_grouping.specs.Map.{lastBlock}
+use Rattle.rules.specs.Lists.{one, count, keep, from, upto}
+use Rattle.rules.specs.Plane.{same_key}
+use Rattle.rules.specs.Chaining.{Piece, Rule, key_at, node, joined, partner}
+use Rattle.chain_laws.specs.Table.{table_of, fill}
+use Rattle.chain_laws.proofs.Counts.{Each, nil, cons, each_map, one_same, one_other, zero_of, count_append, upto_in, upto_out, upto_once}
+use Rattle.chain_laws.proofs.Kept.{keep_yes, keep_no, keep_in, keep_all}
+use Rattle.chain_laws.proofs.Tables.{Nodes as AreNodes, filled_table}
+use Rattle.chain_grouping.specs.Group.{Words, same_words, words_of, Nodes}
+use Rattle.chain_grouping.proofs.Keys.{same_true, same_refl, same_false}
+use Rattle.chain_joins.specs.Node.{node_of, leading, runs_to, Leads}
+use Rattle.chain_grouping.specs.Map.{last_block}
 
 every : {A : Type 0} (P : A → Type 0) (l : List A) → ((a : A) → P a) → Each P l
 every P [] h = nil
 every P (a ∷ l) h = cons (h a) (every P l h)
 
-keep-le : (t : ℕ → Bool) (x : ℕ) (l : List ℕ) → count x (keep t l) ≤ count x l
+keep_le : (t : ℕ → Bool) (x : ℕ) (l : List ℕ) → count x (keep t l) ≤ count x l
 unfolding count keep
-keep-le t x [] = zero-le
-keep-le t x (a ∷ l) = go (t a) refl (keep-le t x l)
+keep_le t x [] = zero-le
+keep_le t x (a ∷ l) = go (t a) refl (keep_le t x l)
   where
     go : (s : Bool) → t a ≡ s → count x (keep t l) ≤ count x l → count x (keep t (a ∷ l)) ≤ count x (a ∷ l)
-    go true e i = rw (keep-yes t a l e) (omega arith)
-    go false e i = rw (keep-no t a l e) (omega arith)
+    go true e i = rw (keep_yes t a l e) (omega arith)
+    go false e i = rw (keep_no t a l e) (omega arith)
 
 -- two tests that agree below a bound
-keep-same : (t u : ℕ → Bool) (n a : ℕ) → ((x : ℕ) → x < a + n → t x ≡ u x) → keep t (from a n) ≡ keep u (from a n)
+keep_same : (t u : ℕ → Bool) (n a : ℕ) → ((x : ℕ) → x < a + n → t x ≡ u x) → keep t (from a n) ≡ keep u (from a n)
 unfolding keep from
-keep-same t u zero a h = refl
-keep-same t u (suc n) a h = go (t a) (u a) refl refl (keep-same t u n (suc a) (λ x i. h x (omega arith)))
+keep_same t u zero a h = refl
+keep_same t u (suc n) a h = go (t a) (u a) refl refl (keep_same t u n (suc a) (λ x i. h x (omega arith)))
   where
     go : (s r : Bool) → t a ≡ s → u a ≡ r → keep t (from (suc a) n) ≡ keep u (from (suc a) n) → keep t (a ∷ from (suc a) n) ≡ keep u (a ∷ from (suc a) n)
-    go true true p q i = keep-yes t a (from (suc a) n) p ∙ ap {B = List ℕ} (λ l. a ∷ l) i ∙ sym (keep-yes u a (from (suc a) n) q)
-    go false false p q i = keep-no t a (from (suc a) n) p ∙ i ∙ sym (keep-no u a (from (suc a) n) q)
-    go true false p q i = let s = h a (omega arith) in let z : _≡_ {A = ℕ} 0 1 = cc in absurd (omega arith)
-    go false true p q i = let s = h a (omega arith) in let z : _≡_ {A = ℕ} 0 1 = cc in absurd (omega arith)
+    go true true p q i = keep_yes t a (from (suc a) n) p ∙ ap {B = List ℕ} (λ l. a ∷ l) i ∙ sym (keep_yes u a (from (suc a) n) q)
+    go false false p q i = keep_no t a (from (suc a) n) p ∙ i ∙ sym (keep_no u a (from (suc a) n) q)
+    go true false p q i = let s = h a (omega arith) in let z : ◌≡◌ {A = ℕ} 0 1 = cc in absurd (omega arith)
+    go false true p q i = let s = h a (omega arith) in let z : ◌≡◌ {A = ℕ} 0 1 = cc in absurd (omega arith)
 
 -- ---- a list per element, all one behind the other
 
 module _ (ν : ℕ → List ℕ) (x : ℕ) where
-  flat-none : (fs : List ℕ) → ((f : ℕ) → count x (ν f) ≡ 0) → count x (flatten (map ν fs)) ≡ 0
+  flat_none : (fs : List ℕ) → ((f : ℕ) → count x (ν f) ≡ 0) → count x (flatten (map ν fs)) ≡ 0
   unfolding count flatten
-  flat-none [] h = refl
-  flat-none (f ∷ fs) h = omega (arith, count-append x (ν f) (flatten (map ν fs)), h f, flat-none fs h)
+  flat_none [] h = refl
+  flat_none (f ∷ fs) h = omega (arith, count_append x (ν f) (flatten (map ν fs)), h f, flat_none fs h)
 
-  flat-le : (g : ℕ) (fs : List ℕ) → ((f : ℕ) → 0 < count f fs → count x (ν f) ≤ one (eqb g f)) → count x (flatten (map ν fs)) ≤ count g fs
+  flat_le : (g : ℕ) (fs : List ℕ) → ((f : ℕ) → 0 < count f fs → count x (ν f) ≤ one (eqb g f)) → count x (flatten (map ν fs)) ≤ count g fs
   unfolding count flatten
-  flat-le g [] h = zero-le
-  flat-le g (f ∷ fs) h =
+  flat_le g [] h = zero-le
+  flat_le g (f ∷ fs) h =
       omega (
         arith,
-        count-append x (ν f) (flatten (map ν fs)),
-        h f (omega (arith, one-same f f refl)),
-        flat-le g fs (λ a i. h a (omega arith)),
+        count_append x (ν f) (flatten (map ν fs)),
+        h f (omega (arith, one_same f f refl)),
+        flat_le g fs (λ a i. h a (omega arith)),
       )
 
-  flat-ge : (g : ℕ) (fs : List ℕ) → 0 < count x (ν g) → count g fs ≤ count x (flatten (map ν fs))
+  flat_ge : (g : ℕ) (fs : List ℕ) → 0 < count x (ν g) → count g fs ≤ count x (flatten (map ν fs))
   unfolding count flatten
-  flat-ge g [] h = zero-le
-  flat-ge g (f ∷ fs) h =
-      elim (ℕ-discrete g f) [
-        | yes q ↦ omega (arith, count-append x (ν f) (flatten (map ν fs)), one-same g f q, ap (λ (a : ℕ). count x (ν a)) q, flat-ge g fs h)
-        | no q ↦ omega (arith, count-append x (ν f) (flatten (map ν fs)), one-other g f q, flat-ge g fs h)
+  flat_ge g [] h = zero-le
+  flat_ge g (f ∷ fs) h =
+      elim (ℕ_discrete g f) [
+        | yes q ↦ omega (arith, count_append x (ν f) (flatten (map ν fs)), one_same g f q, ap (λ (a : ℕ). count x (ν a)) q, flat_ge g fs h)
+        | no q ↦ omega (arith, count_append x (ν f) (flatten (map ν fs)), one_other g f q, flat_ge g fs h)
       ]
 
 -- ---- the runs of the leaders below i, for a loop over the ends
 
-from-snoc : (a n : ℕ) → from a (suc n) ≡ from a n ++ ((a + n) ∷ [])
+from_snoc : (a n : ℕ) → from a (suc n) ≡ from a n ++ ((a + n) ∷ [])
 unfolding from
-from-snoc a zero = let q : a + 0 ≡ a = omega arith in rw q
-from-snoc a (suc n) = let q : suc a + n ≡ a + suc n = omega arith in ap {B = List ℕ} (λ l. a ∷ l) (from-snoc (suc a) n ∙ rw q)
+from_snoc a zero = let q : a + 0 ≡ a = omega arith in rw q
+from_snoc a (suc n) = let q : suc a + n ≡ a + suc n = omega arith in ap {B = List ℕ} (λ l. a ∷ l) (from_snoc (suc a) n ∙ rw q)
 
-keep-append : (t : ℕ → Bool) (l r : List ℕ) → keep t (l ++ r) ≡ keep t l ++ keep t r
+keep_append : (t : ℕ → Bool) (l r : List ℕ) → keep t (l ++ r) ≡ keep t l ++ keep t r
 unfolding keep
-keep-append t [] r = refl
-keep-append t (a ∷ l) r = go (t a) refl (keep-append t l r)
+keep_append t [] r = refl
+keep_append t (a ∷ l) r = go (t a) refl (keep_append t l r)
   where
     go : (s : Bool) → t a ≡ s → keep t (l ++ r) ≡ keep t l ++ keep t r → keep t (a ∷ (l ++ r)) ≡ keep t (a ∷ l) ++ keep t r
-    go true e i = keep-yes t a (l ++ r) e ∙ ap {B = List ℕ} (λ x. a ∷ x) i ∙ sym (ap (λ (x : List ℕ). x ++ keep t r) (keep-yes t a l e))
-    go false e i = keep-no t a (l ++ r) e ∙ i ∙ sym (ap (λ (x : List ℕ). x ++ keep t r) (keep-no t a l e))
+    go true e i = keep_yes t a (l ++ r) e ∙ ap {B = List ℕ} (λ x. a ∷ x) i ∙ sym (ap (λ (x : List ℕ). x ++ keep t r) (keep_yes t a l e))
+    go false e i = keep_no t a (l ++ r) e ∙ i ∙ sym (ap (λ (x : List ℕ). x ++ keep t r) (keep_no t a l e))
 
-upto-snoc : (i : ℕ) → upto (i + 1) ≡ upto i ++ (i ∷ [])
+upto_snoc : (i : ℕ) → upto (i + 1) ≡ upto i ++ (i ∷ [])
 unfolding upto
-upto-snoc i = let q : i + 1 ≡ suc i = omega arith in ap (from 0) q ∙ from-snoc 0 i ∙ ap (λ (x : ℕ). from 0 i ++ (x ∷ [])) (omega-zero i)
+upto_snoc i = let q : i + 1 ≡ suc i = omega arith in ap (from 0) q ∙ from_snoc 0 i ∙ ap (λ (x : ℕ). from 0 i ++ (x ∷ [])) (omega_zero i)
   where
-    omega-zero : (i : ℕ) → 0 + i ≡ i
-    omega-zero i = omega arith
+    omega_zero : (i : ℕ) → 0 + i ≡ i
+    omega_zero i = omega arith
 
 -- a leader adds its node, and another end nothing
-pub runs-on : (v : List ℕ) (m i : ℕ) → i ≤ getD v (m * lastBlock + i) 0 → runsTo v m (i + 1) ≡ runsTo v m i ++ (nodeOf v m i ∷ [])
-unfolding runsTo leading keep
-runs-on v m i h =
-    ap (map (nodeOf v m))
-    (ap (keep (leading v m)) (upto-snoc i) ∙ keep-append (leading v m) (upto i) (i ∷ [])
-    ∙ ap (λ (x : List ℕ). keep (leading v m) (upto i) ++ x) (keep-yes (leading v m) i [] (le-leb i (getD v (m * lastBlock + i) 0) h)))
-    ∙ map-append (nodeOf v m) (keep (leading v m) (upto i)) (i ∷ [])
+pub runs_on : (v : List ℕ) (m i : ℕ) → i ≤ get_or v (m * last_block + i) 0 → runs_to v m (i + 1) ≡ runs_to v m i ++ (node_of v m i ∷ [])
+unfolding runs_to leading keep
+runs_on v m i h =
+    ap (map (node_of v m))
+    (ap (keep (leading v m)) (upto_snoc i) ∙ keep_append (leading v m) (upto i) (i ∷ [])
+    ∙ ap (λ (x : List ℕ). keep (leading v m) (upto i) ++ x) (keep_yes (leading v m) i [] (le-leb i (get_or v (m * last_block + i) 0) h)))
+    ∙ map-append (node_of v m) (keep (leading v m) (upto i)) (i ∷ [])
 
-pub runs-off : (v : List ℕ) (m i : ℕ) → getD v (m * lastBlock + i) 0 < i → runsTo v m (i + 1) ≡ runsTo v m i
-unfolding runsTo leading keep
-runs-off v m i h =
-    ap (map (nodeOf v m))
-    (ap (keep (leading v m)) (upto-snoc i) ∙ keep-append (leading v m) (upto i) (i ∷ [])
-    ∙ ap (λ (x : List ℕ). keep (leading v m) (upto i) ++ x) (keep-no (leading v m) i [] (lt-leb i (getD v (m * lastBlock + i) 0) h))
+pub runs_off : (v : List ℕ) (m i : ℕ) → get_or v (m * last_block + i) 0 < i → runs_to v m (i + 1) ≡ runs_to v m i
+unfolding runs_to leading keep
+runs_off v m i h =
+    ap (map (node_of v m))
+    (ap (keep (leading v m)) (upto_snoc i) ∙ keep_append (leading v m) (upto i) (i ∷ [])
+    ∙ ap (λ (x : List ℕ). keep (leading v m) (upto i) ++ x) (keep_no (leading v m) i [] (lt-leb i (get_or v (m * last_block + i) 0) h))
     ∙ append-nil (keep (leading v m) (upto i)))
 
 module _ (v : List ℕ) (m : ℕ) (N : Nodes v v m) where
-  leader-in : (f : ℕ) → 0 < count f (keep (leading v m) (upto m)) → (f < m) × (f ≤ getD v (m * lastBlock + f) 0)
+  leader_in : (f : ℕ) → 0 < count f (keep (leading v m) (upto m)) → (f < m) × (f ≤ get_or v (m * last_block + f) 0)
   unfolding leading
-  leader-in f h =
-      let r = keep-in (leading v m) f (upto m) h in
-      (upto-out m f (r .1), leb-true f (getD v (m * lastBlock + f) 0) (r .0))
+  leader_in f h =
+      let r = keep_in (leading v m) f (upto m) h in
+      (upto_out m f r.1, leb-true f (get_or v (m * last_block + f) 0) r.0)
 
-  in-leaders : (f : ℕ) → f < m → f ≤ getD v (m * lastBlock + f) 0 → 0 < count f (keep (leading v m) (upto m))
+  in_leaders : (f : ℕ) → f < m → f ≤ get_or v (m * last_block + f) 0 → 0 < count f (keep (leading v m) (upto m))
   unfolding leading
-  in-leaders f h l =
-      omega (arith, upto-in m f h, keep-all (leading v m) f (upto m) (le-leb f (getD v (m * lastBlock + f) 0) l))
+  in_leaders f h l =
+      omega (arith, upto_in m f h, keep_all (leading v m) f (upto m) (le-leb f (get_or v (m * last_block + f) 0) l))
 
-  leaders-once : (f : ℕ) → count f (keep (leading v m) (upto m)) ≤ 1
-  leaders-once f = omega (arith, keep-le (leading v m) f (upto m), upto-once m f)
+  leaders_once : (f : ℕ) → count f (keep (leading v m) (upto m)) ≤ 1
+  leaders_once f = omega (arith, keep_le (leading v m) f (upto m), upto_once m f)
 
   -- an end in a node
-  in-node : (f x : ℕ) → 0 < count x (nodeOf v m f) → (sameWords (wordsOf v m f) (wordsOf v m x) ≡ true) × (x < m)
-  unfolding nodeOf
-  in-node f x h = let r = keep-in (λ g. sameWords (wordsOf v m f) (wordsOf v m g)) x (upto m) h in (r .0, upto-out m x (r .1))
+  in_node : (f x : ℕ) → 0 < count x (node_of v m f) → (same_words (words_of v m f) (words_of v m x) ≡ true) × (x < m)
+  unfolding node_of
+  in_node f x h = let r = keep_in (λ g. same_words (words_of v m f) (words_of v m g)) x (upto m) h in (r.0, upto_out m x r.1)
 
-  node-in : (f x : ℕ) → x < m → sameWords (wordsOf v m f) (wordsOf v m x) ≡ true → 0 < count x (nodeOf v m f)
-  unfolding nodeOf
-  node-in f x h q = omega (arith, upto-in m x h, keep-all (λ g. sameWords (wordsOf v m f) (wordsOf v m g)) x (upto m) q)
+  node_in : (f x : ℕ) → x < m → same_words (words_of v m f) (words_of v m x) ≡ true → 0 < count x (node_of v m f)
+  unfolding node_of
+  node_in f x h q = omega (arith, upto_in m x h, keep_all (λ g. same_words (words_of v m f) (words_of v m g)) x (upto m) q)
 
-  node-once : (f x : ℕ) → count x (nodeOf v m f) ≤ 1
-  unfolding nodeOf
-  node-once f x = omega (arith, keep-le (λ g. sameWords (wordsOf v m f) (wordsOf v m g)) x (upto m), upto-once m x)
+  node_once : (f x : ℕ) → count x (node_of v m f) ≤ 1
+  unfolding node_of
+  node_once f x = omega (arith, keep_le (λ g. same_words (words_of v m f) (words_of v m g)) x (upto m), upto_once m x)
 
   -- two leaders have two keys
-  apart : (f g : ℕ) → f < m → f ≤ getD v (m * lastBlock + f) 0 → g < m → g ≤ getD v (m * lastBlock + g) 0 → wordsOf v m f ≡ wordsOf v m g → f ≡ g
+  apart : (f g : ℕ) → f < m → f ≤ get_or v (m * last_block + f) 0 → g < m → g ≤ get_or v (m * last_block + g) 0 → words_of v m f ≡ words_of v m g → f ≡ g
   apart f g hf lf hg lg q =
-      elim (ℕ-discrete f g) [
+      elim (ℕ_discrete f g) [
         | yes r ↦ r
-        | no r ↦ elim (decLt f g) [
-          | yes s ↦ absurd (same-false (wordsOf v m g) (wordsOf v m f) (N .least g f hg lg s) (sym q))
-          | no s ↦ absurd (same-false (wordsOf v m f) (wordsOf v m g) (N .least f g hf lf (omega arith)) q)
+        | no r ↦ elim (dec_lt f g) [
+          | yes s ↦ absurd (same_false (words_of v m g) (words_of v m f) (N.least g f hg lg s) (sym q))
+          | no s ↦ absurd (same_false (words_of v m f) (words_of v m g) (N.least f g hf lf (omega arith)) q)
         ]
       ]
 
-  leads-other : (e : ℕ) → e < m → getD v (m * lastBlock + e) 0 < e → Leads v m e (getD v (m * lastBlock + e) 0)
-  leads-other e he h = let r = N .leader e he h in record { within = omega arith; leads = r .1; same = r .0 }
+  leads_other : (e : ℕ) → e < m → get_or v (m * last_block + e) 0 < e → Leads v m e (get_or v (m * last_block + e) 0)
+  leads_other e he h = let r = N.leader e he h in record { within = omega arith; leads = r.1; same = r.0 }
 
-  leads-self : (e : ℕ) → e < m → e ≤ getD v (m * lastBlock + e) 0 → Leads v m e e
-  leads-self e he h = record { within = he; leads = h; same = same-refl (wordsOf v m e) }
+  leads_self : (e : ℕ) → e < m → e ≤ get_or v (m * last_block + e) 0 → Leads v m e e
+  leads_self e he h = record { within = he; leads = h; same = same_refl (words_of v m e) }
 
-  leader-of : (x : ℕ) → x < m → (g : ℕ) × Leads v m x g
-  leader-of x h =
-      elim (decLt (getD v (m * lastBlock + x) 0) x) [
-        | yes r ↦ (getD v (m * lastBlock + x) 0, leads-other x h r)
-        | no r ↦ (x, leads-self x h (omega arith))
+  leader_of : (x : ℕ) → x < m → (g : ℕ) × Leads v m x g
+  leader_of x h =
+      elim (dec_lt (get_or v (m * last_block + x) 0) x) [
+        | yes r ↦ (get_or v (m * last_block + x) 0, leads_other x h r)
+        | no r ↦ (x, leads_self x h (omega arith))
       ]
 
   -- each end stands in exactly one run
-  one-run : (x : ℕ) → x < m → (count x (flatten (runsTo v m m)) ≤ 1) × (0 < count x (flatten (runsTo v m m)))
-  unfolding runsTo
-  one-run x h =
-      let p = leader-of x h in
-      let g = p .0 in
-      let L = p .1 in
-      let most = flat-le (nodeOf v m) x g (keep (leading v m) (upto m)) (λ f i. only g L f (leader-in f i .0) (leader-in f i .1) (ℕ-discrete g f)) in
-      let least = flat-ge (nodeOf v m) x g (keep (leading v m) (upto m)) (node-in g x h (L .same)) in
-      (omega (arith, most, leaders-once g), omega (arith, least, in-leaders g (L .within) (L .leads)))
+  one_run : (x : ℕ) → x < m → (count x (flatten (runs_to v m m)) ≤ 1) × (0 < count x (flatten (runs_to v m m)))
+  unfolding runs_to
+  one_run x h =
+      let p = leader_of x h in
+      let g = p.0 in
+      let L = p.1 in
+      let most = flat_le (node_of v m) x g (keep (leading v m) (upto m)) (λ f i. only g L f (leader_in f i).0 (leader_in f i).1 (ℕ_discrete g f)) in
+      let least = flat_ge (node_of v m) x g (keep (leading v m) (upto m)) (node_in g x h L.same) in
+      (omega (arith, most, leaders_once g), omega (arith, least, in_leaders g L.within L.leads))
     where
-      only : (g : ℕ) → Leads v m x g → (f : ℕ) → f < m → f ≤ getD v (m * lastBlock + f) 0 → Dec (g ≡ f) → count x (nodeOf v m f) ≤ one (eqb g f)
-      only g L f i l (yes q) = omega (arith, one-same g f q, node-once f x)
+      only : (g : ℕ) → Leads v m x g → (f : ℕ) → f < m → f ≤ get_or v (m * last_block + f) 0 → Dec (g ≡ f) → count x (node_of v m f) ≤ one (eqb g f)
+      only g L f i l (yes q) = omega (arith, one_same g f q, node_once f x)
       only g L f i l (no q) =
           omega (
             arith,
-            zero-of (count x (nodeOf v m f)) λ j.
-                q (apart g f (L .within) (L .leads) i l
-                (same-true (wordsOf v m g) (wordsOf v m x) (L .same) ∙ sym (same-true (wordsOf v m f) (wordsOf v m x) (in-node f x j .0)))),
+            zero_of (count x (node_of v m f)) λ j.
+                q (apart g f L.within L.leads i l
+                (same_true (words_of v m g) (words_of v m x) L.same ∙ sym (same_true (words_of v m f) (words_of v m x) (in_node f x j).0))),
           )
 
-  runs-below : (x : ℕ) → m ≤ x → count x (flatten (runsTo v m m)) ≡ 0
-  unfolding runsTo
-  runs-below x h =
-      flat-none (nodeOf v m) x (keep (leading v m) (upto m)) (λ f. zero-of (count x (nodeOf v m f)) (λ j. omega (arith, in-node f x j .1)))
+  runs_below : (x : ℕ) → m ≤ x → count x (flatten (runs_to v m m)) ≡ 0
+  unfolding runs_to
+  runs_below x h =
+      flat_none (node_of v m) x (keep (leading v m) (upto m)) (λ f. zero_of (count x (node_of v m f)) (λ j. omega (arith, (in_node f x j).1)))
 
   module _ (rule : Rule) (ps : List Piece) (size : m ≡ 2 * length ps)
-      (keys : (e f : ℕ) → e < m → f < m → sameWords (wordsOf v m e) (wordsOf v m f) ≡ sameKey (keyAt rule ps e) (keyAt rule ps f)) where
+      (keys : (e f : ℕ) → e < m → f < m → same_words (words_of v m e) (words_of v m f) ≡ same_key (key_at rule ps e) (key_at rule ps f)) where
     -- the node by the words of the workspace is the node by the keys of the pieces
-    pub node-is : (e : ℕ) → e < m → nodeOf v m e ≡ node rule ps e
-    unfolding nodeOf node upto
-    node-is e h =
-        keep-same (λ f. sameWords (wordsOf v m e) (wordsOf v m f)) (λ f. sameKey (keyAt rule ps e) (keyAt rule ps f)) m 0 (λ x i. keys e x h (omega arith))
-        ∙ ap (λ (n : ℕ). keep (λ f. sameKey (keyAt rule ps e) (keyAt rule ps f)) (from 0 n)) size
+    pub node_is : (e : ℕ) → e < m → node_of v m e ≡ node rule ps e
+    unfolding node_of node upto
+    node_is e h =
+        keep_same (λ f. same_words (words_of v m e) (words_of v m f)) (λ f. same_key (key_at rule ps e) (key_at rule ps f)) m 0 (λ x i. keys e x h (omega arith))
+        ∙ ap (λ (n : ℕ). keep (λ f. same_key (key_at rule ps e) (key_at rule ps f)) (from 0 n)) size
 
-    runs-leaders : AreNodes rule ps (runsTo v m m)
-    unfolding runsTo nodeOf
-    runs-leaders =
-        each-map (nodeOf v m) (λ r. (e : ℕ) → 0 < count e r → node rule ps e ≡ r) (keep (leading v m) (upto m))
-        (every (λ f. (e : ℕ) → 0 < count e (nodeOf v m f) → node rule ps e ≡ nodeOf v m f) (keep (leading v m) (upto m)) at)
+    runs_leaders : AreNodes rule ps (runs_to v m m)
+    unfolding runs_to node_of
+    runs_leaders =
+        each_map (node_of v m) (λ r. (e : ℕ) → 0 < count e r → node rule ps e ≡ r) (keep (leading v m) (upto m))
+        (every (λ f. (e : ℕ) → 0 < count e (node_of v m f) → node rule ps e ≡ node_of v m f) (keep (leading v m) (upto m)) at)
       where
-        at : (f e : ℕ) → 0 < count e (nodeOf v m f) → node rule ps e ≡ nodeOf v m f
+        at : (f e : ℕ) → 0 < count e (node_of v m f) → node rule ps e ≡ node_of v m f
         at f e h =
-            let r = in-node f e h in
-            sym (node-is e (r .1))
-            ∙ ap (λ (q : Words). keep (λ g. sameWords q (wordsOf v m g)) (upto m)) (sym (same-true (wordsOf v m f) (wordsOf v m e) (r .0)))
+            let r = in_node f e h in
+            sym (node_is e r.1)
+            ∙ ap (λ (q : Words). keep (λ g. same_words q (words_of v m g)) (upto m)) (sym (same_true (words_of v m f) (words_of v m e) r.0))
 
     -- A TABLE OF ZEROS, FILLED NODE BY NODE, IS THAT OF THE PARTNERS
-    pub runs-table : (t : List ℕ) → length t ≡ 2 * length ps → ((e : ℕ) → getD t e 0 ≡ 0)
-        → fill t (flatMap (joined rule ps) (runsTo v m m)) ≡ tableOf (partner rule ps) (2 * length ps)
-    runs-table t n z =
-        filled-table rule ps (runsTo v m m) runs-leaders
-        (λ x. elim (decLt x m) [ yes h ↦ one-run x h .0 | no h ↦ omega (arith, runs-below x (omega arith)) ])
-        (λ x h. one-run x (omega arith) .1)
-        (λ x h. elim (decLt x m) [ yes i ↦ omega arith | no i ↦ absurd (omega (arith, runs-below x (omega arith))) ])
+    pub runs_table : (t : List ℕ) → length t ≡ 2 * length ps → ((e : ℕ) → get_or t e 0 ≡ 0)
+        → fill t (flat_map (joined rule ps) (runs_to v m m)) ≡ table_of (partner rule ps) (2 * length ps)
+    runs_table t n z =
+        filled_table rule ps (runs_to v m m) runs_leaders
+        (λ x. elim (dec_lt x m) [ yes h ↦ (one_run x h).0 | no h ↦ omega (arith, runs_below x (omega arith)) ])
+        (λ x h. (one_run x (omega arith)).1)
+        (λ x h. elim (dec_lt x m) [ yes i ↦ omega arith | no i ↦ absurd (omega (arith, runs_below x (omega arith))) ])
         t n z

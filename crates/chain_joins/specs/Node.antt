@@ -1,54 +1,49 @@
 -- Nodes by leaders: v is the part of the workspace where m ends are grouped.
-use Prim.Native.Nat.{ℕ, zero, suc, _+_, _*_, _≤_, _<_}
-use mathlib.Core.Path.{_≡_}
-use mathlib.Core.Bool.{Bool, true}
-use mathlib.Core.List.{List, [], _∷_, map}
-use lib.Dec.{leb}
-use lib.ListN.{length, getD, drop}
-use Rattle·rules.specs.Lists.{keep, upto}
-use Rattle·rules.specs.Refusals.{mostEnds}
-use Rattle·chain_grouping.specs.Group.{sameWords, wordsOf, Nodes}
-use Rattle·chain_grouping.specs.Map.{groupRoom, lastBlock}
+use Rattle.std.specs.Prelude.{ℕ, zero, suc, ◌+◌, ◌*◌, ◌≤◌, ◌<◌, ◌≡◌, Bool, true, List, [], ◌∷◌, map, leb, length, get_or, drop}
+use Rattle.rules.specs.Lists.{keep, upto}
+use Rattle.rules.specs.Refusals.{most_ends}
+use Rattle.chain_grouping.specs.Group.{same_words, words_of, Nodes}
+use Rattle.chain_grouping.specs.Map.{group_room, last_block}
 
 -- the ends with the key of e
-unfoldable pub nodeOf : List ℕ → ℕ → ℕ → List ℕ
-unfolding keep upto sameWords
-nodeOf v m e = keep (λ f. sameWords (wordsOf v m e) (wordsOf v m f)) (upto m)
+unfoldable pub node_of : List ℕ → ℕ → ℕ → List ℕ
+unfolding keep upto same_words
+node_of v m e = keep (λ f. same_words (words_of v m e) (words_of v m f)) (upto m)
 
 -- e leads its node
 unfoldable pub leading : List ℕ → ℕ → ℕ → Bool
-leading v m e = leb e (getD v (m * lastBlock + e) 0)
+leading v m e = leb e (get_or v (m * last_block + e) 0)
 
 -- the nodes of the leaders below i, one after another
-unfoldable pub runsTo : List ℕ → ℕ → ℕ → List (List ℕ)
-unfolding keep upto leading nodeOf
-runsTo v m i = map (nodeOf v m) (keep (leading v m) (upto i))
+unfoldable pub runs_to : List ℕ → ℕ → ℕ → List (List ℕ)
+unfolding keep upto leading node_of
+runs_to v m i = map (node_of v m) (keep (leading v m) (upto i))
 
 -- r leads the node of e
 pub record Leads (v : List ℕ) (m e r : ℕ) : Type 0 where
   pub within : r < m
-  pub leads : r ≤ getD v (m * lastBlock + r) 0
-  pub same : sameWords (wordsOf v m r) (wordsOf v m e) ≡ true
+  pub leads : r ≤ get_or v (m * last_block + r) 0
+  pub same : same_words (words_of v m r) (words_of v m e) ≡ true
 
 -- what listing the node of a leader asks: the list stands below the groups
 pub record NodeListable (w : List ℕ) (list at m e : ℕ) : Type 0 where
-  pub few : m ≤ mostEnds
+  pub few : m ≤ most_ends
   pub below : list + m ≤ at
-  pub room : at + m * groupRoom ≤ length w
+  pub room : at + m * group_room ≤ length w
   pub within : e < m
-  pub leads : e ≤ getD w (at + m * lastBlock + e) 0
+  pub leads : e ≤ get_or w (at + m * last_block + e) 0
   pub nodes : Nodes (drop at w) (drop at w) m
 
 -- k pairs of places in the list, from `pairs` on, as pairs of ends
-unfoldable pub namedPairs : List ℕ → ℕ → ℕ → ℕ → List (ℕ × ℕ)
-namedPairs w list pairs zero = []
-namedPairs w list pairs (suc k) =
-    (getD w (list + getD w pairs 0) 0, getD w (list + getD w (pairs + 1) 0) 0) ∷ namedPairs w list (pairs + 2) k
+unfoldable pub named_pairs : List ℕ → ℕ → ℕ → ℕ → List (ℕ × ℕ)
+named_pairs w list pairs zero = []
+named_pairs w list pairs (suc k) =
+    (get_or w (list + get_or w pairs 0) 0, get_or w (list + get_or w (pairs + 1) 0) 0) ∷ named_pairs w list (pairs + 2) k
 
 -- what putting them asks: they are places among the d ends of the list, which are ends of the table, and all stand beyond the table
 pub record Puttable (w : List ℕ) (joins m list d pairs r : ℕ) : Type 0 where
   pub below : joins + m ≤ list
   pub listed : list + d ≤ pairs
   pub room : pairs + r * 2 ≤ length w
-  pub places : (k : ℕ) → k < r * 2 → getD w (pairs + k) 0 < d
-  pub ends : (i : ℕ) → i < d → getD w (list + i) 0 < m
+  pub places : (k : ℕ) → k < r * 2 → get_or w (pairs + k) 0 < d
+  pub ends : (i : ℕ) → i < d → get_or w (list + i) 0 < m

@@ -1,16 +1,18 @@
 // Nodes read off grouped ends, and joins put into a table. The table, a list of ends and the groups stand in one workspace.
+#![tactic(auto)]
+
+ghost use Rattle.std.specs.Prelude.{◌+◌, ◌≤◌, ◌<◌, length, drop};
+ghost use Rattle.std.proofs.Math.Seq.{slice};
+ghost use Rattle.chain_laws.specs.Table.{put, fill};
+ghost use Rattle.point_slices.specs.Holds.{HoldsFrom};
+ghost use Rattle.chain_joins.specs.Node.{node_of, named_pairs, NodeListable, Puttable};
+
 use chain_grouping::NEXT;
-ghost use Prim.Native.Nat.{_+_, _≤_, _<_};
-ghost use lib.ListN.{length, drop};
-ghost use lib.Seq.{slice};
-ghost use Rattle·chain_laws.specs.Table.{put, fill};
-ghost use Rattle·point_slices.specs.Holds.{HoldsFrom};
-ghost use Rattle·chain_joins·specs.specs.Node.{nodeOf, namedPairs, NodeListable, Puttable};
 
 // The ends of the node that e leads, from `list` on; m ends are grouped from `at` on. Returns how many there are.
 pub fn list_node(w: &mut [u64], list: usize, at: usize, m: usize, e: usize) -> usize
-    requires { ⌜ NodeListable (now w) list at m e ⌝ }
-    ensures { λ r. ⌜ HoldsFrom (now (w .exit)) (now (w .entry)) list r (nodeOf (drop at (now (w .entry))) m e) ⌝ }
+    requires { NodeListable w.old list at m e }
+    ensures { HoldsFrom w.new w.old list result (node_of (drop at w.old) m e) }
 {
     let mut f = e;
     let mut d: usize = 0;
@@ -28,8 +30,8 @@ pub fn list_node(w: &mut [u64], list: usize, at: usize, m: usize, e: usize) -> u
 
 // The ends a and b joined, in the table of m ends from `joins` on.
 pub fn put_join(w: &mut [u64], joins: usize, m: usize, a: usize, b: usize)
-    requires { ⌜ (joins + m ≤ length (now w)) × (a < m) × (b < m) ⌝ }
-    ensures { λ _. ⌜ HoldsFrom (now (w .exit)) (now (w .entry)) joins m (put (slice joins (joins + m) (now (w .entry))) (a, b)) ⌝ }
+    requires { (joins + m ≤ length w.old) × (a < m) × (b < m) }
+    ensures { HoldsFrom w.new w.old joins m (put (slice joins (joins + m) w.old) (a, b)) }
 {
     w[joins + a] = (b + 1) as u64;
     w[joins + b] = (a + 1) as u64;
@@ -45,9 +47,9 @@ pub fn put_joins(
     pairs: usize,
     r: usize,
 )
-    requires { ⌜ Puttable (now w) joins m list d pairs r ⌝ }
-    ensures { λ _. ⌜ HoldsFrom (now (w .exit)) (now (w .entry)) joins m
-        (fill (slice joins (joins + m) (now (w .entry))) (namedPairs (now (w .entry)) list pairs r)) ⌝ }
+    requires { Puttable w.old joins m list d pairs r }
+    ensures { HoldsFrom w.new w.old joins m
+        (fill (slice joins (joins + m) w.old) (named_pairs w.old list pairs r)) }
 {
     let mut k: usize = 0;
     while k < r {

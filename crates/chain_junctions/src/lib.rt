@@ -1,13 +1,15 @@
 // The ends of a junction, for pairing: each end's direction and piece, read off the piece's record and put into the pairing's part of the workspace.
+#![tactic(auto)]
+
+ghost use Rattle.std.specs.Prelude.{◌≡◌, ◌<◌, ◌≤◌};
+ghost use Rattle.rules.specs.Plane.{points, direction_of};
+ghost use Rattle.point_direction.specs.Seen.{seen};
+ghost use Rattle.chain_pieces.specs.Held.{coordinates_at, Recorded};
+ghost use Rattle.pair_ends.specs.Ends.{EndsRoom};
+ghost use Rattle.chain_junctions.specs.Junction.{EndPut, JunctionEnds, EndsPut};
+
 use pair_ends::PIECES;
 use rules::Direction;
-ghost use mathlib.Core.Path.{_≡_};
-ghost use Prim.Native.Nat.{_<_, _≤_};
-ghost use Rattle·rules.specs.Plane.{points, directionOf};
-ghost use Rattle·point_direction.specs.Seen.{seen};
-ghost use Rattle·chain_pieces.specs.Held.{coordinatesAt, Recorded};
-ghost use Rattle·pair_ends.specs.Ends.{EndsRoom};
-ghost use Rattle·chain_junctions·specs.specs.Junction.{EndPut, JunctionEnds, EndsPut};
 
 // The direction at a side of the piece whose record stands at p.
 fn side_direction<'a>(
@@ -18,8 +20,8 @@ fn side_direction<'a>(
     input: &'a [u64],
     spare: &'a [u64],
 ) -> Direction
-    requires { ⌜ (2 ≤ width) × Recorded width (now w) p (now input) (now spare) ⌝ }
-    ensures { λ r. ⌜ r ≡ directionOf (seen side (points width (coordinatesAt width (now (w .entry)) p (now (input .entry)) (now (spare .entry))))) ⌝ }
+    requires { (2 ≤ width) × Recorded width w.now p input.now spare.now }
+    ensures { result ≡ direction_of (seen side (points width (coordinates_at width w.now p input.now spare.now))) }
 {
     let c = chain_pieces::coordinates_of(w, p, width, input, spare);
     point_direction::piece_direction(c, width, side)
@@ -27,8 +29,8 @@ fn side_direction<'a>(
 
 // End i of the d ends of a pairing: its piece, its presence mark, and its direction's bits if it has one.
 fn put_end(w: &mut [u64], d: usize, i: usize, direction: Direction, piece: u64)
-    requires { ⌜ EndsRoom (now w) d × (i < d) ⌝ }
-    ensures { λ _. ⌜ EndPut (now (w .exit)) (now (w .entry)) d i direction piece ⌝ }
+    requires { EndsRoom w.old d × (i < d) }
+    ensures { EndPut w.new w.old d i direction piece }
 {
     w[d * PIECES + i] = piece;
     let Direction::Toward(x, y) = direction else {
@@ -51,8 +53,8 @@ pub fn put_ends<'a>(
     input: &'a [u64],
     spare: &'a [u64],
 )
-    requires { ⌜ JunctionEnds width (now w) records list part d (now input) (now spare) ⌝ }
-    ensures { λ _. ⌜ EndsPut width (now (w .exit)) (now (w .entry)) records list part d (now (input .entry)) (now (spare .entry)) ⌝ }
+    requires { JunctionEnds width w.old records list part d input.now spare.now }
+    ensures { EndsPut width w.new w.old records list part d input.now spare.now }
 {
     let mut i = 0;
     while i < d {

@@ -1,5 +1,5 @@
 -- The words of the keys of a piece's two ends.
-use Prim.Native.Nat.{ℕ}
+use Rattle.std.specs.Prelude.{ℕ}
 
-abbrev pub bothKeys : ℕ
-bothKeys = 6
+abbrev pub both_keys : ℕ
+both_keys = 6

@@ -1,22 +1,22 @@
 // The keys of a round's ends: for each end three words, its group and one word for each number of its coordinate. Equal words are equal keys.
+#![tactic(auto)]
+
+ghost use Rattle.std.specs.Prelude.{◌≡◌, ◌+◌, ◌*◌, ◌/◌, ◌%◌, ◌≤◌, ◌<◌, length, set};
+ghost use Rattle.rules.specs.declared.Grid.TheVariants.{Exact, Cells};
+ghost use Rattle.chain_pieces.specs.Held.{record_of};
+ghost use Rattle.chain_keys.specs.Keys.{group_at, number_at, PiecePlaced, Grouping, Keyable, Keyed, keyed_at, both_keyed};
+ghost use Rattle.chain_keys.specs.Map.{both_keys};
+
 use chain_grouping::KEY;
-use rules::Grid;
-use rules::PIECE;
-ghost use mathlib.Core.Path.{_≡_};
-ghost use Prim.Native.Nat.{_+_, _*_, _/_, _%_, _≤_, _<_};
-ghost use lib.ListN.{length, set};
-ghost use Rattle·rules.specs.declared.Grid.the-variants.{Exact, Cells};
-ghost use Rattle·chain_pieces.specs.Held.{recordOf};
-ghost use Rattle·chain_keys·specs.specs.Keys.{groupAt, numberAt, PiecePlaced, Grouping, Keyable, Keyed, keyedAt, bothKeyed};
-ghost use Rattle·chain_keys·specs.specs.Map.{bothKeys};
+use rules::{Grid, PIECE};
 
 // The words of the keys of a piece's two ends.
 pub const BOTH_KEYS: usize = 6;
 
 // The group of the piece whose record stands at p: that of its first member.
 fn group_of(w: &[u64], p: usize, members: usize, groups: &[u32]) -> u64
-    requires { ⌜ Grouping (now w) p members (now groups) ⌝ }
-    ensures { λ r. ⌜ r ≡ groupAt (now (w .entry)) p members (now (groups .entry)) ⌝ }
+    requires { Grouping w.now p members groups.now }
+    ensures { result ≡ group_at w.now p members groups.now }
 {
     let line = w[members + w[p] as usize] as usize;
     groups[line] as u64
@@ -32,8 +32,8 @@ fn number_at<'a>(
     input: &'a [u64],
     spare: &'a [u64],
 ) -> u64
-    requires { ⌜ PiecePlaced width (now w) p (now input) (now spare) × (axis < 2) ⌝ }
-    ensures { λ r. ⌜ r ≡ numberAt width (now (w .entry)) p side axis (now (input .entry)) (now (spare .entry)) ⌝ }
+    requires { PiecePlaced width w.now p input.now spare.now × (axis < 2) }
+    ensures { result ≡ number_at width w.now p side axis input.now spare.now }
 {
     let c = chain_pieces::coordinates_of(w, p, width, input, spare);
     if side == 0 {
@@ -44,8 +44,8 @@ fn number_at<'a>(
 
 // Three words at `at`.
 fn put_words(w: &mut [u64], at: usize, group: u64, x: u64, y: u64)
-    requires { ⌜ at + 3 ≤ length (now w) ⌝ }
-    ensures { λ _. ⌜ now (w .exit) ≡ set (set (set (now (w .entry)) at group) (at + 1) x) (at + 2) y ⌝ }
+    requires { at + 3 ≤ length w.old }
+    ensures { w.new ≡ set (set (set w.old at group) (at + 1) x) (at + 2) y }
 {
     w[at] = group;
     w[at + 1] = x;
@@ -64,9 +64,9 @@ fn put_exact<'a>(
     input: &'a [u64],
     spare: &'a [u64],
 )
-    requires { ⌜ PiecePlaced width (now w) (recordOf records q) (now input) (now spare) × Grouping (now w) (recordOf records q) members (now groups)
-        × (keys + q * bothKeys + 6 ≤ length (now w)) ⌝ }
-    ensures { λ _. ⌜ now (w .exit) ≡ bothKeyed width (now (w .entry)) records members keys q (now (groups .entry)) (now (input .entry)) (now (spare .entry)) ⌝ }
+    requires { PiecePlaced width w.old (record_of records q) input.now spare.now × Grouping w.old (record_of records q) members groups.now
+        × (keys + q * both_keys + 6 ≤ length w.old) }
+    ensures { w.new ≡ both_keyed width w.old records members keys q groups.now input.now spare.now }
 {
     let p = records + q * PIECE;
     let at = keys + q * BOTH_KEYS;
@@ -95,9 +95,9 @@ pub fn put_cell<'a>(
     origin_x: f64,
     origin_y: f64,
 )
-    requires { ⌜ PiecePlaced width (now w) p (now input) (now spare) × Grouping (now w) p members (now groups) × (at + 3 ≤ length (now w)) ⌝ }
-    ensures { λ _. ⌜ now (w .exit) ≡ keyedAt width (now (w .entry)) p side members at (now (groups .entry)) (now (input .entry))
-        (now (spare .entry)) (Cells tolerance «origin_x» «origin_y») ⌝ }
+    requires { PiecePlaced width w.old p input.now spare.now × Grouping w.old p members groups.now × (at + 3 ≤ length w.old) }
+    ensures { w.new ≡ keyed_at width w.old p side members at groups.now input.now
+        spare.now (Cells tolerance origin_x origin_y) }
 {
     let group = group_of(w, p, members, groups);
     let east = number_at(w, p, width, side, 0, input, spare);
@@ -119,9 +119,9 @@ fn collect_exact<'a>(
     input: &'a [u64],
     spare: &'a [u64],
 )
-    requires { ⌜ Keyable width (now w) records members keys count (now groups) (now input) (now spare) ⌝ }
-    ensures { λ _. ⌜ Keyed width (now (w .exit)) (now (w .entry)) records members keys count
-        (now (groups .entry)) (now (input .entry)) (now (spare .entry)) Exact ⌝ }
+    requires { Keyable width w.old records members keys count groups.now input.now spare.now }
+    ensures { Keyed width w.new w.old records members keys count
+        groups.now input.now spare.now Exact }
 {
     let mut q = 0;
     while q < count {
@@ -145,9 +145,9 @@ fn collect_cells<'a>(
     origin_x: f64,
     origin_y: f64,
 )
-    requires { ⌜ Keyable width (now w) records members keys count (now groups) (now input) (now spare) ⌝ }
-    ensures { λ _. ⌜ Keyed width (now (w .exit)) (now (w .entry)) records members keys count (now (groups .entry)) (now (input .entry))
-        (now (spare .entry)) (Cells tolerance «origin_x» «origin_y») ⌝ }
+    requires { Keyable width w.old records members keys count groups.now input.now spare.now }
+    ensures { Keyed width w.new w.old records members keys count groups.now input.now
+        spare.now (Cells tolerance origin_x origin_y) }
 {
     let mut e = 0;
     while e < count * 2 {
@@ -182,34 +182,16 @@ pub fn collect_keys<'a>(
     spare: &'a [u64],
     grid: Grid,
 )
-    requires { ⌜ Keyable width (now w) records members keys count (now groups) (now input) (now spare) ⌝ }
-    ensures { λ _. ⌜ Keyed width (now (w .exit)) (now (w .entry)) records members keys count (now (groups .entry)) (now (input .entry))
-        (now (spare .entry)) grid ⌝ }
+    requires { Keyable width w.old records members keys count groups.now input.now spare.now }
+    ensures { Keyed width w.new w.old records members keys count groups.now input.now
+        spare.now grid }
 {
     match grid {
         Grid::Exact => collect_exact(
-            w,
-            records,
-            members,
-            keys,
-            count,
-            width,
-            groups,
-            input,
-            spare,
+            w, records, members, keys, count, width, groups, input, spare,
         ),
         Grid::Cells(tolerance, origin_x, origin_y) => collect_cells(
-            w,
-            records,
-            members,
-            keys,
-            count,
-            width,
-            groups,
-            input,
-            spare,
-            tolerance,
-            origin_x,
+            w, records, members, keys, count, width, groups, input, spare, tolerance, origin_x,
             origin_y,
         ),
     }

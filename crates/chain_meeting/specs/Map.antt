@@ -1,5 +1,5 @@
 -- Where the ends of a round's walks are grouped, in words for each line of the call: where the next round has its groups, as this round's part counts.
-use Prim.Native.Nat.{ℕ}
+use Rattle.std.specs.Prelude.{ℕ}
 
-abbrev pub meetingBlock : ℕ
-meetingBlock = 138
+abbrev pub meeting_block : ℕ
+meeting_block = 138

@@ -1,19 +1,16 @@
 // Where the ends of a round's walks meet by the cells of the next one, before anything is laid: an end of a walk is an end of a line, and has its key.
-use chain_grouping::KEY;
-use chain_grouping::KEYS;
-use chain_pieces::JOINS;
-use chain_pieces::MEMBERS;
-use chain_pieces::NODE;
-use chain_pieces::TAKEN;
-use chain_walks::ENTRIES;
-use chain_walks::LENGTHS;
-use rules::PIECE;
-use rules::Settings;
-ghost use Prim.Native.Nat.{_*_};
-ghost use Rattle·rules.specs.declared.Grid.the-variants.{Cells};
-ghost use Rattle·chain_outer.specs.Outer.{outerOf};
-ghost use Rattle·point_slices.specs.Holds.{HoldsFrom};
-ghost use Rattle·chain_meeting·specs.specs.Meeting.{OuterListable, Collectable, Collected, Meetable, Met};
+#![tactic(auto)]
+
+ghost use Rattle.std.specs.Prelude.{◌*◌};
+ghost use Rattle.rules.specs.declared.Grid.TheVariants.{Cells};
+ghost use Rattle.chain_outer.specs.Outer.{outer_of};
+ghost use Rattle.point_slices.specs.Holds.{HoldsFrom};
+ghost use Rattle.chain_meeting.specs.Meeting.{OuterListable, Collectable, Collected, Meetable, Met};
+
+use chain_grouping::{KEY, KEYS};
+use chain_pieces::{JOINS, MEMBERS, NODE, TAKEN};
+use chain_walks::{ENTRIES, LENGTHS};
+use rules::{PIECE, Settings};
 
 // The groups of the next round, as this round's part of the workspace counts: that part begins where the next round has the pieces that go in.
 pub const MEETING: usize = 138;
@@ -21,8 +18,8 @@ pub const MEETING: usize = 138;
 // The outer ends of r walks, from `at` on: for each walk the end at which it is entered and the end at which it is left. The entries of all walks stand from
 // `entries` on, and their lengths from `lengths` on.
 fn list_outer(w: &mut [u64], entries: usize, lengths: usize, r: usize, at: usize)
-    requires { ⌜ OuterListable (now w) entries lengths r at ⌝ }
-    ensures { λ _. ⌜ ((y : OuterListable (now (w .entry)) entries lengths r at) → HoldsFrom (now (w .exit)) (now (w .entry)) at (r * 2) (outerOf (y .ws))) ⌝ }
+    requires { OuterListable w.old entries lengths r at }
+    ensures { (y : OuterListable w.old entries lengths r at) → HoldsFrom w.new w.old at (r * 2) (outer_of y.ws) }
 {
     let mut from = entries;
     let mut j: usize = 0;
@@ -52,9 +49,9 @@ fn collect_outer(
     origin_x: f64,
     origin_y: f64,
 )
-    requires { ⌜ Collectable width (now w) records members ends keys k (now groups) (now input) ⌝ }
-    ensures { λ _. ⌜ Collected width (now (w .exit)) (now (w .entry)) records members ends keys k (now (groups .entry)) (now (input .entry))
-        (Cells tolerance «origin_x» «origin_y») ⌝ }
+    requires { Collectable width w.old records members ends keys k groups.now input.now }
+    ensures { Collected width w.new w.old records members ends keys k groups.now input.now
+        (Cells tolerance origin_x origin_y) }
 {
     let mut t = 0;
     while t < k {
@@ -88,9 +85,9 @@ pub fn meet(
     groups: &[u32],
     input: &[u64],
 )
-    requires { ⌜ Meetable width (now w) n m r (now groups) (now input) ⌝ }
-    ensures { λ _. ⌜ ((y : Meetable width (now (w .entry)) n m r (now (groups .entry)) (now (input .entry)))
-        → Met (now (w .exit)) (now (w .entry)) n r settings (y .rule) (y .ps)) ⌝ }
+    requires { Meetable width w.old n m r groups.now input.now }
+    ensures { (y : Meetable width w.old n m r groups.now input.now)
+        → Met w.new w.old n r settings y.rule y.ps }
 {
     let ends = r * 2;
     let at = n * MEETING;

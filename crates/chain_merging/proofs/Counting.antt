@@ -1,65 +1,65 @@
 -- The members of a walk, counted: what is counted and what is left are the members of its piece.
-use Prim.Native.Nat.{ℕ, _+_, _-_, _≤_, _<_}
-use mathlib.Core.Path.{_≡_, sym, ap, _∙_}
-use mathlib.Core.List.{List, [], flatMap}
+use Prim.Native.Nat.{ℕ, ◌+◌, ◌-◌, ◌≤◌, ◌<◌}
+use mathlib.Core.Path.{◌≡◌, sym, ap, ◌∙◌}
+use mathlib.Core.List.{List, [], flat_map}
 use native.Mathlib.Omega.{arith}
-use lib.ListN.{length, getD, length-append}
-use lib.Seq.{slice, slice-empty}
-use Rattle·rules.specs.Walking.{pieceOf}
-use Rattle·rules.specs.Chaining.{pieceAt, merge}
-use Rattle·rules.specs.Refusals.{pieceSize}
-use Rattle·chain_pieces.specs.Held.{recordOf}
-use Rattle·chain_pieces.proofs.Reading.{member-count, record-inside}
-use Rattle·chain_merging·specs.specs.Emit.{Entered, Counted, joinedOf}
-use Rattle·chain_merging·proofs.proofs.Coordinates.{entry-next}
+use lib.ListN.{length, get_or, length-append}
+use lib.Seq.{slice, slice_empty}
+use Rattle.rules.specs.Walking.{piece_of}
+use Rattle.rules.specs.Chaining.{piece_at, merge}
+use Rattle.rules.specs.Refusals.{piece_size}
+use Rattle.chain_pieces.specs.Held.{record_of}
+use Rattle.chain_pieces.proofs.Reading.{member_count_lem, record_inside}
+use Rattle.chain_merging.specs.Emit.{Entered, Counted, joined_of}
+use Rattle.chain_merging.proofs.Coordinates.{entry_next}
 
 module _ (w : List ℕ) (old from to : ℕ) (y : Counted w old from to) where
-  abbrev z : Entered (y .width) w old from to (y .input) (y .spare)
-  z = y .entered
+  abbrev z : Entered y.width w old from to y.input y.spare
+  z = y.entered
 
-  abbrev linesAt : ℕ → List ℕ
-  linesAt e = pieceAt (z .rule) (z .ps) e .lines
+  abbrev lines_at : ℕ → List ℕ
+  lines_at e = (piece_at z.rule z.ps e).lines
 
   pub record Counting (r k : ℕ) : Type 0 where
-    pub goes : r + length (flatMap (λ e. pieceAt (z .rule) (z .ps) e .lines) (slice k to w)) ≡ length (joinedOf (y .entered) .lines)
+    pub goes : r + length (flat_map (λ e. (piece_at z.rule z.ps e).lines) (slice k to w)) ≡ length (joined_of y.entered).lines
     pub low : from ≤ k
     pub high : k ≤ to
 
-  pub counting-start : Counting 0 from
+  pub counting_start : Counting 0 from
   unfolding merge
-  counting-start = record { goes = omega arith; low = omega arith; high = omega (arith, z .some) }
+  counting_start = record { goes = omega arith; low = omega arith; high = omega (arith, z.some) }
 
-  pub counting-done : (r k : ℕ) → Counting r k → to ≤ k → r ≡ length (joinedOf (y .entered) .lines)
-  unfolding flatMap
-  counting-done r k o h =
-      let e : k ≡ to = omega (arith, o .high) in
-      let past : slice k to w ≡ [] = ap (λ (i : ℕ). slice i to w) e ∙ slice-empty to w in
-      omega (arith, o .goes, ap (λ (l : List ℕ). length (flatMap linesAt l)) past)
+  pub counting_done : (r k : ℕ) → Counting r k → to ≤ k → r ≡ length (joined_of y.entered).lines
+  unfolding flat_map
+  counting_done r k o h =
+      let e : k ≡ to = omega (arith, o.high) in
+      let past : slice k to w ≡ [] = ap (λ (i : ℕ). slice i to w) e ∙ slice_empty to w in
+      omega (arith, o.goes, ap (λ (l : List ℕ). length (flat_map lines_at l)) past)
 
   module _ (r k : ℕ) (o : Counting r k) (h : k < to) where
     abbrev q : ℕ
-    q = pieceOf (getD w k 0)
+    q = piece_of (get_or w k 0)
 
-    below : q < length (z .ps)
-    below = z .below k (o .low) h
+    below : q < length z.ps
+    below = z.below k o.low h
 
-    pub counted-inside : recordOf old (pieceOf (getD w k 0)) + pieceSize ≤ length w
-    counted-inside =
-        omega (arith, record-inside (y .width) w old (z .n) (y .input) (y .spare) (z .counts) (z .ps) (z .held) q below, z .held .room)
+    pub counted_inside : record_of old (piece_of (get_or w k 0)) + piece_size ≤ length w
+    counted_inside =
+        omega (arith, record_inside y.width w old z.n y.input y.spare z.counts z.ps z.held q below, z.held.room)
 
-    count-is : getD w (recordOf old q + 1) 0 ≡ length (linesAt (getD w k 0))
-    unfolding pieceAt
-    count-is = member-count (y .width) w old (z .n) (y .input) (y .spare) (z .counts) (z .ps) (z .held) q below
+    count_is : get_or w (record_of old q + 1) 0 ≡ length (lines_at (get_or w k 0))
+    unfolding piece_at
+    count_is = member_count_lem y.width w old z.n y.input y.spare z.counts z.ps z.held q below
 
-    split : length (flatMap linesAt (slice k to w)) ≡ getD w (recordOf old q + 1) 0 + length (flatMap linesAt (slice (k + 1) to w))
-    unfolding flatMap
+    split : length (flat_map lines_at (slice k to w)) ≡ get_or w (record_of old q + 1) 0 + length (flat_map lines_at (slice (k + 1) to w))
+    unfolding flat_map
     split =
-        ap (λ (l : List ℕ). length (flatMap linesAt l)) (entry-next (y .width) w old from to (y .input) (y .spare) z k (o .low) h)
-        ∙ length-append (linesAt (getD w k 0)) (flatMap linesAt (slice (k + 1) to w))
-        ∙ ap (λ (i : ℕ). i + length (flatMap linesAt (slice (k + 1) to w))) (sym count-is)
+        ap (λ (l : List ℕ). length (flat_map lines_at l)) (entry_next y.width w old from to y.input y.spare z k o.low h)
+        ∙ length-append (lines_at (get_or w k 0)) (flat_map lines_at (slice (k + 1) to w))
+        ∙ ap (λ (i : ℕ). i + length (flat_map lines_at (slice (k + 1) to w))) (sym count_is)
 
-    pub counting-fits : r + getD w (recordOf old (pieceOf (getD w k 0)) + 1) 0 ≤ length w
-    counting-fits = omega (arith, split, o .goes, z .listed, z .held .room)
+    pub counting_fits : r + get_or w (record_of old (piece_of (get_or w k 0)) + 1) 0 ≤ length w
+    counting_fits = omega (arith, split, o.goes, z.listed, z.held.room)
 
-    pub counting-step : Counting (r + getD w (recordOf old (pieceOf (getD w k 0)) + 1) 0) (k + 1)
-    counting-step = record { goes = omega (arith, split, o .goes); low = omega (arith, o .low); high = omega arith }
+    pub counting_step : Counting (r + get_or w (record_of old (piece_of (get_or w k 0)) + 1) 0) (k + 1)
+    counting_step = record { goes = omega (arith, split, o.goes); low = omega (arith, o.low); high = omega arith }

@@ -1,274 +1,274 @@
 -- The members, marks and listing of all walks, one piece after another: what stands at the front after k entries are those of their pieces. The pieces
 -- that went in stand beyond, and are read as they were; and the three blocks lie one behind another, so that writing in one leaves the others.
-use Prim.Native.Nat.{ℕ, _+_, _-_, _*_, _%_, _≤_, _<_}
-use mathlib.Core.Path.{_≡_, refl, sym, ap, _∙_, subst}
-use mathlib.Core.List.{List, [], _∷_, _++_, flatMap, append-nil}
+use Prim.Native.Nat.{ℕ, ◌+◌, ◌-◌, ◌*◌, ◌%◌, ◌≤◌, ◌<◌}
+use mathlib.Core.Path.{◌≡◌, refl, sym, ap, ◌∙◌, subst}
+use mathlib.Core.List.{List, [], ◌∷◌, ◌++◌, flat_map, append-nil}
 use native.Mathlib.Omega.{arith}
 use native.Mathlib.Numerals.{add-one}
-use lib.ListN.{length, take-append-drop, getD, take, drop, length-append}
-use lib.Seq.{slice, slice-empty, take-suc, take-all}
-use Rattle·rules.specs.Walking.{pieceOf}
-use Rattle·rules.specs.Chaining.{Piece, pieceAt, passed, turned, merge}
-use Rattle·rules.specs.Refusals.{pieceSize}
-use Rattle·chain_laws.proofs.Counts.{each-of}
-use Rattle·chain_laws.proofs.Drawn.{Low, Drawn, listing-long, merge-drawn}
-use Rattle·chain_laws.proofs.Lines.{flatMap-append}
-use Rattle·point_slices.specs.Holds.{HoldsFrom}
-use Rattle·point_slices.proofs.Laws.{rest-getD, from-length, slice-below, slice-beyond, slice-more, part-length, take-before, drop-past}
-use Rattle·chain_pieces.specs.Held.{recordOf, Held}
-use Rattle·chain_pieces.proofs.Reading.{getD-part, member-count, members-are, marks-are, listing-is, members-inside, record-inside, held-beyond}
-use Rattle·chain_merging·specs.specs.Emit.{turnedBy, passedBy, Listable, Members, PiecesListable, Listed}
-use Rattle·chain_pieces.specs.Map.{joinBlock, listingBlock, markBlock, memberBlock}
+use lib.ListN.{length, take-append-drop, get_or, take, drop, length-append}
+use lib.Seq.{slice, slice_empty, take-suc, take_all}
+use Rattle.rules.specs.Walking.{piece_of}
+use Rattle.rules.specs.Chaining.{Piece, piece_at, passed, turned, merge}
+use Rattle.rules.specs.Refusals.{piece_size}
+use Rattle.chain_laws.proofs.Counts.{each_of}
+use Rattle.chain_laws.proofs.Drawn.{Low, Drawn, listing_long, merge_drawn}
+use Rattle.chain_laws.proofs.Lines.{flat_map_append}
+use Rattle.point_slices.specs.Holds.{HoldsFrom}
+use Rattle.point_slices.proofs.Laws.{rest_get_d, from_length, slice_below, slice_beyond, slice_more, part_length, take_before, drop_past}
+use Rattle.chain_pieces.specs.Held.{record_of, Held}
+use Rattle.chain_pieces.proofs.Reading.{get_d_part, member_count_lem, members_are, marks_are, listing_is, members_inside, record_inside, held_beyond}
+use Rattle.chain_merging.specs.Emit.{turned_by, passed_by, Listable, Members, PiecesListable, Listed}
+use Rattle.chain_pieces.specs.Map.{join_block, listing_block, mark_block, member_block}
 
 -- a block at a with r numbers in it, and c more
-block-more : {w′ w new : List ℕ} {c : ℕ} {out : List ℕ} (r a : ℕ) → HoldsFrom w′ w (r + a) c new → r + a + c ≤ length w → slice a (r + a) w ≡ out
-    → slice a (r + c + a) w′ ≡ out ++ new
-block-more {w′} {w} {new} {c} r a h k e =
+block_more : {w' w new : List ℕ} {c : ℕ} {out : List ℕ} (r a : ℕ) → HoldsFrom w' w (r + a) c new → r + a + c ≤ length w → slice a (r + a) w ≡ out
+    → slice a (r + c + a) w' ≡ out ++ new
+block_more {w'} {w} {new} {c} r a h k e =
     let s : r + c + a ≡ r + a + c = omega arith in
-    ap (λ (i : ℕ). slice a i w′) s ∙ slice-more h k a (omega arith) ∙ ap (λ (l : List ℕ). l ++ new) e
+    ap (λ (i : ℕ). slice a i w') s ∙ slice_more h k a (omega arith) ∙ ap (λ (l : List ℕ). l ++ new) e
 
 module _ (w₀ : List ℕ) (n old entries m : ℕ) (y : PiecesListable w₀ n old entries m) where
   abbrev es : List ℕ
   es = slice entries (entries + m) w₀
 
-  abbrev linesOn : List ℕ → List ℕ
-  linesOn l = flatMap (λ e. pieceAt (y .rule) (y .ps) e .lines) l
+  abbrev lines_on : List ℕ → List ℕ
+  lines_on l = flat_map (λ e. (piece_at y.rule y.ps e).lines) l
 
-  abbrev marksOn : List ℕ → List ℕ
-  marksOn l = flatMap (turned (y .rule) (y .ps)) l
+  abbrev marks_on : List ℕ → List ℕ
+  marks_on l = flat_map (turned y.rule y.ps) l
 
-  abbrev listingOn : List ℕ → List ℕ
-  listingOn l = flatMap (passed (y .rule) (y .ps)) l
+  abbrev listing_on : List ℕ → List ℕ
+  listing_on l = flat_map (passed y.rule y.ps) l
 
   -- the first k entries are done: r numbers stand in each block at the front
   pub record Listing (w : List ℕ) (r k : ℕ) : Type 0 where
     pub high : k ≤ m
     pub size : length w ≡ length w₀
-    pub front : take (n * memberBlock) w ≡ take (n * memberBlock) w₀
-    pub rest : drop (n * joinBlock) w ≡ drop (n * joinBlock) w₀
-    pub count : r ≡ length (flatMap (λ e. pieceAt (y .rule) (y .ps) e .lines) (take k (slice entries (entries + m) w₀)))
-    pub members : slice (n * memberBlock) (r + n * memberBlock) w ≡ flatMap (λ e. pieceAt (y .rule) (y .ps) e .lines) (take k (slice entries (entries + m) w₀))
-    pub marks : slice (n * markBlock) (r + n * markBlock) w ≡ flatMap (turned (y .rule) (y .ps)) (take k (slice entries (entries + m) w₀))
-    pub listing : slice (n * listingBlock) (r + n * listingBlock) w ≡ flatMap (passed (y .rule) (y .ps)) (take k (slice entries (entries + m) w₀))
+    pub front : take (n * member_block) w ≡ take (n * member_block) w₀
+    pub rest : drop (n * join_block) w ≡ drop (n * join_block) w₀
+    pub count : r ≡ length (flat_map (λ e. (piece_at y.rule y.ps e).lines) (take k (slice entries (entries + m) w₀)))
+    pub members : slice (n * member_block) (r + n * member_block) w ≡ flat_map (λ e. (piece_at y.rule y.ps e).lines) (take k (slice entries (entries + m) w₀))
+    pub marks : slice (n * mark_block) (r + n * mark_block) w ≡ flat_map (turned y.rule y.ps) (take k (slice entries (entries + m) w₀))
+    pub listing : slice (n * listing_block) (r + n * listing_block) w ≡ flat_map (passed y.rule y.ps) (take k (slice entries (entries + m) w₀))
 
-  nothing-yet : (a : ℕ) → slice a (0 + a) w₀ ≡ []
-  nothing-yet a = let e : 0 + a ≡ a = omega arith in ap (λ (i : ℕ). slice a i w₀) e ∙ slice-empty a w₀
+  nothing_yet : (a : ℕ) → slice a (0 + a) w₀ ≡ []
+  nothing_yet a = let e : 0 + a ≡ a = omega arith in ap (λ (i : ℕ). slice a i w₀) e ∙ slice_empty a w₀
 
-  pub listing-start : Listing w₀ 0 0
-  unfolding flatMap
-  listing-start =
+  pub listing_start : Listing w₀ 0 0
+  unfolding flat_map
+  listing_start =
       record {
         high = omega arith;
         size = refl;
         front = refl;
         rest = refl;
         count = refl;
-        members = nothing-yet (n * memberBlock);
-        marks = nothing-yet (n * markBlock);
-        listing = nothing-yet (n * listingBlock);
+        members = nothing_yet (n * member_block);
+        marks = nothing_yet (n * mark_block);
+        listing = nothing_yet (n * listing_block);
       }
 
-  es-size : length es ≡ m
-  es-size = part-length entries m w₀ (y .inside)
+  es_size : length es ≡ m
+  es_size = part_length entries m w₀ y.inside
 
-  drawn-at : (e : ℕ) → pieceOf e < length (y .ps) → Drawn (pieceAt (y .rule) (y .ps) e)
-  unfolding pieceAt
-  drawn-at e b = y .held .drawn (pieceOf e) b
+  drawn_at : (e : ℕ) → piece_of e < length y.ps → Drawn (piece_at y.rule y.ps e)
+  unfolding piece_at
+  drawn_at e b = y.held.drawn (piece_of e) b
 
-  all-drawn : Drawn (merge (y .rule) (y .ps) es)
-  all-drawn =
-      merge-drawn (y .rule) (y .ps) es
-      (each-of (λ e. Drawn (pieceAt (y .rule) (y .ps) e)) es 0
+  all_drawn : Drawn (merge y.rule y.ps es)
+  all_drawn =
+      merge_drawn y.rule y.ps es
+      (each_of (λ e. Drawn (piece_at y.rule y.ps e)) es 0
       (λ k h.
-      let b : k < m = omega (arith, es-size) in
-      drawn-at (getD es k 0) (rw (getD-part entries m w₀ k b) (y .below k b))))
+      let b : k < m = omega (arith, es_size) in
+      drawn_at (get_or es k 0) (rw (get_d_part entries m w₀ k b) (y.below k b))))
 
-  pub listing-done : (w : List ℕ) (r k : ℕ) → Listing w r k → m ≤ k → Listed w w₀ n (merge (y .rule) (y .ps) (slice entries (entries + m) w₀))
+  pub listing_done : (w : List ℕ) (r k : ℕ) → Listing w r k → m ≤ k → Listed w w₀ n (merge y.rule y.ps (slice entries (entries + m) w₀))
   unfolding merge
-  listing-done w r k o h =
-      let all : take k es ≡ es = take-all k es (omega (arith, es-size)) in
-      let c : r ≡ length (linesOn es) = o .count ∙ ap (λ (l : List ℕ). length (linesOn l)) all in
-      let a : n * memberBlock + length (linesOn es) ≡ r + n * memberBlock = omega arith in
-      let b : n * markBlock + length (marksOn es) ≡ r + n * markBlock = omega (arith, all-drawn .marked) in
-      let d : n * listingBlock + length (listingOn es) ≡ r + n * listingBlock = omega (arith, listing-long (merge (y .rule) (y .ps) es) all-drawn) in
+  listing_done w r k o h =
+      let all : take k es ≡ es = take_all k es (omega (arith, es_size)) in
+      let c : r ≡ length (lines_on es) = o.count ∙ ap (λ (l : List ℕ). length (lines_on l)) all in
+      let a : n * member_block + length (lines_on es) ≡ r + n * member_block = omega arith in
+      let b : n * mark_block + length (marks_on es) ≡ r + n * mark_block = omega (arith, all_drawn.marked) in
+      let d : n * listing_block + length (listing_on es) ≡ r + n * listing_block = omega (arith, listing_long (merge y.rule y.ps es) all_drawn) in
       record {
-        size = o .size;
-        front = o .front;
-        members = ap (λ (i : ℕ). slice (n * memberBlock) i w) a ∙ o .members ∙ ap linesOn all;
-        marks = ap (λ (i : ℕ). slice (n * markBlock) i w) b ∙ o .marks ∙ ap marksOn all;
-        listing = ap (λ (i : ℕ). slice (n * listingBlock) i w) d ∙ o .listing ∙ ap listingOn all;
-        rest = o .rest;
+        size = o.size;
+        front = o.front;
+        members = ap (λ (i : ℕ). slice (n * member_block) i w) a ∙ o.members ∙ ap lines_on all;
+        marks = ap (λ (i : ℕ). slice (n * mark_block) i w) b ∙ o.marks ∙ ap marks_on all;
+        listing = ap (λ (i : ℕ). slice (n * listing_block) i w) d ∙ o.listing ∙ ap listing_on all;
+        rest = o.rest;
       }
 
   module _ (w : List ℕ) (r k : ℕ) (o : Listing w r k) (h : k < m) where
     abbrev e : ℕ
-    e = getD w (entries + k) 0
+    e = get_or w (entries + k) 0
 
     abbrev p : Piece
-    p = pieceAt (y .rule) (y .ps) e
+    p = piece_at y.rule y.ps e
 
-    entry-is : e ≡ getD es k 0
-    entry-is = rest-getD w w₀ (n * joinBlock) (o .rest) (entries + k) (omega (arith, y .beyond)) ∙ sym (getD-part entries m w₀ k h)
+    entry_is : e ≡ get_or es k 0
+    entry_is = rest_get_d w w₀ (n * join_block) o.rest (entries + k) (omega (arith, y.beyond)) ∙ sym (get_d_part entries m w₀ k h)
 
-    held : Held (y .width) w old n (y .input) (y .copies) (y .counts) (y .ps)
-    held = held-beyond (y .width) w w₀ old n (n * joinBlock) (y .input) (y .copies) (y .counts) (y .ps) (o .rest) (o .size) (y .front) (y .held)
+    held : Held y.width w old n y.input y.copies y.counts y.ps
+    held = held_beyond y.width w w₀ old n (n * join_block) y.input y.copies y.counts y.ps o.rest o.size y.front y.held
 
     abbrev q : ℕ
-    q = pieceOf e
+    q = piece_of e
 
-    below : q < length (y .ps)
-    below = rw (rest-getD w w₀ (n * joinBlock) (o .rest) (entries + k) (omega (arith, y .beyond))) (y .below k h)
+    below : q < length y.ps
+    below = rw (rest_get_d w w₀ (n * join_block) o.rest (entries + k) (omega (arith, y.beyond))) (y.below k h)
 
     abbrev at : ℕ
-    at = recordOf old q
+    at = record_of old q
 
-    abbrev count-here : ℕ
-    count-here = getD w (at + 1) 0
+    abbrev count_here : ℕ
+    count_here = get_or w (at + 1) 0
 
     abbrev from : ℕ
-    from = old + getD w at 0
+    from = old + get_or w at 0
 
-    pub listing-record : recordOf old (pieceOf (getD w (entries + k) 0)) + pieceSize ≤ length w
-    listing-record = omega (arith, record-inside (y .width) w old n (y .input) (y .copies) (y .counts) (y .ps) held q below, held .room)
+    pub listing_record : record_of old (piece_of (get_or w (entries + k) 0)) + piece_size ≤ length w
+    listing_record = omega (arith, record_inside y.width w old n y.input y.copies y.counts y.ps held q below, held.room)
 
-    part-inside : old + n * memberBlock + getD w at 0 + count-here ≤ old + n * markBlock
-    part-inside = members-inside (y .width) w old n (y .input) (y .copies) (y .counts) (y .ps) held q below
+    part_inside : old + n * member_block + get_or w at 0 + count_here ≤ old + n * mark_block
+    part_inside = members_inside y.width w old n y.input y.copies y.counts y.ps held q below
 
-    lines-here : slice (from + n * memberBlock) (from + n * memberBlock + count-here) w ≡ p .lines
-    unfolding pieceAt
-    lines-here =
-        let s : from + n * memberBlock ≡ old + n * memberBlock + getD w at 0 = omega arith in
-        ap (λ (i : ℕ). slice i (i + count-here) w) s ∙ members-are (y .width) w old n (y .input) (y .copies) (y .counts) (y .ps) held q below
+    lines_here : slice (from + n * member_block) (from + n * member_block + count_here) w ≡ p.lines
+    unfolding piece_at
+    lines_here =
+        let s : from + n * member_block ≡ old + n * member_block + get_or w at 0 = omega arith in
+        ap (λ (i : ℕ). slice i (i + count_here) w) s ∙ members_are y.width w old n y.input y.copies y.counts y.ps held q below
 
-    marks-here : slice (from + n * markBlock) (from + n * markBlock + count-here) w ≡ p .marks
-    unfolding pieceAt
-    marks-here =
-        let s : from + n * markBlock ≡ old + n * markBlock + getD w at 0 = omega arith in
-        ap (λ (i : ℕ). slice i (i + count-here) w) s ∙ marks-are (y .width) w old n (y .input) (y .copies) (y .counts) (y .ps) held q below
+    marks_here : slice (from + n * mark_block) (from + n * mark_block + count_here) w ≡ p.marks
+    unfolding piece_at
+    marks_here =
+        let s : from + n * mark_block ≡ old + n * mark_block + get_or w at 0 = omega arith in
+        ap (λ (i : ℕ). slice i (i + count_here) w) s ∙ marks_are y.width w old n y.input y.copies y.counts y.ps held q below
 
-    listing-here : slice (from + n * listingBlock) (from + n * listingBlock + count-here) w ≡ p .listing
-    unfolding pieceAt
-    listing-here =
-        let s : from + n * listingBlock ≡ old + n * listingBlock + getD w at 0 = omega arith in
-        ap (λ (i : ℕ). slice i (i + count-here) w) s ∙ listing-is (y .width) w old n (y .input) (y .copies) (y .counts) (y .ps) held q below
+    listing_here : slice (from + n * listing_block) (from + n * listing_block + count_here) w ≡ p.listing
+    unfolding piece_at
+    listing_here =
+        let s : from + n * listing_block ≡ old + n * listing_block + get_or w at 0 = omega arith in
+        ap (λ (i : ℕ). slice i (i + count_here) w) s ∙ listing_is y.width w old n y.input y.copies y.counts y.ps held q below
 
-    count-is : count-here ≡ length (p .lines)
-    unfolding pieceAt
-    count-is = member-count (y .width) w old n (y .input) (y .copies) (y .counts) (y .ps) held q below
+    count_is : count_here ≡ length p.lines
+    unfolding piece_at
+    count_is = member_count_lem y.width w old n y.input y.copies y.counts y.ps held q below
 
     taken : take (k + 1) es ≡ take k es ++ (e ∷ [])
-    taken = rw add-one (take-suc es k 0 (omega (arith, es-size)) ∙ ap (λ (i : ℕ). take k es ++ (i ∷ [])) (sym entry-is))
+    taken = rw add-one (take-suc es k 0 (omega (arith, es_size)) ∙ ap (λ (i : ℕ). take k es ++ (i ∷ [])) (sym entry_is))
 
     -- what one entry more adds, of any kind
-    next : (f : ℕ → List ℕ) → flatMap f (take (k + 1) es) ≡ flatMap f (take k es) ++ f e
-    unfolding flatMap
+    next : (f : ℕ → List ℕ) → flat_map f (take (k + 1) es) ≡ flat_map f (take k es) ++ f e
+    unfolding flat_map
     next f =
-        ap (λ (l : List ℕ). flatMap f l) taken ∙ flatMap-append f (take k es) (e ∷ []) ∙ ap (λ (l : List ℕ). flatMap f (take k es) ++ l) (append-nil (f e))
+        ap (λ (l : List ℕ). flat_map f l) taken ∙ flat_map_append f (take k es) (e ∷ []) ∙ ap (λ (l : List ℕ). flat_map f (take k es) ++ l) (append-nil (f e))
 
-    lines-next : linesOn (take (k + 1) es) ≡ linesOn (take k es) ++ p .lines
-    lines-next = next (λ e. pieceAt (y .rule) (y .ps) e .lines)
+    lines_next : lines_on (take (k + 1) es) ≡ lines_on (take k es) ++ p.lines
+    lines_next = next (λ e. (piece_at y.rule y.ps e).lines)
 
     -- no more members than all entries have
-    prefix : length (linesOn (take (k + 1) es)) ≤ length (linesOn es)
+    prefix : length (lines_on (take (k + 1) es)) ≤ length (lines_on es)
     prefix =
         omega (
           arith,
-          ap (λ (l : List ℕ). length (linesOn l)) (sym (take-append-drop (k + 1) es)),
-          ap length (flatMap-append (λ e. pieceAt (y .rule) (y .ps) e .lines) (take (k + 1) es) (drop (k + 1) es)),
-          length-append (linesOn (take (k + 1) es)) (linesOn (drop (k + 1) es)),
+          ap (λ (l : List ℕ). length (lines_on l)) (sym (take-append-drop (k + 1) es)),
+          ap length (flat_map_append (λ e. (piece_at y.rule y.ps e).lines) (take (k + 1) es) (drop (k + 1) es)),
+          length-append (lines_on (take (k + 1) es)) (lines_on (drop (k + 1) es)),
         )
 
-    pub listing-fits : r + getD w (recordOf old (pieceOf (getD w (entries + k) 0)) + 1) 0 ≤ n
+    pub listing_fits : r + get_or w (record_of old (piece_of (get_or w (entries + k) 0)) + 1) 0 ≤ n
     unfolding merge
-    listing-fits =
+    listing_fits =
         omega (
           arith,
           prefix,
-          ap length lines-next,
-          length-append (linesOn (take k es)) (p .lines),
-          o .count,
-          count-is,
-          y .fits,
+          ap length lines_next,
+          length-append (lines_on (take k es)) p.lines,
+          o.count,
+          count_is,
+          y.fits,
         )
 
-    pub listing-listable : Listable w n (old + getD w (recordOf old (pieceOf (getD w (entries + k) 0))) 0) r
-        (getD w (recordOf old (pieceOf (getD w (entries + k) 0)) + 1) 0) (getD w (entries + k) 0 % 2)
-    listing-listable =
+    pub listing_listable : Listable w n (old + get_or w (record_of old (piece_of (get_or w (entries + k) 0))) 0) r
+        (get_or w (record_of old (piece_of (get_or w (entries + k) 0)) + 1) 0) (get_or w (entries + k) 0 % 2)
+    listing_listable =
         record {
-          fits = listing-fits;
-          beyond = omega (arith, y .front);
-          inside = omega (arith, part-inside, held .room);
+          fits = listing_fits;
+          beyond = omega (arith, y.front);
+          inside = omega (arith, part_inside, held.room);
           one = omega arith;
-          low = subst (Low 1) (sym marks-here) (drawn-at e below .low);
+          low = subst (Low 1) (sym marks_here) (drawn_at e below).low;
         }
 
-    module _ (w₃ : List ℕ) (g : Members w₃ w n (old + getD w (recordOf old (pieceOf (getD w (entries + k) 0))) 0) r
-        (getD w (recordOf old (pieceOf (getD w (entries + k) 0)) + 1) 0) (getD w (entries + k) 0 % 2))
+    module _ (w₃ : List ℕ) (g : Members w₃ w n (old + get_or w (record_of old (piece_of (get_or w (entries + k) 0))) 0) r
+        (get_or w (record_of old (piece_of (get_or w (entries + k) 0)) + 1) 0) (get_or w (entries + k) 0 % 2))
       where
         abbrev w₁ : List ℕ
-        w₁ = g .copied
+        w₁ = g.copied
 
         abbrev w₂ : List ℕ
-        w₂ = g .marked
+        w₂ = g.marked
 
-        in-one : r + n * memberBlock + count-here ≤ length w
-        in-one = omega (arith, listing-fits, held .room, y .front)
+        in_one : r + n * member_block + count_here ≤ length w
+        in_one = omega (arith, listing_fits, held.room, y.front)
 
-        size-one : length w₁ ≡ length w
-        size-one = from-length (g .members) in-one
+        size_one : length w₁ ≡ length w
+        size_one = from_length g.members in_one
 
-        in-two : r + n * markBlock + count-here ≤ length w₁
-        in-two = omega (arith, size-one, listing-fits, held .room, y .front)
+        in_two : r + n * mark_block + count_here ≤ length w₁
+        in_two = omega (arith, size_one, listing_fits, held.room, y.front)
 
-        size-two : length w₂ ≡ length w
-        size-two = from-length (g .marks) in-two ∙ size-one
+        size_two : length w₂ ≡ length w
+        size_two = from_length g.marks in_two ∙ size_one
 
-        in-three : r + n * listingBlock + count-here ≤ length w₂
-        in-three = omega (arith, size-two, listing-fits, held .room, y .front)
+        in_three : r + n * listing_block + count_here ≤ length w₂
+        in_three = omega (arith, size_two, listing_fits, held.room, y.front)
 
-        marks-more : turnedBy (e % 2) (slice (from + n * markBlock) (from + n * markBlock + count-here) w) ≡ turned (y .rule) (y .ps) e
+        marks_more : turned_by (e % 2) (slice (from + n * mark_block) (from + n * mark_block + count_here) w) ≡ turned y.rule y.ps e
         unfolding turned
-        marks-more = ap (turnedBy (e % 2)) marks-here
+        marks_more = ap (turned_by (e % 2)) marks_here
 
-        listing-more : passedBy (e % 2) (slice (from + n * listingBlock) (from + n * listingBlock + count-here) w) ≡ passed (y .rule) (y .ps) e
+        listing_more : passed_by (e % 2) (slice (from + n * listing_block) (from + n * listing_block + count_here) w) ≡ passed y.rule y.ps e
         unfolding passed
-        listing-more = ap (passedBy (e % 2)) listing-here
+        listing_more = ap (passed_by (e % 2)) listing_here
 
         -- what stands before the numbers that are added, in the marks and in the listing
-        marks-before : slice (n * markBlock) (r + n * markBlock) w₁ ≡ marksOn (take k es)
-        marks-before =
-            let s : r + n * markBlock ≡ n * markBlock + r = omega arith in
-            ap (λ (i : ℕ). slice (n * markBlock) i w₁) s ∙ slice-beyond (g .members) in-one (n * markBlock) r (omega (arith, listing-fits))
-            ∙ ap (λ (i : ℕ). slice (n * markBlock) i w) (sym s) ∙ o .marks
+        marks_before : slice (n * mark_block) (r + n * mark_block) w₁ ≡ marks_on (take k es)
+        marks_before =
+            let s : r + n * mark_block ≡ n * mark_block + r = omega arith in
+            ap (λ (i : ℕ). slice (n * mark_block) i w₁) s ∙ slice_beyond g.members in_one (n * mark_block) r (omega (arith, listing_fits))
+            ∙ ap (λ (i : ℕ). slice (n * mark_block) i w) (sym s) ∙ o.marks
 
-        listing-before : slice (n * listingBlock) (r + n * listingBlock) w₂ ≡ listingOn (take k es)
-        listing-before =
-            let s : r + n * listingBlock ≡ n * listingBlock + r = omega arith in
-            ap (λ (i : ℕ). slice (n * listingBlock) i w₂) s
-            ∙ slice-beyond (g .marks) in-two (n * listingBlock) r (omega (arith, listing-fits))
-            ∙ slice-beyond (g .members) in-one (n * listingBlock) r (omega (arith, listing-fits))
-            ∙ ap (λ (i : ℕ). slice (n * listingBlock) i w) (sym s) ∙ o .listing
+        listing_before : slice (n * listing_block) (r + n * listing_block) w₂ ≡ listing_on (take k es)
+        listing_before =
+            let s : r + n * listing_block ≡ n * listing_block + r = omega arith in
+            ap (λ (i : ℕ). slice (n * listing_block) i w₂) s
+            ∙ slice_beyond g.marks in_two (n * listing_block) r (omega (arith, listing_fits))
+            ∙ slice_beyond g.members in_one (n * listing_block) r (omega (arith, listing_fits))
+            ∙ ap (λ (i : ℕ). slice (n * listing_block) i w) (sym s) ∙ o.listing
 
-        pub listing-step : Listing w₃ (r + getD w (recordOf old (pieceOf (getD w (entries + k) 0)) + 1) 0) (k + 1)
-        listing-step =
+        pub listing_step : Listing w₃ (r + get_or w (record_of old (piece_of (get_or w (entries + k) 0)) + 1) 0) (k + 1)
+        listing_step =
             record {
               high = omega arith;
-              size = from-length (g .listing) in-three ∙ size-two ∙ o .size;
+              size = from_length g.listing in_three ∙ size_two ∙ o.size;
               front =
-                  take-before (g .listing) in-three (n * memberBlock) (omega arith)
-                  ∙ take-before (g .marks) in-two (n * memberBlock) (omega arith) ∙ take-before (g .members) in-one (n * memberBlock) (omega arith) ∙ o .front;
+                  take_before g.listing in_three (n * member_block) (omega arith)
+                  ∙ take_before g.marks in_two (n * member_block) (omega arith) ∙ take_before g.members in_one (n * member_block) (omega arith) ∙ o.front;
               rest =
-                  drop-past (g .listing) in-three (n * joinBlock) (omega (arith, listing-fits))
-                  ∙ drop-past (g .marks) in-two (n * joinBlock) (omega (arith, listing-fits))
-                  ∙ drop-past (g .members) in-one (n * joinBlock) (omega (arith, listing-fits)) ∙ o .rest;
-              count = omega (arith, o .count, count-is, ap length lines-next, length-append (linesOn (take k es)) (p .lines));
+                  drop_past g.listing in_three (n * join_block) (omega (arith, listing_fits))
+                  ∙ drop_past g.marks in_two (n * join_block) (omega (arith, listing_fits))
+                  ∙ drop_past g.members in_one (n * join_block) (omega (arith, listing_fits)) ∙ o.rest;
+              count = omega (arith, o.count, count_is, ap length lines_next, length-append (lines_on (take k es)) p.lines);
               members =
-                  slice-below (g .listing) in-three (n * memberBlock) (r + count-here + n * memberBlock) (omega (arith, listing-fits))
-                  ∙ slice-below (g .marks) in-two (n * memberBlock) (r + count-here + n * memberBlock) (omega (arith, listing-fits))
-                  ∙ block-more r (n * memberBlock) (g .members) in-one (o .members) ∙ ap (λ (l : List ℕ). linesOn (take k es) ++ l) lines-here ∙ sym lines-next;
+                  slice_below g.listing in_three (n * member_block) (r + count_here + n * member_block) (omega (arith, listing_fits))
+                  ∙ slice_below g.marks in_two (n * member_block) (r + count_here + n * member_block) (omega (arith, listing_fits))
+                  ∙ block_more r (n * member_block) g.members in_one o.members ∙ ap (λ (l : List ℕ). lines_on (take k es) ++ l) lines_here ∙ sym lines_next;
               marks =
-                  slice-below (g .listing) in-three (n * markBlock) (r + count-here + n * markBlock) (omega (arith, listing-fits))
-                  ∙ block-more r (n * markBlock) (g .marks) in-two marks-before ∙ ap (λ (l : List ℕ). marksOn (take k es) ++ l) marks-more ∙ sym (next (turned (y .rule) (y .ps)));
+                  slice_below g.listing in_three (n * mark_block) (r + count_here + n * mark_block) (omega (arith, listing_fits))
+                  ∙ block_more r (n * mark_block) g.marks in_two marks_before ∙ ap (λ (l : List ℕ). marks_on (take k es) ++ l) marks_more ∙ sym (next (turned y.rule y.ps));
               listing =
-                  block-more r (n * listingBlock) (g .listing) in-three listing-before ∙ ap (λ (l : List ℕ). listingOn (take k es) ++ l) listing-more ∙ sym (next (passed (y .rule) (y .ps)));
+                  block_more r (n * listing_block) g.listing in_three listing_before ∙ ap (λ (l : List ℕ). listing_on (take k es) ++ l) listing_more ∙ sym (next (passed y.rule y.ps));
             }

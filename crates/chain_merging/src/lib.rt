@@ -1,21 +1,20 @@
 // From walks to the pieces that come out of a round: their records, members, marks and listing go into the block at the front of the workspace, and
 // the coordinates of those that are no line alone into `merged`.
-use chain_pieces::LISTING;
-use chain_pieces::MARKS;
-use chain_pieces::MEMBERS;
+#![tactic(auto)]
+
+ghost use Rattle.std.specs.Prelude.{◌≡◌, ◌+◌, ◌*◌, ◌≤◌, length, take};
+ghost use mathlib.Core.List.{map, flat_map};
+ghost use Rattle.std.proofs.Math.Option.{none};
+ghost use Rattle.std.proofs.Math.Seq.{slice};
+ghost use Rattle.rules.specs.Plane.{flat};
+ghost use Rattle.rules.specs.Chaining.{lay, run, merge};
+ghost use Rattle.point_slices.specs.Holds.{Holds, HoldsFrom};
+ghost use Rattle.point_slices.specs.Run.{laid, walked};
+ghost use Rattle.chain_pieces.specs.Held.{coordinates_at, Recorded};
+ghost use Rattle.chain_merging.specs.Emit.{Counted, Mergeable, joined_of, Emittable, Emitted, turned_by, passed_by, Turnable, Listable, Members, PiecesListable, Listed, Walks, Tabled, Done};
+
+use chain_pieces::{LISTING, MARKS, MEMBERS};
 use rules::PIECE;
-ghost use mathlib.Core.Path.{_≡_};
-ghost use mathlib.Core.List.{map, flatMap};
-ghost use mathlib.Core.Option.{none};
-ghost use Prim.Native.Nat.{_+_, _*_, _≤_};
-ghost use lib.ListN.{length, take};
-ghost use lib.Seq.{slice};
-ghost use Rattle·rules.specs.Plane.{flat};
-ghost use Rattle·rules.specs.Chaining.{lay, run, merge};
-ghost use Rattle·point_slices.specs.Holds.{Holds, HoldsFrom};
-ghost use Rattle·point_slices.specs.Run.{laid, walked};
-ghost use Rattle·chain_pieces.specs.Held.{coordinatesAt, Recorded};
-ghost use Rattle·chain_merging·specs.specs.Emit.{Counted, Mergeable, joinedOf, Emittable, Emitted, turnedBy, passedBy, Turnable, Listable, Members, PiecesListable, Listed, Walks, Tabled, Done};
 
 // The coordinates of the piece whose record stands at p, behind the first `have` numbers of `rest`. Returns how many numbers there are.
 fn append_piece<'a>(
@@ -28,11 +27,11 @@ fn append_piece<'a>(
     have: usize,
     turned: bool,
 ) -> usize
-    requires { ⌜ (2 ≤ width) × Recorded width (now w) p (now input) (now spare)
-        × (have + length (coordinatesAt width (now w) p (now input) (now spare)) ≤ length (now rest)) ⌝ }
-    ensures { λ r. ⌜ Holds (now (rest .exit)) (now (rest .entry)) r
-        (laid width (take have (now (rest .entry)))
-        (walked width turned (coordinatesAt width (now (w .entry)) p (now (input .entry)) (now (spare .entry))))) ⌝ }
+    requires { (2 ≤ width) × Recorded width w.now p input.now spare.now
+        × (have + length (coordinates_at width w.now p input.now spare.now) ≤ length rest.old) }
+    ensures { Holds rest.new rest.old result
+        (laid width (take have rest.old)
+        (walked width turned (coordinates_at width w.now p input.now spare.now))) }
 {
     let c = chain_pieces::coordinates_of(w, p, width, input, spare);
     point_slices::append_run(rest, have, width, c, turned)
@@ -50,10 +49,10 @@ fn append_walk<'a>(
     merged: &mut [u64],
     at: usize,
 ) -> usize
-    requires { ⌜ Mergeable width (now w) old from to (now input) (now spare) (now merged) at ⌝ }
-    ensures { λ r. ⌜ ((y : Mergeable width (now (w .entry)) old from to (now (input .entry)) (now (spare .entry)) (now (merged .entry)) at)
-        → HoldsFrom (now (merged .exit)) (now (merged .entry)) at r
-        (flat width (lay none (flatMap (run (y .entered .rule) (y .entered .ps)) (slice from to (now (w .entry))))))) ⌝ }
+    requires { Mergeable width w.now old from to input.now spare.now merged.old at }
+    ensures { (y : Mergeable width w.now old from to input.now spare.now merged.old at)
+        → HoldsFrom merged.new merged.old at result
+        (flat width (lay none (flat_map (run y.entered.rule y.entered.ps) (slice from to w.now)))) }
 {
     let mut have: usize = 0;
     let mut k = from;
@@ -87,9 +86,9 @@ fn lay_walk<'a>(
     merged: &mut [u64],
     at: usize,
 ) -> usize
-    requires { ⌜ Mergeable width (now w) old from to (now input) (now spare) (now merged) at ⌝ }
-    ensures { λ r. ⌜ ((y : Mergeable width (now (w .entry)) old from to (now (input .entry)) (now (spare .entry)) (now (merged .entry)) at)
-        → HoldsFrom (now (merged .exit)) (now (merged .entry)) at r (flat width (joinedOf (y .entered) .points))) ⌝ }
+    requires { Mergeable width w.now old from to input.now spare.now merged.old at }
+    ensures { (y : Mergeable width w.now old from to input.now spare.now merged.old at)
+        → HoldsFrom merged.new merged.old at result (flat width (joined_of y.entered).points) }
 {
     if to - from == 1 {
         let p = old + w[from] as usize / 2 * PIECE;
@@ -102,8 +101,8 @@ fn lay_walk<'a>(
 
 // How many members the pieces of a walk have.
 fn count_members(w: &[u64], old: usize, from: usize, to: usize) -> usize
-    requires { ⌜ Counted (now w) old from to ⌝ }
-    ensures { λ r. ⌜ ((y : Counted (now (w .entry)) old from to) → r ≡ length (joinedOf (y .entered) .lines)) ⌝ }
+    requires { Counted w.now old from to }
+    ensures { (y : Counted w.now old from to) → result ≡ length (joined_of y.entered).lines }
 {
     let mut r: usize = 0;
     let mut k = from;
@@ -131,10 +130,10 @@ fn emit_walk<'a>(
     b: usize,
     c: usize,
 ) -> usize
-    requires { ⌜ Emittable width (now w) old from to (now input) (now spare) (now merged) at b c ⌝ }
-    ensures { λ r. ⌜ ((y : Emittable width (now (w .entry)) old from to (now (input .entry)) (now (spare .entry)) (now (merged .entry)) at b c)
-        → Emitted width (now (w .exit)) (now (w .entry)) (now (merged .exit)) (now (merged .entry)) (y .laying .entered .counts)
-        (joinedOf (y .laying .entered)) at m c r) ⌝ }
+    requires { Emittable width w.old old from to input.now spare.now merged.old at b c }
+    ensures { (y : Emittable width w.old old from to input.now spare.now merged.old at b c)
+        → Emitted width w.new w.old merged.new merged.old y.laying.entered.counts
+        (joined_of y.laying.entered) at m c result }
 {
     if b == 1 {
         let p = old + w[from] as usize / 2 * PIECE;
@@ -163,10 +162,10 @@ fn emit_walks<'a>(
     spare: &'a [u64],
     merged: &mut [u64],
 )
-    requires { ⌜ Walks width (now w) n old m entries lengths r (now input) (now spare) (now merged) ⌝ }
-    ensures { λ _. ⌜ ((y : Walks width (now (w .entry)) n old m entries lengths r (now (input .entry)) (now (spare .entry)) (now (merged .entry)))
-        → Tabled width (now (w .exit)) (now (w .entry)) n (now (merged .exit)) (now (merged .entry)) (y .counts)
-        (map (merge (y .rule) (y .ps)) (y .ws))) ⌝ }
+    requires { Walks width w.old n old m entries lengths r input.now spare.now merged.old }
+    ensures { (y : Walks width w.old n old m entries lengths r input.now spare.now merged.old)
+        → Tabled width w.new w.old n merged.new merged.old y.counts
+        (map (merge y.rule y.ps) y.ws) }
 {
     let mut from = entries;
     let mut members: usize = 0;
@@ -197,8 +196,8 @@ fn emit_walks<'a>(
 
 // The line of a piece of one: its member, its mark, turned once more where the piece is entered at end 1, and its place in the listing.
 fn list_one(w: &mut [u64], n: usize, from: usize, at: usize, side: usize)
-    requires { ⌜ Listable (now w) n from at 1 side ⌝ }
-    ensures { λ _. ⌜ Members (now (w .exit)) (now (w .entry)) n from at 1 side ⌝ }
+    requires { Listable w.old n from at 1 side }
+    ensures { Members w.new w.old n from at 1 side }
 {
     let line = w[from + n * MEMBERS];
     let mark = w[from + n * MARKS];
@@ -210,8 +209,8 @@ fn list_one(w: &mut [u64], n: usize, from: usize, at: usize, side: usize)
 
 // The two lines of a piece: members and marks in their order, and in the listing that one first which is passed first.
 fn list_two(w: &mut [u64], n: usize, from: usize, at: usize, side: usize)
-    requires { ⌜ Listable (now w) n from at 2 side ⌝ }
-    ensures { λ _. ⌜ Members (now (w .exit)) (now (w .entry)) n from at 2 side ⌝ }
+    requires { Listable w.old n from at 2 side }
+    ensures { Members w.new w.old n from at 2 side }
 {
     let first = w[from + n * MEMBERS];
     let second = w[from + n * MEMBERS + 1];
@@ -229,8 +228,8 @@ fn list_two(w: &mut [u64], n: usize, from: usize, at: usize, side: usize)
 
 // The marks of `count` lines, from `from` on, again from `at` on, which lies before them: turned once more where the side is 1.
 fn turn_marks(w: &mut [u64], from: usize, at: usize, count: usize, side: usize)
-    requires { ⌜ Turnable (now w) from at count side ⌝ }
-    ensures { λ _. ⌜ HoldsFrom (now (w .exit)) (now (w .entry)) at count (turnedBy side (slice from (from + count) (now (w .entry)))) ⌝ }
+    requires { Turnable w.old from at count side }
+    ensures { HoldsFrom w.new w.old at count (turned_by side (slice from (from + count) w.old)) }
 {
     let mut i = 0;
     while i < count {
@@ -241,8 +240,8 @@ fn turn_marks(w: &mut [u64], from: usize, at: usize, count: usize, side: usize)
 
 // The listing of a piece of `count` lines, from `from` on, in the order in which they are passed, from `at` on, which lies before it.
 fn pass_lines(w: &mut [u64], from: usize, at: usize, count: usize, side: usize)
-    requires { ⌜ (at + count ≤ from) × (from + count ≤ length (now w)) ⌝ }
-    ensures { λ _. ⌜ HoldsFrom (now (w .exit)) (now (w .entry)) at count (passedBy side (slice from (from + count) (now (w .entry)))) ⌝ }
+    requires { (at + count ≤ from) × (from + count ≤ length w.old) }
+    ensures { HoldsFrom w.new w.old at count (passed_by side (slice from (from + count) w.old)) }
 {
     if side == 0 {
         point_slices::copy_down(w, from, at, count);
@@ -254,8 +253,8 @@ fn pass_lines(w: &mut [u64], from: usize, at: usize, count: usize, side: usize)
 // The lines of one piece, `count` of them, from a block of pieces that went in into the block at the front: `from` and `at` say how far on in their blocks
 // each of members, marks and listing stands. One line or two are listed without a loop.
 fn list_members(w: &mut [u64], n: usize, from: usize, at: usize, count: usize, side: usize)
-    requires { ⌜ Listable (now w) n from at count side ⌝ }
-    ensures { λ _. ⌜ Members (now (w .exit)) (now (w .entry)) n from at count side ⌝ }
+    requires { Listable w.old n from at count side }
+    ensures { Members w.new w.old n from at count side }
 {
     if count == 1 {
         list_one(w, n, from, at, side);
@@ -272,9 +271,9 @@ fn list_members(w: &mut [u64], n: usize, from: usize, at: usize, count: usize, s
 
 // The members of the pieces that are entered, piece by piece, their marks, and the lines in the order in which they are passed.
 fn list_pieces(w: &mut [u64], n: usize, old: usize, entries: usize, m: usize)
-    requires { ⌜ PiecesListable (now w) n old entries m ⌝ }
-    ensures { λ _. ⌜ ((y : PiecesListable (now (w .entry)) n old entries m)
-        → Listed (now (w .exit)) (now (w .entry)) n (merge (y .rule) (y .ps) (slice entries (entries + m) (now (w .entry))))) ⌝ }
+    requires { PiecesListable w.old n old entries m }
+    ensures { (y : PiecesListable w.old n old entries m)
+        → Listed w.new w.old n (merge y.rule y.ps (slice entries (entries + m) w.old)) }
 {
     let mut r: usize = 0;
     let mut k: usize = 0;
@@ -303,23 +302,13 @@ pub fn emit_all<'a>(
     spare: &'a [u64],
     merged: &mut [u64],
 )
-    requires { ⌜ Walks width (now w) n old m entries lengths r (now input) (now spare) (now merged) ⌝ }
-    ensures { λ _. ⌜ ((y : Walks width (now (w .entry)) n old m entries lengths r (now (input .entry)) (now (spare .entry)) (now (merged .entry)))
-        → Done width (now (w .exit)) (now (w .entry)) n (now (input .entry)) (now (merged .exit)) (now (merged .entry)) (y .counts)
-        (map (merge (y .rule) (y .ps)) (y .ws))) ⌝ }
+    requires { Walks width w.old n old m entries lengths r input.now spare.now merged.old }
+    ensures { (y : Walks width w.old n old m entries lengths r input.now spare.now merged.old)
+        → Done width w.new w.old n input.now merged.new merged.old y.counts
+        (map (merge y.rule y.ps) y.ws) }
 {
     emit_walks(
-        w,
-        n,
-        old,
-        m,
-        entries,
-        lengths,
-        r,
-        width,
-        input,
-        spare,
-        merged,
+        w, n, old, m, entries, lengths, r, width, input, spare, merged,
     );
     list_pieces(w, n, old, entries, m);
 }

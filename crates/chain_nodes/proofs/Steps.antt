@@ -1,92 +1,92 @@
 -- The arms of one node's step, in the words that the code reads: what is put, if anything, are the joins that the node adds.
-use Prim.Native.Nat.{ℕ, _+_, _*_, _/_, _≤_, _<_}
-use mathlib.Core.Path.{_≡_, sym, ap, _∙_, subst}
-use mathlib.Core.Logic.{_≢_}
+use Prim.Native.Nat.{ℕ, ◌+◌, ◌*◌, ◌/◌, ◌≤◌, ◌<◌}
+use mathlib.Core.Path.{◌≡◌, sym, ap, ◌∙◌, subst}
+use mathlib.Core.Logic.{◌≢◌}
 use mathlib.Core.Bool.{Bool, true, false, cond}
 use mathlib.Core.List.{List, []}
 use mathlib.Core.Option.{none, some}
 use native.Mathlib.Omega.{arith}
 use lib.Ieee.{Float}
-use lib.ListN.{getD, drop}
-use lib.Seq.{slice, getD-drop}
-use Rattle·rules.specs.Chaining.{joined}
-use Rattle·chain_laws.specs.Table.{put, fill}
-use Rattle·point_slices.specs.Holds.{HoldsFrom}
-use Rattle·chain_joins.specs.Node.{nodeOf}
-use Rattle·chain_joins.proofs.Cases.{second}
-use Rattle·chain_nodes·specs.specs.Noded.{Noded, Junction, Joined, joinsAt}
-use Rattle·chain_nodes·proofs.proofs.Frames.{joined-same, joined-put, joins-room, ends-few}
-use Rattle·chain_nodes·proofs.proofs.Turns.{fill-none, at-leader, at-other, at-alone, at-own, at-two, at-off}
-use Rattle·chain_grouping.specs.Map.{lastBlock, nextBlock}
-use Rattle·chain_pieces.specs.Map.{groupBlock, joinBlock}
+use lib.ListN.{get_or, drop}
+use lib.Seq.{slice, get_or-drop}
+use Rattle.rules.specs.Chaining.{joined}
+use Rattle.chain_laws.specs.Table.{put, fill}
+use Rattle.point_slices.specs.Holds.{HoldsFrom}
+use Rattle.chain_joins.specs.Node.{node_of}
+use Rattle.chain_joins.proofs.Cases.{second}
+use Rattle.chain_nodes.specs.Noded.{Noded, Junction, Joined, joins_at}
+use Rattle.chain_nodes.proofs.Frames.{joined_same, joined_put, joins_room, ends_few}
+use Rattle.chain_nodes.proofs.Turns.{fill_none, at_leader, at_other, at_alone, at_own, at_two, at_off}
+use Rattle.chain_grouping.specs.Map.{last_block, next_block}
+use Rattle.chain_pieces.specs.Map.{group_block, join_block}
 
 -- a word of the groups
-pub word : (w : List ℕ) (a b i : ℕ) → getD w (a + b + i) 0 ≡ getD (drop a w) (b + i) 0
-word w a b i = let p : a + b + i ≡ a + (b + i) = omega arith in ap (λ (j : ℕ). getD w j 0) p ∙ sym (getD-drop a w (b + i) 0)
+pub word : (w : List ℕ) (a b i : ℕ) → get_or w (a + b + i) 0 ≡ get_or (drop a w) (b + i) 0
+word w a b i = let p : a + b + i ≡ a + (b + i) = omega arith in ap (λ (j : ℕ). get_or w j 0) p ∙ sym (get_or-drop a w (b + i) 0)
 
 module _ {width : ℕ} {w : List ℕ} {n m : ℕ} {on : Bool} {limit : Float} {input spare : List ℕ} (y : Noded width w n m on limit input spare) (e : ℕ) (he : e < m) where
   abbrev v : List ℕ
-  v = drop (n * groupBlock) w
+  v = drop (n * group_block) w
 
   abbrev before : List ℕ
-  before = slice (n * joinBlock) (n * joinBlock + m) w
+  before = slice (n * join_block) (n * join_block + m) w
 
   abbrev adds : List (ℕ × ℕ)
-  adds = joinsAt (y .rule) (y .ps) (drop (n * groupBlock) w) m e
+  adds = joins_at y.rule y.ps (drop (n * group_block) w) m e
 
   stays : adds ≡ [] → Joined w w n m (fill before adds)
-  stays q = joined-same w n m (fill before adds) (fill-none before adds q)
+  stays q = joined_same w n m (fill before adds) (fill_none before adds q)
 
-  pub step-other : getD w (n * groupBlock + m * lastBlock + e) 0 < e → Joined w w n m (fill before adds)
-  step-other h = stays (at-other (y .rule) (y .ps) v m e (omega (arith, word w (n * groupBlock) (m * lastBlock) e)))
+  pub step_other : get_or w (n * group_block + m * last_block + e) 0 < e → Joined w w n m (fill before adds)
+  step_other h = stays (at_other y.rule y.ps v m e (omega (arith, word w (n * group_block) (m * last_block) e)))
 
-  module _ (led : e ≤ getD w (n * groupBlock + m * lastBlock + e) 0) where
-    pub leads : e ≤ getD v (m * lastBlock + e) 0
-    leads = omega (arith, word w (n * groupBlock) (m * lastBlock) e)
+  module _ (led : e ≤ get_or w (n * group_block + m * last_block + e) 0) where
+    pub leads : e ≤ get_or v (m * last_block + e) 0
+    leads = omega (arith, word w (n * group_block) (m * last_block) e)
 
-    pub step-alone : getD w (n * groupBlock + m * nextBlock + e) 0 ≡ 0 → Joined w w n m (fill before adds)
-    step-alone z = stays (at-alone (y .rule) (y .ps) v m e (y .nodes) he leads (sym (word w (n * groupBlock) (m * nextBlock) e) ∙ z))
+    pub step_alone : get_or w (n * group_block + m * next_block + e) 0 ≡ 0 → Joined w w n m (fill before adds)
+    step_alone z = stays (at_alone y.rule y.ps v m e y.nodes he leads (sym (word w (n * group_block) (m * next_block) e) ∙ z))
 
-    module _ (f : ℕ) (at : getD w (n * groupBlock + m * nextBlock + e) 0 ≡ f) (p : f ≡ 0 → ⊥) where
-      pub at-v : getD v (m * nextBlock + e) 0 ≡ f
-      at-v = sym (word w (n * groupBlock) (m * nextBlock) e) ∙ at
+    module _ (f : ℕ) (at : get_or w (n * group_block + m * next_block + e) 0 ≡ f) (p : f ≡ 0 → ⊥) where
+      pub at_v : get_or v (m * next_block + e) 0 ≡ f
+      at_v = sym (word w (n * group_block) (m * next_block) e) ∙ at
 
-      pub next-in : (e < f) × (f < m)
-      next-in = second (y .nodes) he leads f at-v (omega arith)
+      pub next_in : (e < f) × (f < m)
+      next_in = second y.nodes he leads f at_v (omega arith)
 
-      next-word : {k : ℕ} → getD w (n * groupBlock + m * nextBlock + f) 0 ≡ k → getD v (m * nextBlock + f) 0 ≡ k
-      next-word q = sym (word w (n * groupBlock) (m * nextBlock) f) ∙ q
+      next_word : {k : ℕ} → get_or w (n * group_block + m * next_block + f) 0 ≡ k → get_or v (m * next_block + f) 0 ≡ k
+      next_word q = sym (word w (n * group_block) (m * next_block) f) ∙ q
 
-      pub step-own : getD w (n * groupBlock + m * nextBlock + f) 0 ≡ 0 → e / 2 ≡ f / 2 → Joined w w n m (fill before adds)
-      step-own z q = stays (at-own (y .rule) (y .ps) v m e (y .nodes) he leads f at-v (omega arith) (next-word z) q)
+      pub step_own : get_or w (n * group_block + m * next_block + f) 0 ≡ 0 → e / 2 ≡ f / 2 → Joined w w n m (fill before adds)
+      step_own z q = stays (at_own y.rule y.ps v m e y.nodes he leads f at_v (omega arith) (next_word z) q)
 
-      pub step-two : getD w (n * groupBlock + m * nextBlock + f) 0 ≡ 0 → e / 2 ≢ f / 2 → {w′ : List ℕ} → HoldsFrom w′ w (n * joinBlock) m (put before (e, f)) → Joined w′ w n m (fill before adds)
+      pub step_two : get_or w (n * group_block + m * next_block + f) 0 ≡ 0 → e / 2 ≢ f / 2 → {w' : List ℕ} → HoldsFrom w' w (n * join_block) m (put before (e, f)) → Joined w' w n m (fill before adds)
       unfolding fill
-      step-two z q {w′} H =
-          subst (λ (t : List ℕ). Joined w′ w n m t)
-          (sym (ap (fill before) (at-two (y .rule) (y .ps) v m e (y .nodes) he leads f at-v (omega arith) (next-word z) q)))
-          (joined-put H (joins-room y) (omega (arith, ends-few y)))
+      step_two z q {w'} H =
+          subst (λ (t : List ℕ). Joined w' w n m t)
+          (sym (ap (fill before) (at_two y.rule y.ps v m e y.nodes he leads f at_v (omega arith) (next_word z) q)))
+          (joined_put H (joins_room y) (omega (arith, ends_few y)))
 
-      pub step-off : (getD w (n * groupBlock + m * nextBlock + f) 0 ≡ 0 → ⊥) → on ≡ false → Joined w w n m (fill before adds)
-      step-off z o =
+      pub step_off : (get_or w (n * group_block + m * next_block + f) 0 ≡ 0 → ⊥) → on ≡ false → Joined w w n m (fill before adds)
+      step_off z o =
           stays
-          (at-off (y .rule) (y .ps) v m e (y .nodes) he leads f at-v (omega arith) (λ q. z (word w (n * groupBlock) (m * nextBlock) f ∙ q))
-          (y .limited ∙ ap (λ (t : Bool). cond t (some limit) none) o))
+          (at_off y.rule y.ps v m e y.nodes he leads f at_v (omega arith) (λ q. z (word w (n * group_block) (m * next_block) f ∙ q))
+          (y.limited ∙ ap (λ (t : Bool). cond t (some limit) none) o))
 
-      unfoldable pub step-junction : (getD w (n * groupBlock + m * nextBlock + f) 0 ≡ 0 → ⊥) → on ≡ true → Junction width w n m e limit input spare
-      step-junction z o =
+      unfoldable pub step_junction : (get_or w (n * group_block + m * next_block + f) 0 ≡ 0 → ⊥) → on ≡ true → Junction width w n m e limit input spare
+      step_junction z o =
           record {
             on = on;
             switched = o;
             noded = y;
             within = he;
             leads = leads;
-            more = omega (arith, at-v);
-            many = omega (arith, word w (n * groupBlock) (m * nextBlock) f, ap (λ (i : ℕ). getD v (m * nextBlock + i) 0) at-v, z);
+            more = omega (arith, at_v);
+            many = omega (arith, word w (n * group_block) (m * next_block) f, ap (λ (i : ℕ). get_or v (m * next_block + i) 0) at_v, z);
           }
 
-  pub step-many : {w′ : List ℕ} → e ≤ getD w (n * groupBlock + m * lastBlock + e) 0
-      → Joined w′ w n m (fill (slice (n * joinBlock) (n * joinBlock + m) w) (joined (y .rule) (y .ps) (nodeOf (drop (n * groupBlock) w) m e))) → Joined w′ w n m (fill before adds)
-  step-many {w′} led j =
-      subst (λ (t : List (ℕ × ℕ)). Joined w′ w n m (fill before t))
-      (sym (at-leader (y .rule) (y .ps) v m e (omega (arith, word w (n * groupBlock) (m * lastBlock) e)))) j
+  pub step_many : {w' : List ℕ} → e ≤ get_or w (n * group_block + m * last_block + e) 0
+      → Joined w' w n m (fill (slice (n * join_block) (n * join_block + m) w) (joined y.rule y.ps (node_of (drop (n * group_block) w) m e))) → Joined w' w n m (fill before adds)
+  step_many {w'} led j =
+      subst (λ (t : List (ℕ × ℕ)). Joined w' w n m (fill before t))
+      (sym (at_leader y.rule y.ps v m e (omega (arith, word w (n * group_block) (m * last_block) e)))) j

@@ -1,22 +1,19 @@
 // From grouped ends to joins, node by node. A round's part of the workspace, for n lines, has the table of joins at 8 n, the pieces that went in at 13 n, room
 // for the ends of one node at 21 n and for their pairing at 23 n, and the groups at 151 n.
-use chain_grouping::LAST;
-use chain_grouping::NEXT;
-use chain_pieces::GROUPS;
-use chain_pieces::JOINS;
-use chain_pieces::NODE;
-use chain_pieces::PAIRING;
-use chain_pieces::TAKEN;
+#![tactic(auto)]
+
+ghost use mathlib.Core.List.{flat_map};
+ghost use Rattle.std.specs.Prelude.{◌+◌, ◌*◌, ◌<◌, drop};
+ghost use Rattle.std.proofs.Math.Seq.{slice};
+ghost use Rattle.rules.specs.Chaining.{joined};
+ghost use Rattle.chain_laws.specs.Table.{fill};
+ghost use Rattle.chain_joins.specs.Node.{node_of, runs_to};
+ghost use Rattle.chain_nodes.specs.Noded.{Noded, Junction, Joined, joins_at};
+ghost use Rattle.chain_pieces.specs.Map.{group_block, join_block};
+
+use chain_grouping::{LAST, NEXT};
+use chain_pieces::{GROUPS, JOINS, NODE, PAIRING, TAKEN};
 use pair_ends::PAIRS;
-ghost use mathlib.Core.List.{flatMap};
-ghost use Prim.Native.Nat.{_+_, _*_, _<_};
-ghost use lib.ListN.{drop};
-ghost use lib.Seq.{slice};
-ghost use Rattle·rules.specs.Chaining.{joined};
-ghost use Rattle·chain_laws.specs.Table.{fill};
-ghost use Rattle·chain_joins.specs.Node.{nodeOf, runsTo};
-ghost use Rattle·chain_nodes·specs.specs.Noded.{Noded, Junction, Joined, joinsAt};
-ghost use Rattle·chain_pieces.specs.Map.{groupBlock, joinBlock};
 
 // The joins of a junction, a node of three or more ends that e leads: its selected pairs.
 fn join_junction<'a>(
@@ -29,11 +26,11 @@ fn join_junction<'a>(
     input: &'a [u64],
     spare: &'a [u64],
 )
-    requires { ⌜ Junction width (now w) n m e limit (now input) (now spare) ⌝ }
-    ensures { λ _. ⌜ ((y : Junction width (now (w .entry)) n m e limit (now (input .entry)) (now (spare .entry)))
-        → Joined (now (w .exit)) (now (w .entry)) n m
-        (fill (slice (n * joinBlock) (n * joinBlock + m) (now (w .entry)))
-        (joined (y .noded .rule) (y .noded .ps) (nodeOf (drop (n * groupBlock) (now (w .entry))) m e)))) ⌝ }
+    requires { Junction width w.old n m e limit input.now spare.now }
+    ensures { (y : Junction width w.old n m e limit input.now spare.now)
+        → Joined w.new w.old n m
+        (fill (slice (n * join_block) (n * join_block + m) w.old)
+        (joined y.noded.rule y.noded.ps (node_of (drop (n * group_block) w.old) m e))) }
 {
     let d = chain_joins::list_node(w, n * NODE, n * GROUPS, m, e);
     chain_junctions::put_ends(w, n * TAKEN, n * NODE, n * PAIRING, d, width, input, spare);
@@ -53,11 +50,11 @@ fn join_node<'a>(
     input: &'a [u64],
     spare: &'a [u64],
 )
-    requires { ⌜ Noded width (now w) n m on limit (now input) (now spare) × (e < m) ⌝ }
-    ensures { λ _. ⌜ ((y : Noded width (now (w .entry)) n m on limit (now (input .entry)) (now (spare .entry)))
-        → Joined (now (w .exit)) (now (w .entry)) n m
-        (fill (slice (n * joinBlock) (n * joinBlock + m) (now (w .entry)))
-        (joinsAt (y .rule) (y .ps) (drop (n * groupBlock) (now (w .entry))) m e))) ⌝ }
+    requires { Noded width w.old n m on limit input.now spare.now × (e < m) }
+    ensures { (y : Noded width w.old n m on limit input.now spare.now)
+        → Joined w.new w.old n m
+        (fill (slice (n * join_block) (n * join_block + m) w.old)
+        (joins_at y.rule y.ps (drop (n * group_block) w.old) m e)) }
 {
     let groups = n * GROUPS;
     if (w[groups + m * LAST + e] as usize) < e {
@@ -90,11 +87,11 @@ pub fn join_nodes<'a>(
     input: &'a [u64],
     spare: &'a [u64],
 )
-    requires { ⌜ Noded width (now w) n m on limit (now input) (now spare) ⌝ }
-    ensures { λ _. ⌜ ((y : Noded width (now (w .entry)) n m on limit (now (input .entry)) (now (spare .entry)))
-        → Joined (now (w .exit)) (now (w .entry)) n m
-        (fill (slice (n * joinBlock) (n * joinBlock + m) (now (w .entry)))
-        (flatMap (joined (y .rule) (y .ps)) (runsTo (drop (n * groupBlock) (now (w .entry))) m m)))) ⌝ }
+    requires { Noded width w.old n m on limit input.now spare.now }
+    ensures { (y : Noded width w.old n m on limit input.now spare.now)
+        → Joined w.new w.old n m
+        (fill (slice (n * join_block) (n * join_block + m) w.old)
+        (flat_map (joined y.rule y.ps) (runs_to (drop (n * group_block) w.old) m m))) }
 {
     let mut e = 0;
     while e < m {

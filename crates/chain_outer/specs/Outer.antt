@@ -1,16 +1,14 @@
 -- The outer ends of a walk: the end of a piece at which it is entered, and the end at which it is left.
-use Prim.Native.Nat.{ℕ, _-_}
-use mathlib.Core.List.{List, [], _∷_}
-use lib.ListN.{length, getD}
-use Rattle·rules.specs.Walking.{other}
+use Rattle.std.specs.Prelude.{ℕ, ◌-◌, List, [], ◌∷◌, length, get_or}
+use Rattle.rules.specs.Walking.{other}
 
-abbrev pub entryOf : List ℕ → ℕ
-entryOf es = getD es 0 0
+abbrev pub entry_of : List ℕ → ℕ
+entry_of es = get_or es 0 0
 
-abbrev pub exitOf : List ℕ → ℕ
-exitOf es = other (getD es (length es - 1) 0)
+abbrev pub exit_of : List ℕ → ℕ
+exit_of es = other (get_or es (length es - 1) 0)
 
 -- those of all walks, one after another
-unfoldable pub outerOf : List (List ℕ) → List ℕ
-outerOf [] = []
-outerOf (es ∷ ws) = entryOf es ∷ exitOf es ∷ outerOf ws
+unfoldable pub outer_of : List (List ℕ) → List ℕ
+outer_of [] = []
+outer_of (es ∷ ws) = entry_of es ∷ exit_of es ∷ outer_of ws

@@ -1,1 +1,2 @@
 // Laws of the outer ends of walks: proofs/ has them, and there is no code.
+#![tactic(auto)]

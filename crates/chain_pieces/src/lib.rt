@@ -1,10 +1,9 @@
 // Pieces as a round's workspace holds them: specs/ says how, and proofs/ has the laws of reading them.
-ghost use mathlib.Core.List.{[], _∷_};
-ghost use Prim.Native.Nat.{_+_, _≤_};
-ghost use lib.ListN.{length};
-ghost use mathlib.Core.Path.{_≡_};
-ghost use Rattle·point_slices.specs.Holds.{HoldsFrom};
-ghost use Rattle·chain_pieces·specs.specs.Held.{coordinatesAt, Recorded};
+#![tactic(auto)]
+
+ghost use Rattle.std.specs.Prelude.{[], ◌∷◌, ◌+◌, ◌≤◌, length, ◌≡◌};
+ghost use Rattle.point_slices.specs.Holds.{HoldsFrom};
+ghost use Rattle.chain_pieces.specs.Held.{coordinates_at, Recorded};
 
 // The map of a round's part of the workspace, in words for each line of the call: where each block begins. specs/Map.antt has the same numbers.
 
@@ -45,8 +44,8 @@ pub fn put_record(
     point: u64,
     points: u64,
 )
-    requires { ⌜ at + 5 ≤ length (now w) ⌝ }
-    ensures { λ _. ⌜ HoldsFrom (now (w .exit)) (now (w .entry)) at 5 (member ∷ members ∷ source ∷ point ∷ points ∷ []) ⌝ }
+    requires { at + 5 ≤ length w.old }
+    ensures { HoldsFrom w.new w.old at 5 (member ∷ members ∷ source ∷ point ∷ points ∷ []) }
 {
     w[at] = member;
     w[at + 1] = members;
@@ -63,8 +62,8 @@ pub fn coordinates_of<'a>(
     input: &'a [u64],
     copies: &'a [u64],
 ) -> &'a [u64]
-    requires { ⌜ Recorded width (now w) p (now input) (now copies) ⌝ }
-    ensures { λ r. ⌜ now r ≡ coordinatesAt width (now (w .entry)) p (now (input .entry)) (now (copies .entry)) ⌝ }
+    requires { Recorded width w.now p input.now copies.now }
+    ensures { result.now ≡ coordinates_at width w.now p input.now copies.now }
 {
     let from = w[p + 3] as usize * width;
     let to = from + w[p + 4] as usize * width;

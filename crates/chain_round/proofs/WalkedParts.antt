@@ -1,68 +1,68 @@
 -- What the walks leave in their part, read back: the entries, the lengths, and what stands beyond.
-use Prim.Native.Nat.{ℕ, _+_, _-_, _*_, _≤_}
-use mathlib.Core.Path.{_≡_, sym, ap, _∙_}
-use mathlib.Core.List.{List, _++_, map, flatten, append-assoc}
+use Prim.Native.Nat.{ℕ, ◌+◌, ◌-◌, ◌*◌, ◌≤◌}
+use mathlib.Core.Path.{◌≡◌, sym, ap, ◌∙◌}
+use mathlib.Core.List.{List, ◌++◌, map, flatten, append_assoc}
 use native.Mathlib.Omega.{arith}
-use lib.ListN.{length, getD, take, drop, replicate, length-append, length-replicate, length-map}
-use lib.Seq.{length-take-le, take-at, drop-at, getD-append-add, getD-drop}
-use Rattle·chain_walks.specs.Walks.{joinsOf, walksOf, AllWalked}
-use Rattle·chain_walks.specs.Map.{entryBlock, lengthBlock, walkRoom}
+use lib.ListN.{length, get_or, take, drop, replicate, length-append, length-replicate, length-map}
+use lib.Seq.{length-take-le, take_at, drop_at, get_or-append-add, get_or-drop}
+use Rattle.chain_walks.specs.Walks.{joins_of, walks_of, AllWalked}
+use Rattle.chain_walks.specs.Map.{entry_block, length_block, walk_room}
 
-module _ {w′ w : List ℕ} {n r : ℕ} (T : AllWalked w′ w n r) (fits : walkRoom * n ≤ length w) (all : length (flatten (walksOf w n)) ≡ n) where
+module _ {w' w : List ℕ} {n r : ℕ} (T : AllWalked w' w n r) (fits : walk_room * n ≤ length w) (all : length (flatten (walks_of w n)) ≡ n) where
   abbrev a : List ℕ
-  a = joinsOf n w
+  a = joins_of n w
 
   abbrev b : List ℕ
   b = replicate n 1
 
   abbrev c : List ℕ
-  c = flatten (walksOf w n)
+  c = flatten (walks_of w n)
 
   abbrev d : List ℕ
-  d = map length (walksOf w n)
+  d = map length (walks_of w n)
 
-  length-a : length a ≡ 2 * n
-  length-a = length-take-le (2 * n) w (omega arith)
+  length_a : length a ≡ 2 * n
+  length_a = length-take-le (2 * n) w (omega arith)
 
-  length-ab : length (a ++ b) ≡ entryBlock * n
-  length-ab = length-append a b ∙ (omega (arith, length-a, length-replicate {A = ℕ} n 1))
+  length_ab : length (a ++ b) ≡ entry_block * n
+  length_ab = length-append a b ∙ (omega (arith, length_a, length-replicate {A = ℕ} n 1))
 
-  length-abc : length ((a ++ b) ++ c) ≡ lengthBlock * n
-  length-abc = length-append (a ++ b) c ∙ (omega (arith, length-ab, all))
+  length_abc : length ((a ++ b) ++ c) ≡ length_block * n
+  length_abc = length-append (a ++ b) c ∙ (omega (arith, length_ab, all))
 
-  length-d : length d ≡ r
-  length-d = length-map (walksOf w n) length ∙ sym (T .count)
+  length_d : length d ≡ r
+  length_d = length-map (walks_of w n) length ∙ sym T.count
 
-  length-all : length (((a ++ b) ++ c) ++ d) ≡ lengthBlock * n + r
-  length-all = length-append ((a ++ b) ++ c) d ∙ (omega (arith, length-abc, length-d))
+  length_all : length (((a ++ b) ++ c) ++ d) ≡ length_block * n + r
+  length_all = length-append ((a ++ b) ++ c) d ∙ (omega (arith, length_abc, length_d))
 
-  after-marks : w′ ≡ (a ++ b) ++ (c ++ (d ++ drop (lengthBlock * n + r) w))
-  after-marks = T .whole ∙ sym (append-assoc a b (c ++ (d ++ drop (lengthBlock * n + r) w)))
+  after_marks : w' ≡ (a ++ b) ++ (c ++ (d ++ drop (length_block * n + r) w))
+  after_marks = T.whole ∙ sym (append_assoc a b (c ++ (d ++ drop (length_block * n + r) w)))
 
-  after-entries : w′ ≡ ((a ++ b) ++ c) ++ (d ++ drop (lengthBlock * n + r) w)
-  after-entries = after-marks ∙ sym (append-assoc (a ++ b) c (d ++ drop (lengthBlock * n + r) w))
+  after_entries : w' ≡ ((a ++ b) ++ c) ++ (d ++ drop (length_block * n + r) w)
+  after_entries = after_marks ∙ sym (append_assoc (a ++ b) c (d ++ drop (length_block * n + r) w))
 
-  after-all : w′ ≡ (((a ++ b) ++ c) ++ d) ++ drop (lengthBlock * n + r) w
-  after-all = after-entries ∙ sym (append-assoc ((a ++ b) ++ c) d (drop (lengthBlock * n + r) w))
+  after_all : w' ≡ (((a ++ b) ++ c) ++ d) ++ drop (length_block * n + r) w
+  after_all = after_entries ∙ sym (append_assoc ((a ++ b) ++ c) d (drop (length_block * n + r) w))
 
-  pub walked-entries : take n (drop (entryBlock * n) w′) ≡ flatten (walksOf w n)
-  walked-entries =
-      ap (λ (l : List ℕ). take n (drop (entryBlock * n) l)) after-marks
-      ∙ ap (take n) (drop-at (a ++ b) (c ++ (d ++ drop (lengthBlock * n + r) w)) (entryBlock * n) length-ab)
-      ∙ take-at c (d ++ drop (lengthBlock * n + r) w) n all
+  pub walked_entries : take n (drop (entry_block * n) w') ≡ flatten (walks_of w n)
+  walked_entries =
+      ap (λ (l : List ℕ). take n (drop (entry_block * n) l)) after_marks
+      ∙ ap (take n) (drop_at (a ++ b) (c ++ (d ++ drop (length_block * n + r) w)) (entry_block * n) length_ab)
+      ∙ take_at c (d ++ drop (length_block * n + r) w) n all
 
-  pub walked-lengths : take r (drop (lengthBlock * n) w′) ≡ map length (walksOf w n)
-  walked-lengths =
-      ap (λ (l : List ℕ). take r (drop (lengthBlock * n) l)) after-entries
-      ∙ ap (take r) (drop-at ((a ++ b) ++ c) (d ++ drop (lengthBlock * n + r) w) (lengthBlock * n) length-abc)
-      ∙ take-at d (drop (lengthBlock * n + r) w) r length-d
+  pub walked_lengths : take r (drop (length_block * n) w') ≡ map length (walks_of w n)
+  walked_lengths =
+      ap (λ (l : List ℕ). take r (drop (length_block * n) l)) after_entries
+      ∙ ap (take r) (drop_at ((a ++ b) ++ c) (d ++ drop (length_block * n + r) w) (length_block * n) length_abc)
+      ∙ take_at d (drop (length_block * n + r) w) r length_d
 
-  pub walked-beyond : (j : ℕ) → lengthBlock * n + r ≤ j → getD w′ j 0 ≡ getD w j 0
-  walked-beyond j h =
-      let p : lengthBlock * n + r + (j - (lengthBlock * n + r)) ≡ j = omega arith in
-      let z = length-all in
-      ap (λ (l : List ℕ). getD l j 0) after-all
-      ∙ ap (λ (i : ℕ). getD ((((a ++ b) ++ c) ++ d) ++ drop (lengthBlock * n + r) w) i 0) (sym p ∙ ap (λ (i : ℕ). i + (j - (lengthBlock * n + r))) (sym z))
-      ∙ getD-append-add (((a ++ b) ++ c) ++ d) (drop (lengthBlock * n + r) w) (j - (lengthBlock * n + r)) 0
-      ∙ getD-drop (lengthBlock * n + r) w (j - (lengthBlock * n + r)) 0
-      ∙ ap (λ (i : ℕ). getD w i 0) p
+  pub walked_beyond : (j : ℕ) → length_block * n + r ≤ j → get_or w' j 0 ≡ get_or w j 0
+  walked_beyond j h =
+      let p : length_block * n + r + (j - (length_block * n + r)) ≡ j = omega arith in
+      let z = length_all in
+      ap (λ (l : List ℕ). get_or l j 0) after_all
+      ∙ ap (λ (i : ℕ). get_or ((((a ++ b) ++ c) ++ d) ++ drop (length_block * n + r) w) i 0) (sym p ∙ ap (λ (i : ℕ). i + (j - (length_block * n + r))) (sym z))
+      ∙ get_or-append-add (((a ++ b) ++ c) ++ d) (drop (length_block * n + r) w) (j - (length_block * n + r)) 0
+      ∙ get_or-drop (length_block * n + r) w (j - (length_block * n + r)) 0
+      ∙ ap (λ (i : ℕ). get_or w i 0) p

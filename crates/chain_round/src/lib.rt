@@ -1,19 +1,17 @@
 // One round of joining: from the pieces that go in, which stand in their block of a round's part of the workspace, for n lines, to those that come out,
 // in the block at its front. chain_pieces has the map.
+#![tactic(auto)]
+
+ghost use Rattle.std.specs.Prelude.{◌*◌};
+ghost use Rattle.rules.specs.declared.Settings.{Settings};
+ghost use Rattle.rules.specs.Chaining.{rule_of, join};
+ghost use Rattle.chain_nodes.specs.Noded.{Noded};
+ghost use Rattle.chain_round.specs.Round.{Rounding, EndsStand, RoundWalked, Walkable, RoundEmits, RoundEmitted, GroupedRound, Joinable, Rounded};
+
 use chain_grouping::KEYS;
-use chain_pieces::GROUPS;
-use chain_pieces::JOINS;
-use chain_pieces::MEMBERS;
-use chain_pieces::TAKEN;
-use chain_walks::ENTRIES;
-use chain_walks::LENGTHS;
-use rules::Grid;
-use rules::Settings;
-ghost use Prim.Native.Nat.{_*_};
-ghost use Rattle·rules.specs.declared.Settings.{Settings};
-ghost use Rattle·rules.specs.Chaining.{ruleOf, join};
-ghost use Rattle·chain_nodes.specs.Noded.{Noded};
-ghost use Rattle·chain_round·specs.specs.Round.{Rounding, EndsStand, RoundWalked, Walkable, RoundEmits, RoundEmitted, GroupedRound, Joinable, Rounded};
+use chain_pieces::{GROUPS, JOINS, MEMBERS, TAKEN};
+use chain_walks::{ENTRIES, LENGTHS};
+use rules::{Grid, Settings};
 
 // The ends of m pieces, grouped by the keys that an exact round or one of cells gives them.
 fn group_ends<'a>(
@@ -26,9 +24,9 @@ fn group_ends<'a>(
     input: &'a [u64],
     spare: &'a [u64],
 )
-    requires { ⌜ Rounding width (now w) n m (now groups) (now input) (now spare) ⌝ }
-    ensures { λ _. ⌜ ((y : Rounding width (now (w .entry)) n m (now (groups .entry)) (now (input .entry)) (now (spare .entry))) (s : Settings)
-        → EndsStand width (now (w .exit)) n (m * 2) (ruleOf grid s) (y .counts) (y .ps) (now (input .entry)) (now (spare .entry))) ⌝ }
+    requires { Rounding width w.old n m groups.now input.now spare.now }
+    ensures { (y : Rounding width w.old n m groups.now input.now spare.now) (s : Settings)
+        → EndsStand width w.new n (m * 2) (rule_of grid s) y.counts y.ps input.now spare.now }
 {
     let old = n * TAKEN;
     let ends = m * 2;
@@ -59,9 +57,9 @@ fn walk_pieces<'a>(
     input: &'a [u64],
     spare: &'a [u64],
 ) -> usize
-    requires { ⌜ Noded width (now w) n (m * 2) on limit (now input) (now spare) ⌝ }
-    ensures { λ r. ⌜ ((y : Noded width (now (w .entry)) n (m * 2) on limit (now (input .entry)) (now (spare .entry)))
-        → RoundWalked width (now (w .exit)) n m r (y .rule) (y .counts) (y .ps) (now (input .entry)) (now (spare .entry))) ⌝ }
+    requires { Noded width w.old n (m * 2) on limit input.now spare.now }
+    ensures { (y : Noded width w.old n (m * 2) on limit input.now spare.now)
+        → RoundWalked width w.new n m result y.rule y.counts y.ps input.now spare.now }
 {
     let joins = n * JOINS;
     point_slices::clear(&mut w[joins..], m * ENTRIES);
@@ -81,9 +79,9 @@ pub fn walk_round<'a>(
     input: &'a [u64],
     spare: &'a [u64],
 ) -> usize
-    requires { ⌜ Walkable width (now w) n m settings (now groups) (now input) (now spare) ⌝ }
-    ensures { λ r. ⌜ ((y : Walkable width (now (w .entry)) n m settings (now (groups .entry)) (now (input .entry)) (now (spare .entry)))
-        → RoundWalked width (now (w .exit)) n m r (ruleOf grid settings) (y .rounding .counts) (y .rounding .ps) (now (input .entry)) (now (spare .entry))) ⌝ }
+    requires { Walkable width w.old n m settings groups.now input.now spare.now }
+    ensures { (y : Walkable width w.old n m settings groups.now input.now spare.now)
+        → RoundWalked width w.new n m result (rule_of grid settings) y.rounding.counts y.rounding.ps input.now spare.now }
 {
     let on = settings.switch == 1;
     group_ends(w, n, m, grid, width, groups, input, spare);
@@ -101,10 +99,10 @@ pub fn emit_round<'a>(
     spare: &'a [u64],
     merged: &mut [u64],
 )
-    requires { ⌜ RoundEmits width (now w) n m r (now input) (now spare) (now merged) ⌝ }
-    ensures { λ _. ⌜ ((y : RoundEmits width (now (w .entry)) n m r (now (input .entry)) (now (spare .entry)) (now (merged .entry)))
-        → RoundEmitted width (now (w .exit)) (now (w .entry)) n r (now (input .entry)) (now (merged .exit)) (now (merged .entry))
-        (y .counts) (join (y .rule) (y .ps))) ⌝ }
+    requires { RoundEmits width w.old n m r input.now spare.now merged.old }
+    ensures { (y : RoundEmits width w.old n m r input.now spare.now merged.old)
+        → RoundEmitted width w.new w.old n r input.now merged.new merged.old
+        y.counts (join y.rule y.ps) }
 {
     chain_merging::emit_all(
         w,
@@ -133,10 +131,10 @@ pub fn join_grouped<'a>(
     spare: &'a [u64],
     merged: &mut [u64],
 ) -> usize
-    requires { ⌜ GroupedRound width (now w) n m on limit (now input) (now spare) (now merged) ⌝ }
-    ensures { λ r. ⌜ ((y : GroupedRound width (now (w .entry)) n m on limit (now (input .entry)) (now (spare .entry)) (now (merged .entry)))
-        → Rounded width (now (w .exit)) (now (w .entry)) n r (now (input .entry)) (now (merged .exit)) (now (merged .entry))
-        (y .noded .counts) (join (y .noded .rule) (y .noded .ps))) ⌝ }
+    requires { GroupedRound width w.old n m on limit input.now spare.now merged.old }
+    ensures { (y : GroupedRound width w.old n m on limit input.now spare.now merged.old)
+        → Rounded width w.new w.old n result input.now merged.new merged.old
+        y.noded.counts (join y.noded.rule y.noded.ps) }
 {
     let r = walk_pieces(w, n, m, on, limit, width, input, spare);
     emit_round(w, n, m, r, width, input, spare, merged);
@@ -156,10 +154,10 @@ pub fn join_pieces<'a>(
     spare: &'a [u64],
     merged: &mut [u64],
 ) -> usize
-    requires { ⌜ Joinable width (now w) n m settings (now groups) (now input) (now spare) (now merged) ⌝ }
-    ensures { λ r. ⌜ ((y : Joinable width (now (w .entry)) n m settings (now (groups .entry)) (now (input .entry)) (now (spare .entry)) (now (merged .entry)))
-        → Rounded width (now (w .exit)) (now (w .entry)) n r (now (input .entry)) (now (merged .exit)) (now (merged .entry))
-        (y .walkable .rounding .counts) (join (ruleOf grid settings) (y .walkable .rounding .ps))) ⌝ }
+    requires { Joinable width w.old n m settings groups.now input.now spare.now merged.old }
+    ensures { (y : Joinable width w.old n m settings groups.now input.now spare.now merged.old)
+        → Rounded width w.new w.old n result input.now merged.new merged.old
+        y.walkable.rounding.counts (join (rule_of grid settings) y.walkable.rounding.ps) }
 {
     let on = settings.switch == 1;
     group_ends(w, n, m, grid, width, groups, input, spare);

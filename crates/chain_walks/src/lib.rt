@@ -1,8 +1,9 @@
 // From a table of partners to walks, in one workspace of n pieces: 2 n joins, n marks of visited pieces, n entries, n lengths.
-ghost use mathlib.Core.Path.{_≡_};
-ghost use Prim.Native.Nat.{_<_};
-ghost use Rattle·chain_laws.specs.Table.{Table, headOf};
-ghost use Rattle·chain_walks·specs.specs.Walks.{Walkable, Walked, WalksReady, AllWalked};
+#![tactic(auto)]
+
+ghost use Rattle.std.specs.Prelude.{◌≡◌, ◌<◌};
+ghost use Rattle.chain_laws.specs.Table.{Table, head_of};
+ghost use Rattle.chain_walks.specs.Walks.{Walkable, Walked, WalksReady, AllWalked};
 
 // Where the blocks of the part in which pieces are walked begin, in words for each piece. The joins stand first, two a piece.
 pub const VISITED: usize = 2;
@@ -13,8 +14,8 @@ pub const LENGTHS: usize = 4;
 
 // The head of the walk of `start`: back over the joins to a free end, or the start's end 0 in a ring.
 fn head(joins: &[u64], n: usize, start: usize) -> usize
-    requires { ⌜ Table n (now joins) × (start < n) ⌝ }
-    ensures { λ r. ⌜ r ≡ headOf (now (joins .entry)) n start ⌝ }
+    requires { Table n joins.now × (start < n) }
+    ensures { result ≡ head_of joins.now n start }
 {
     let mut e = 2 * start;
     let mut k: usize = 0;
@@ -35,8 +36,8 @@ fn head(joins: &[u64], n: usize, start: usize) -> usize
 
 // Forward from the entry `first`: marks the pieces and writes their entries behind `at` others. Returns how many there are.
 fn walk_on(w: &mut [u64], n: usize, first: usize, at: usize) -> usize
-    requires { ⌜ Walkable (now w) n first at ⌝ }
-    ensures { λ r. ⌜ Walked (now (w .exit)) (now (w .entry)) n first at r ⌝ }
+    requires { Walkable w.old n first at }
+    ensures { Walked w.new w.old n first at result }
 {
     let mut e = first;
     let mut k: usize = 0;
@@ -59,8 +60,8 @@ fn walk_on(w: &mut [u64], n: usize, first: usize, at: usize) -> usize
 
 // All walks, in order of their starts: their entries one behind another, and the length of each. Returns how many there are.
 pub fn walk_all(w: &mut [u64], n: usize) -> usize
-    requires { ⌜ WalksReady (now w) n ⌝ }
-    ensures { λ r. ⌜ AllWalked (now (w .exit)) (now (w .entry)) n r ⌝ }
+    requires { WalksReady w.old n }
+    ensures { AllWalked w.new w.old n result }
 {
     let mut s: usize = 0;
     let mut at: usize = 0;

@@ -1,67 +1,67 @@
 -- A round keeps it that the lines of a piece meet, as they are passed. A walk passes its pieces one after another, each from the end at which it is entered;
 -- within a piece they meet as before, from either end; and where a piece follows another, the keys of their ends are the same, and so are the keys of
 -- the lines' own points there: in round one a piece is a line, and in round two a piece's point is equal to its line's, so that both have one cell.
-use Prim.Native.Nat.{ℕ, zero, suc, _<_}
-use mathlib.Core.Path.{_≡_, refl, sym, ap, ap₂, _∙_}
-use mathlib.Core.Bool.{Bool, true, false, _&&_, _||_, cond, and-eq-true-iff}
-use mathlib.Core.List.{List, [], _∷_, map, reverse}
+use Prim.Native.Nat.{ℕ, zero, suc, ◌<◌}
+use mathlib.Core.Path.{◌≡◌, refl, sym, ap, ap₂, ◌∙◌}
+use mathlib.Core.Bool.{Bool, true, false, ◌&&◌, ◌||◌, cond, and-eq-true_iff}
+use mathlib.Core.List.{List, [], ◌∷◌, map, reverse}
 use native.Mathlib.Omega.{arith}
 use lib.Dec.{eqb}
 use lib.IntN.{ℤ}
 use lib.Ieee.{lt}
-use Rattle·rules.specs.declared.Meeting.{Meeting}
-use Rattle·rules.specs.declared.Grid.{Grid}
-use Rattle·rules.specs.declared.Grid.the-variants.{Exact, Cells}
-use Rattle·rules.specs.Lists.{count}
-use Rattle·rules.specs.Plane.{Point, Key, key, sameInt, sameKey, exactKey, cellKey, keyOf, nought}
-use Rattle·rules.specs.Chaining.{Piece, Line}
-use Rattle·rules.specs.Check.{oneKey, meet}
-use Rattle·chain_laws.proofs.Drawn.{count-reverse}
-use Rattle·chain_extras.specs.Bare.{ownPoints}
-use Rattle·chain_travel.specs.Travel.{drawn, markOf}
-use Rattle·chain_travel.proofs.Lists.{flatMap-same, flatMap-reverse, map-flatMap}
-use Rattle·chain_travel.proofs.Joining.{drawn-as-before, drawn-turned, Passes, marksFrom, listingFrom, mark-low, drawn-from}
-use Rattle·check_built·specs.specs.Runs.{meetsAll, turnedRuns, runsBy, runsOf}
-use Rattle·check_built·proofs.proofs.Runs.{meets-turned}
+use Rattle.rules.specs.declared.Meeting.{Meeting}
+use Rattle.rules.specs.declared.Grid.{Grid}
+use Rattle.rules.specs.declared.Grid.TheVariants.{Exact, Cells}
+use Rattle.rules.specs.Lists.{count}
+use Rattle.rules.specs.Plane.{Point, Key, key, same_int, same_key, exact_key, cell_key, key_of, nought}
+use Rattle.rules.specs.Chaining.{Piece, Line}
+use Rattle.rules.specs.Check.{one_key, meet}
+use Rattle.chain_laws.proofs.Drawn.{count_reverse}
+use Rattle.chain_extras.specs.Bare.{own_points}
+use Rattle.chain_travel.specs.Travel.{drawn, mark_of}
+use Rattle.chain_travel.proofs.Lists.{flat_map_same, flat_map_reverse, map_flat_map}
+use Rattle.chain_travel.proofs.Joining.{drawn_as_before, drawn_turned, Passes, marks_from, listing_from, mark_low, drawn_from}
+use Rattle.check_built.specs.Runs.{meets_all, turned_runs, runs_by, runs_of}
+use Rattle.check_built.proofs.Runs.{meets_turned}
 
 -- ---- keys
 
-key-parts : (g h : ℕ) (a b c d : ℤ) → key g a b ≡ key h c d → (a ≡ c) × (b ≡ d)
-key-parts g h a b c d e = (cc, cc)
+key_parts : (g h : ℕ) (a b c d : ℤ) → key g a b ≡ key h c d → (a ≡ c) × (b ≡ d)
+key_parts g h a b c d e = (cc, cc)
 
 -- keys of two groups that are the same are the same without them
-pub bare-key : (grid : Grid) (g h : ℕ) (p q : Point) → keyOf grid g p ≡ keyOf grid h q → keyOf grid 0 p ≡ keyOf grid 0 q
-unfolding keyOf exactKey cellKey
-bare-key Exact g h p q e = let t = key-parts g h _ _ _ _ e in ap₂ (λ (a b : ℤ). key 0 a b) (t .0) (t .1)
-bare-key (Cells t ox oy) g h p q e = let s = key-parts g h _ _ _ _ e in ap₂ (λ (a b : ℤ). key 0 a b) (s .0) (s .1)
+pub bare_key : (grid : Grid) (g h : ℕ) (p q : Point) → key_of grid g p ≡ key_of grid h q → key_of grid 0 p ≡ key_of grid 0 q
+unfolding key_of exact_key cell_key
+bare_key Exact g h p q e = let t = key_parts g h _ _ _ _ e in ap₂ (λ (a b : ℤ). key 0 a b) t.0 t.1
+bare_key (Cells t ox oy) g h p q e = let s = key_parts g h _ _ _ _ e in ap₂ (λ (a b : ℤ). key 0 a b) s.0 s.1
 
-int-self : (a : ℤ) → sameInt a a ≡ true
-int-self (lib.IntN.pos a) = borrow.Author.Tests.eq-eqb a a refl
-int-self (lib.IntN.negsuc a) = borrow.Author.Tests.eq-eqb a a refl
+int_self : (a : ℤ) → same_int a a ≡ true
+int_self (lib.IntN.pos a) = borrow.Author.Tests.eq-eqb a a refl
+int_self (lib.IntN.negsuc a) = borrow.Author.Tests.eq-eqb a a refl
 
-key-self : (k : Key) → sameKey k k ≡ true
-unfolding sameKey
-key-self (key g a b) =
-    and-eq-true-iff (eqb g g) (sameInt a a && sameInt b b) .1
-    (borrow.Author.Tests.eq-eqb g g refl, and-eq-true-iff (sameInt a a) (sameInt b b) .1 (int-self a, int-self b))
+key_self : (k : Key) → same_key k k ≡ true
+unfolding same_key
+key_self (key g a b) =
+    (and-eq-true_iff (eqb g g) (same_int a a && same_int b b)).1
+    (borrow.Author.Tests.eq-eqb g g refl, (and-eq-true_iff (same_int a a) (same_int b b)).1 (int_self a, int_self b))
 
-one-key : (grid : Grid) (p q : Point) → keyOf grid 0 p ≡ keyOf grid 0 q → oneKey grid p q ≡ true
-unfolding oneKey
-one-key grid p q e = ap (λ (k : Key). sameKey (keyOf grid 0 p) k) (sym e) ∙ key-self (keyOf grid 0 p)
+one_key_lem : (grid : Grid) (p q : Point) → key_of grid 0 p ≡ key_of grid 0 q → one_key grid p q ≡ true
+unfolding one_key
+one_key_lem grid p q e = ap (λ (k : Key). same_key (key_of grid 0 p) k) (sym e) ∙ key_self (key_of grid 0 p)
 
 -- a grid by which lines may meet: the exact one, or with a tolerance that of the cells
 pub data Meets (m : Meeting) : Grid → Type 0 where
-  by-bits : Meets m Exact
-  by-cells : lt nought (m .tolerance) ≡ true → Meets m (Cells (m .tolerance) (m .«origin_x») (m .«origin_y»))
+  by_bits : Meets m Exact
+  by_cells : lt nought m.tolerance ≡ true → Meets m (Cells m.tolerance m.origin_x m.origin_y)
 
-pub meet-by : (m : Meeting) (grid : Grid) (p q : Point) → Meets m grid → keyOf grid 0 p ≡ keyOf grid 0 q → meet m p q ≡ true
+pub meet_by : (m : Meeting) (grid : Grid) (p q : Point) → Meets m grid → key_of grid 0 p ≡ key_of grid 0 q → meet m p q ≡ true
 unfolding meet
-meet-by m grid p q by-bits e = ap (λ (b : Bool). b || (lt nought (m .tolerance) && oneKey (Cells (m .tolerance) (m .«origin_x») (m .«origin_y»)) p q)) (one-key Exact p q e)
-meet-by m grid p q (by-cells h) e =
-    ap (λ (b : Bool). oneKey Exact p q || b)
-    (and-eq-true-iff (lt nought (m .tolerance)) (oneKey (Cells (m .tolerance) (m .«origin_x») (m .«origin_y»)) p q) .1
-    (h, one-key (Cells (m .tolerance) (m .«origin_x») (m .«origin_y»)) p q e))
-    ∙ last (oneKey Exact p q)
+meet_by m grid p q by_bits e = ap (λ (b : Bool). b || (lt nought m.tolerance && one_key (Cells m.tolerance m.origin_x m.origin_y) p q)) (one_key_lem Exact p q e)
+meet_by m grid p q (by_cells h) e =
+    ap (λ (b : Bool). one_key Exact p q || b)
+    ((and-eq-true_iff (lt nought m.tolerance) (one_key (Cells m.tolerance m.origin_x m.origin_y) p q)).1
+    (h, one_key_lem (Cells m.tolerance m.origin_x m.origin_y) p q e))
+    ∙ last (one_key Exact p q)
   where
     last : (b : Bool) → (b || true) ≡ true
     last true = refl
@@ -70,28 +70,28 @@ meet-by m grid p q (by-cells h) e =
 -- ---- a piece that is passed from one of its ends
 
 module _ (ls : List Line) (p : Piece) (keeps : Passes ls p) where
-  abbrev pub runsFrom : ℕ → List (List Point)
-  runsFrom side = cond (eqb side 0) (runsOf ls p) (turnedRuns (runsOf ls p))
+  abbrev pub runs_from : ℕ → List (List Point)
+  runs_from side = cond (eqb side 0) (runs_of ls p) (turned_runs (runs_of ls p))
 
-  pub runs-from : (side : ℕ) → side < 2 → runsBy ls (p .lines) (marksFrom ls p keeps side) (listingFrom ls p keeps side) ≡ runsFrom side
-  unfolding runsBy
-  runs-from zero h =
-      flatMap-same _ _ (p .listing)
+  pub runs_from_lem : (side : ℕ) → side < 2 → runs_by ls p.lines (marks_from ls p keeps side) (listing_from ls p keeps side) ≡ runs_from side
+  unfolding runs_by
+  runs_from_lem zero h =
+      flat_map_same _ _ p.listing
       (λ k i. ap {B = List (List Point)} (λ (r : List Point). r ∷ [])
-      (drawn-from ls p keeps 0 k i ∙ drawn-as-before (markOf (p .lines) (p .marks) k) (ownPoints ls k) (mark-low ls p keeps k i)))
-  runs-from (suc zero) h =
-      flatMap-same _ _ (reverse (p .listing))
-      (λ k i. let j : 0 < count k (p .listing) = omega (arith, count-reverse k (p .listing)) in
+      (drawn_from ls p keeps 0 k i ∙ drawn_as_before (mark_of p.lines p.marks k) (own_points ls k) (mark_low ls p keeps k i)))
+  runs_from_lem (suc zero) h =
+      flat_map_same _ _ (reverse p.listing)
+      (λ k i. let j : 0 < count k p.listing = omega (arith, count_reverse k p.listing) in
       ap {B = List (List Point)} (λ (r : List Point). r ∷ [])
-      (drawn-from ls p keeps 1 k j ∙ drawn-turned (markOf (p .lines) (p .marks) k) (ownPoints ls k) (mark-low ls p keeps k j)))
+      (drawn_from ls p keeps 1 k j ∙ drawn_turned (mark_of p.lines p.marks k) (own_points ls k) (mark_low ls p keeps k j)))
       ∙ sym
-      (ap (map (λ (r : List Point). reverse r)) (flatMap-reverse (λ k. drawn (markOf (p .lines) (p .marks) k) (ownPoints ls k) ∷ []) (p .listing))
-      ∙ map-flatMap (λ (r : List Point). reverse r) (λ k. drawn (markOf (p .lines) (p .marks) k) (ownPoints ls k) ∷ []) (reverse (p .listing)))
-  runs-from (suc (suc side)) h = absurd (omega arith)
+      (ap (map (λ (r : List Point). reverse r)) (flat_map_reverse (λ k. drawn (mark_of p.lines p.marks k) (own_points ls k) ∷ []) p.listing)
+      ∙ map_flat_map (λ (r : List Point). reverse r) (λ k. drawn (mark_of p.lines p.marks k) (own_points ls k) ∷ []) (reverse p.listing))
+  runs_from_lem (suc (suc side)) h = absurd (omega arith)
 
-  pub meets-from : (m : Meeting) (side : ℕ) → meetsAll m (runsOf ls p) ≡ true → meetsAll m (runsFrom side) ≡ true
-  meets-from m side h = go (eqb side 0)
+  pub meets_from : (m : Meeting) (side : ℕ) → meets_all m (runs_of ls p) ≡ true → meets_all m (runs_from side) ≡ true
+  meets_from m side h = go (eqb side 0)
     where
-      go : (t : Bool) → meetsAll m (cond t (runsOf ls p) (turnedRuns (runsOf ls p))) ≡ true
+      go : (t : Bool) → meets_all m (cond t (runs_of ls p) (turned_runs (runs_of ls p))) ≡ true
       go true = h
-      go false = meets-turned m (runsOf ls p) h
+      go false = meets_turned m (runs_of ls p) h

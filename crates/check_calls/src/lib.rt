@@ -1,21 +1,16 @@
 // The call that judges a delivery of chains: its refusals in their order, and each chain.
-use rules::Answer;
-use rules::LINE_ROOM;
-use rules::MOST_LINES;
-use rules::Meeting;
-use rules::RECORD;
-ghost use mathlib.Core.Path.{_≡_};
-ghost use mathlib.Core.List.{[], _∷_, _++_, map};
-ghost use Prim.Native.Nat.{ℕ, _*_, _≤_, _<_};
-ghost use lib.Dec.{ltb};
-ghost use lib.ListN.{length};
-ghost use Rattle·rules.specs.Lists.{upto, anyOf};
-ghost use Rattle·rules.specs.Layout.{lent, linesIn};
-ghost use Rattle·rules.specs.Refusals.{lineRoom, firstOf, lineTests, originBad};
-ghost use Rattle·rules.specs.Check.{acceptable as acceptable-all, delivery, Checked};
-ghost use Rattle·check_chains.specs.Chains.{MarkRooms};
-ghost use Rattle·check_fits.specs.Fits.{Lined, LinesTabled};
-ghost use Rattle·check_calls·specs.specs.Deliveries.{badAt, RecordFine, SeenMarked, ChainJudged, deliveredBy};
+#![tactic(auto)]
+
+ghost use Rattle.std.specs.Prelude.{◌≡◌, [], ◌∷◌, ◌++◌, map, ℕ, ◌*◌, ◌≤◌, ◌<◌, ltb, length};
+ghost use Rattle.rules.specs.Lists.{upto, any_of};
+ghost use Rattle.rules.specs.Layout.{lent, lines_in};
+ghost use Rattle.rules.specs.Refusals.{line_room, first_of, line_tests, origin_bad};
+ghost use Rattle.rules.specs.Check.{acceptable as acceptable_all, delivery, Checked};
+ghost use Rattle.check_chains.specs.Chains.{MarkRooms};
+ghost use Rattle.check_fits.specs.Fits.{Lined, LinesTabled};
+ghost use Rattle.check_calls.specs.Deliveries.{bad_at, RecordFine, SeenMarked, ChainJudged, delivered_by};
+
+use rules::{Answer, LINE_ROOM, MOST_LINES, Meeting, RECORD};
 
 // ---- all chains
 
@@ -38,12 +33,12 @@ fn chain_at<'a>(
     k: usize,
     m: Meeting,
 ) -> bool
-    requires { ⌜ LinesTabled width (now coordinates) (now firsts) (now counts) (now groups) (now kinds)
-        × RecordFine width (length (now counts)) (now coordinates) (now merged) (now table) (now listing) k
-        × SeenMarked (now seen) × MarkRooms (now marks) (now «drawn_fits») (now «turned_fits») (now near) ⌝ }
-    ensures { λ r. ⌜ ChainJudged m width (now (coordinates .entry)) (now (counts .entry)) (now (groups .entry)) (now (kinds .entry))
-        (now (merged .entry)) (now (table .entry)) (now (listing .entry)) k (now (seen .entry)) (now (seen .exit)) r
-        × MarkRooms (now (marks .exit)) (now («drawn_fits» .exit)) (now («turned_fits» .exit)) (now (near .exit)) ⌝ }
+    requires { LinesTabled width coordinates.now firsts.now counts.now groups.now kinds.now
+        × RecordFine width (length counts.now) coordinates.now merged.now table.now listing.now k
+        × SeenMarked seen.old × MarkRooms marks.old drawn_fits.old turned_fits.old near.old }
+    ensures { ChainJudged m width coordinates.now counts.now groups.now kinds.now
+        merged.now table.now listing.now k seen.old seen.new result
+        × MarkRooms marks.new drawn_fits.new turned_fits.new near.new }
 {
     let from = table[k * RECORD] as usize;
     let to = from + table[k * RECORD + 1] as usize;
@@ -81,10 +76,10 @@ fn acceptable<'a>(
     merged: &'a [u64],
     m: Meeting,
 ) -> bool
-    requires { ⌜ Lined width (now coordinates) (now counts) (now groups) (now kinds)
-        × ((k : ℕ) → k < n → RecordFine width (length (now counts)) (now coordinates) (now merged) (now table) (now listing) k) ⌝ }
-    ensures { λ r. ⌜ r ≡ acceptable-all m (linesIn width (lent (now (coordinates .entry)) (now (counts .entry)) (now (groups .entry)) (now (kinds .entry))))
-        (map (deliveredBy width (now (coordinates .entry)) (now (merged .entry)) (now (table .entry)) (now (listing .entry))) (upto n)) ⌝ }
+    requires { Lined width coordinates.now counts.now groups.now kinds.now
+        × ((k : ℕ) → k < n → RecordFine width (length counts.now) coordinates.now merged.now table.now listing.now k) }
+    ensures { result ≡ acceptable_all m (lines_in width (lent coordinates.now counts.now groups.now kinds.now))
+        (map (delivered_by width coordinates.now merged.now table.now listing.now) (upto n)) }
 {
     let mut firsts = [0u32; MOST_LINES];
     let mut seen = [0u8; MOST_LINES];
@@ -132,8 +127,8 @@ fn bad_record(
     n: usize,
     k: usize,
 ) -> bool
-    requires { ⌜ width ≤ 4 ⌝ }
-    ensures { λ r. ⌜ r ≡ badAt width n (now (coordinates .entry)) (now (merged .entry)) (now (table .entry)) (now (listing .entry)) k ⌝ }
+    requires { width ≤ 4 }
+    ensures { result ≡ bad_at width n coordinates.now merged.now table.now listing.now k }
 {
     if build_question::no_chain(coordinates, merged, table, width, k) {
         return true;
@@ -156,8 +151,8 @@ fn any_bad(
     n: usize,
     k: u64,
 ) -> bool
-    requires { ⌜ width ≤ 4 ⌝ }
-    ensures { λ r. ⌜ r ≡ anyOf (badAt width n (now (coordinates .entry)) (now (merged .entry)) (now (table .entry)) (now (listing .entry))) (upto k) ⌝ }
+    requires { width ≤ 4 }
+    ensures { result ≡ any_of (bad_at width n coordinates.now merged.now table.now listing.now) (upto k) }
 {
     let mut j: u64 = 0;
     while j < k {
@@ -179,8 +174,8 @@ fn refusal(
     m: Meeting,
     room: usize,
 ) -> u64
-    ensures { λ r. ⌜ r ≡ firstOf (lineTests «wkb_type» (lent (now (coordinates .entry)) (now (counts .entry)) (now (groups .entry)) (now (kinds .entry)))
-        ++ ((17, originBad (m .«origin_x») (m .«origin_y»)) ∷ (7, ltb room (length (now (counts .entry)) * lineRoom)) ∷ [])) ⌝ }
+    ensures { result ≡ first_of (line_tests wkb_type (lent coordinates.now counts.now groups.now kinds.now)
+        ++ ((17, origin_bad m.origin_x m.origin_y) ∷ (7, ltb room (length counts.now * line_room)) ∷ [])) }
 {
     let refused = build_refusals::line_refusal(wkb_type, coordinates, counts, groups, kinds);
     if refused != 0 {
@@ -209,9 +204,9 @@ pub fn check<'a>(
     merged: &'a [u64],
     workspace: &mut [u64],
 ) -> Answer
-    ensures { λ r. ⌜ Checked (delivery «wkb_type» (lent (now (coordinates .entry)) (now (counts .entry)) (now (groups .entry)) (now (kinds .entry))) m
-        (now (table .entry)) k (now (listing .entry)) (now (merged .entry)) (now (workspace .entry)))
-        r (now (workspace .exit)) ⌝ }
+    ensures { Checked (delivery wkb_type (lent coordinates.now counts.now groups.now kinds.now) m
+        table.now k listing.now merged.now workspace.old)
+        result workspace.new }
 {
     let refused = refusal(
         wkb_type,

@@ -1,56 +1,56 @@
 -- The first line stands at the beginning of the chain as drawn, turned, both or neither, and the first mark tells which.
-use Prim.Native.Nat.{ℕ, _-_, _*_, _≤_, _<_}
-use mathlib.Core.Path.{_≡_, sym, ap, _∙_, subst}
+use Prim.Native.Nat.{ℕ, ◌-◌, ◌*◌, ◌≤◌, ◌<◌}
+use mathlib.Core.Path.{◌≡◌, sym, ap, ◌∙◌, subst}
 use mathlib.Core.Bool.{Bool, true, false, cond}
 use mathlib.Core.List.{List}
 use native.Mathlib.Omega.{arith}
-use native.Mathlib.Nat.{div-le-of-le-mul}
+use native.Mathlib.Nat.{div-le_of_le-mul}
 use lib.Dec.{eqb}
-use lib.ListN.{length, getD}
+use lib.ListN.{length, get_or}
 use borrow.Author.Tests.{eqb-true}
-use Rattle·rules.specs.Plane.{Point, points}
-use Rattle·rules.specs.Refusals.{mostPoints}
-use Rattle·point_numbers.proofs.Points.{points-length, points-next}
-use Rattle·chain_laws.proofs.Room.{lay-short}
-use Rattle·check_laws.specs.Standing.{laidRun, sizeOf, fitAt}
-use Rattle·check_laws.proofs.Points.{laid-size}
-use Rattle·check_laws.proofs.Ways.{Sized, read}
-use Rattle·check_marks.specs.Marks.{has, setOf}
-use Rattle·check_marks.proofs.Sets.{has-set, set-small}
-use Rattle·check_places.specs.declared.Extent.{Extent}
-use Rattle·check_places.specs.Places.{Reached}
-use Rattle·check_places.specs.Places as places
-use Rattle·check_chains·specs.specs.Chains.{ChainGround, FirstLineLies}
+use Rattle.rules.specs.Plane.{Point, points}
+use Rattle.rules.specs.Refusals.{most_points}
+use Rattle.point_numbers.proofs.Points.{points_length, points_next}
+use Rattle.chain_laws.proofs.Room.{lay_short}
+use Rattle.check_laws.specs.Standing.{laid_run, size_of, fit_at}
+use Rattle.check_laws.proofs.Points.{laid_size}
+use Rattle.check_laws.proofs.Ways.{Sized, read}
+use Rattle.check_marks.specs.Marks.{has, set_of}
+use Rattle.check_marks.proofs.Sets.{has_set, set_small}
+use Rattle.check_places.specs.declared.Extent.{Extent}
+use Rattle.check_places.specs.Places.{Reached}
+use Rattle.check_places.specs.Places as places
+use Rattle.check_chains.specs.Chains.{ChainGround, FirstLineLies}
 
 -- ---- the ground
 
 module _ (w : ℕ) (chain line : List ℕ) (g : ChainGround w chain line) where
-  pub places-ground : places.PlaceGround w chain line
-  places-ground =
+  pub places_ground : places.PlaceGround w chain line
+  places_ground =
       record {
-        two = g .two;
-        four = g .four;
-        chain-whole = g .chain-whole;
-        line-whole = g .line-whole;
-        filled = g .filled;
-        short = omega (arith, g .short, g .four);
-        numbers = g .numbers;
+        two = g.two;
+        four = g.four;
+        chain_whole = g.chain_whole;
+        line_whole = g.line_whole;
+        filled = g.filled;
+        short = omega (arith, g.short, g.four);
+        numbers = g.numbers;
       }
 
-  points-there : 0 < length (points w line)
-  points-there = omega (arith, ap length (points-next w line (omega (arith, g .two)) (g .filled)))
+  points_there : 0 < length (points w line)
+  points_there = omega (arith, ap length (points_next w line (omega (arith, g.two)) g.filled))
 
   pub sized : Sized (points w line)
-  sized = record { numbers = g .numbers; filled = points-there }
+  sized = record { numbers = g.numbers; filled = points_there }
 
-  pub size-some : 0 < sizeOf (points w line)
-  size-some = omega (arith, read false (points w line) sized .size-is)
+  pub size_some : 0 < size_of (points w line)
+  size_some = omega (arith, (read false (points w line) sized).size_is)
 
-  pub size-short : sizeOf (points w line) ≤ mostPoints
-  unfolding sizeOf
-  size-short = omega (arith, lay-short mathlib.Core.Option.none (points w line), points-length w line, div-le-of-le-mul w {m = length line} {n = mostPoints} (turned (g .short)))
+  pub size_short : size_of (points w line) ≤ most_points
+  unfolding size_of
+  size_short = omega (arith, lay_short mathlib.Core.Option.none (points w line), points_length w line, div-le_of_le-mul w {m = length line} {n = most_points} (turned g.short))
     where
-      turned : length line ≤ mostPoints * w → length line ≤ w * mostPoints
+      turned : length line ≤ most_points * w → length line ≤ w * most_points
       turned h = omega arith
 
 -- ---- the first line
@@ -63,30 +63,30 @@ module _ (w : ℕ) (chain line : List ℕ) (g : ChainGround w chain line) where
   l = points w line
 
   -- what is reached at the first place tells whether the line stands there
-  reach-fit : (d : Bool) (r : Extent) → Reached w chain line d 0 r → fitAt t d l 0 ≡ r .whole
-  unfolding fitAt
-  reach-fit d r h = ap (λ (n : ℕ). eqb n (length (laidRun d l))) (sym (h .count)) ∙ sym (h .all)
+  reach_fit : (d : Bool) (r : Extent) → Reached w chain line d 0 r → fit_at t d l 0 ≡ r.whole
+  unfolding fit_at
+  reach_fit d r h = ap (λ (n : ℕ). eqb n (length (laid_run d l))) (sym h.count) ∙ sym h.all
 
-  reach-size : (d : Bool) (r : Extent) → Reached w chain line d 0 r → r .whole ≡ true → r .points ≡ sizeOf l
-  reach-size d r h e = eqb-true (r .points) (length (laidRun d l)) (sym (h .all) ∙ e) ∙ laid-size d l (g .numbers)
+  reach_size : (d : Bool) (r : Extent) → Reached w chain line d 0 r → r.whole ≡ true → r.points ≡ size_of l
+  reach_size d r h e = eqb-true r.points (length (laid_run d l)) (sym h.all ∙ e) ∙ laid_size d l g.numbers
 
-  module _ (a b : Extent) (ha : Reached w chain line false 0 a) (hb : Reached w chain line true 0 b) (marks′ : List ℕ) (is : getD marks′ 0 0 ≡ setOf (a .whole) (b .whole)) where
-    whole-of : (d : Bool) → fitAt t d l 0 ≡ cond d (b .whole) (a .whole)
-    whole-of true = reach-fit true b hb
-    whole-of false = reach-fit false a ha
+  module _ (a b : Extent) (ha : Reached w chain line false 0 a) (hb : Reached w chain line true 0 b) (marks' : List ℕ) (is : get_or marks' 0 0 ≡ set_of a.whole b.whole) where
+    whole_of : (d : Bool) → fit_at t d l 0 ≡ cond d b.whole a.whole
+    whole_of true = reach_fit true b hb
+    whole_of false = reach_fit false a ha
 
-    begin-some : (base : ℕ) → base ≡ sizeOf l → FirstLineLies t l marks′ (record { base = base; low = 0; end = 1 })
-    begin-some base e =
+    begin_some : (base : ℕ) → base ≡ size_of l → FirstLineLies t l marks' (record { base = base; low = 0; end = 1 })
+    begin_some base e =
         record {
           steady =
               record {
                 order = omega arith;
                 few = omega arith;
-                near = omega (arith, size-short w chain line g);
-                behind = λ q. omega (arith, size-some w chain line g);
+                near = omega (arith, size_short w chain line g);
+                behind = λ q. omega (arith, size_some w chain line g);
                 small = λ j p q.
                     let z : j ≡ 0 = omega arith in
-                    subst (λ (n : ℕ). n ≤ 3) (sym (ap (λ (i : ℕ). getD marks′ i 0) z ∙ is)) (set-small (a .whole) (b .whole));
+                    subst (λ (n : ℕ). n ≤ 3) (sym (ap (λ (i : ℕ). get_or marks' i 0) z ∙ is)) (set_small a.whole b.whole);
               };
           on = λ d f.
               record {
@@ -94,29 +94,29 @@ module _ (w : ℕ) (chain line : List ℕ) (g : ChainGround w chain line) where
                 low = omega arith;
                 high = omega arith;
                 place = omega arith;
-                way = ap (has d) is ∙ has-set d (a .whole) (b .whole) ∙ sym (whole-of d) ∙ f;
+                way = ap (has d) is ∙ has_set d a.whole b.whole ∙ sym (whole_of d) ∙ f;
               };
           back = λ d k v.
-              let z : v .mark ≡ 0 = omega (arith, v .high) in (
-                omega (arith, v .place),
-                whole-of d ∙ sym (has-set d (a .whole) (b .whole)) ∙ ap (has d) (sym is) ∙ ap (λ (i : ℕ). has d (getD marks′ i 0)) (sym z) ∙ v .way,
+              let z : v.mark ≡ 0 = omega (arith, v.high) in (
+                omega (arith, v.place),
+                whole_of d ∙ sym (has_set d a.whole b.whole) ∙ ap (has d) (sym is) ∙ ap (λ (i : ℕ). has d (get_or marks' i 0)) (sym z) ∙ v.way,
               );
         }
 
-    pub begin-drawn : a .whole ≡ true → FirstLineLies t l marks′ (record { base = a .points; low = 0; end = 1 })
-    begin-drawn e = begin-some (a .points) (reach-size false a ha e)
+    pub begin_drawn : a.whole ≡ true → FirstLineLies t l marks' (record { base = a.points; low = 0; end = 1 })
+    begin_drawn e = begin_some a.points (reach_size false a ha e)
 
-    pub begin-turned : b .whole ≡ true → FirstLineLies t l marks′ (record { base = b .points; low = 0; end = 1 })
-    begin-turned e = begin-some (b .points) (reach-size true b hb e)
+    pub begin_turned : b.whole ≡ true → FirstLineLies t l marks' (record { base = b.points; low = 0; end = 1 })
+    begin_turned e = begin_some b.points (reach_size true b hb e)
 
-    pub begin-none : a .whole ≡ false → b .whole ≡ false → FirstLineLies t l marks′ (record { base = 0; low = 0; end = 0 })
-    begin-none p q =
+    pub begin_none : a.whole ≡ false → b.whole ≡ false → FirstLineLies t l marks' (record { base = 0; low = 0; end = 0 })
+    begin_none p q =
         record {
           steady = record { order = omega arith; few = omega arith; near = omega arith; behind = λ z. omega arith; small = λ j x y. absurd (omega arith) };
-          on = λ d f. absurd (never d (sym (whole-of d) ∙ f));
-          back = λ d k v. absurd (omega (arith, v .high));
+          on = λ d f. absurd (never d (sym (whole_of d) ∙ f));
+          back = λ d k v. absurd (omega (arith, v.high));
         }
       where
-        never : (d : Bool) → cond d (b .whole) (a .whole) ≡ true → ⊥
-        never true e = let z : _≡_ {A = ℕ} 0 1 = cc in omega arith
-        never false e = let z : _≡_ {A = ℕ} 0 1 = cc in omega arith
+        never : (d : Bool) → cond d b.whole a.whole ≡ true → ⊥
+        never true e = let z : ◌≡◌ {A = ℕ} 0 1 = cc in omega arith
+        never false e = let z : ◌≡◌ {A = ℕ} 0 1 = cc in omega arith

@@ -1,16 +1,17 @@
 // Whether a choice of directions exists for the lines of a chain, by all places of its coordinates that are still possible, line by line.
-use rules::MOST_LINES;
-ghost use mathlib.Core.Path.{_≡_};
-ghost use Prim.Native.Nat.{_+_, _*_, _≤_, _<_};
-ghost use lib.ListN.{length};
-ghost use Rattle·rules.specs.Plane.{points};
-ghost use Rattle·rules.specs.Refusals.{mostLines};
-ghost use Rattle·check_places.specs.Places.{far, PlaceGround as Line, Tables};
-ghost use Rattle·check_chains·specs.specs.Chains.{part, ChainGround, FirstLineLies, Steps, FilledOpen, Greater, MarkRooms, Advancing, endedAt, LinesListed, ChainDecided};
-use rules::Meeting;
+#![tactic(auto)]
+
+ghost use Rattle.std.specs.Prelude.{◌≡◌, ◌+◌, ◌*◌, ◌≤◌, ◌<◌, length};
+ghost use Rattle.rules.specs.Plane.{points};
+ghost use Rattle.rules.specs.Refusals.{most_lines};
+ghost use Rattle.check_places.specs.Places.{far, PlaceGround as Line, Tables};
+ghost use Rattle.check_chains.specs.Chains.{part, ChainGround, FirstLineLies, Steps, FilledOpen, Greater, MarkRooms, Advancing, ended_at, LinesListed, ChainDecided};
+
+use rules::{MOST_LINES, Meeting};
 
 // What is known behind a line: how many points the lines up to it lay alone, `base`, and between which marks those that are there stand. The mark j is that of the
 // place base - j, where j points were dropped.
+#[derive(Clone, Copy)]
 pub struct Held {
     pub base: usize,
     pub low: usize,
@@ -19,9 +20,9 @@ pub struct Held {
 
 // The first line: at the first place, in both directions.
 fn begin(marks: &mut [u8; MOST_LINES], chain: &[u64], width: usize, line: &[u64]) -> Held
-    requires { ⌜ ChainGround width (now chain) (now line) × (length (now marks) ≡ mostLines) ⌝ }
-    ensures { λ r. ⌜ FirstLineLies (points width (now (chain .entry))) (points width (now (line .entry))) (now (marks .exit)) r
-        × (length (now (marks .exit)) ≡ mostLines) ⌝ }
+    requires { ChainGround width chain.now line.now × (length marks.old ≡ most_lines) }
+    ensures { FirstLineLies (points width chain.now) (points width line.now) marks.new result
+        × (length marks.new ≡ most_lines) }
 {
     let drawn = check_places::reach(chain, width, 0, line, false);
     let turned = check_places::reach(chain, width, 0, line, true);
@@ -59,9 +60,9 @@ fn fill_open(
     from: usize,
     n: usize,
 ) -> usize
-    requires { ⌜ Line width (now chain) (now line) × (from ≤ far) × (0 < n) × (n ≤ mostLines) × Tables (now fits) (now near) ⌝ }
-    ensures { λ r. ⌜ FilledOpen ways width (now (chain .entry)) (now (line .entry)) turned from n (now (fits .exit)) r
-        × Tables (now (fits .exit)) (now (near .exit)) ⌝ }
+    requires { Line width chain.now line.now × (from ≤ far) × (0 < n) × (n ≤ most_lines) × Tables fits.old near.old }
+    ensures { FilledOpen ways width chain.now line.now turned from n fits.new result
+        × Tables fits.new near.new }
 {
     if ways == 0 {
         return 0;
@@ -71,7 +72,7 @@ fn fill_open(
 
 // The greater of two.
 fn greater(a: usize, b: usize) -> usize
-    ensures { λ r. ⌜ Greater a b r ⌝ }
+    ensures { Greater a b result }
 {
     if a < b {
         return b;
@@ -92,11 +93,11 @@ fn advance(
     h: Held,
     m: Meeting,
 ) -> Held
-    requires { ⌜ Advancing width (now chain) (now p) (now l) (now marks) h × MarkRooms (now marks) (now «drawn_fits») (now «turned_fits») (now near) ⌝ }
-    ensures { λ r. ⌜ ((y : Advancing width (now (chain .entry)) (now (p .entry)) (now (l .entry)) (now (marks .entry)) h)
-        → Steps m (points width (now (chain .entry))) (points width (now (p .entry))) (points width (now (l .entry))) (y .passed)
-        (now (marks .entry)) h (now (marks .exit)) r)
-        × MarkRooms (now (marks .exit)) (now («drawn_fits» .exit)) (now («turned_fits» .exit)) (now (near .exit)) ⌝ }
+    requires { Advancing width chain.now p.now l.now marks.old h × MarkRooms marks.old drawn_fits.old turned_fits.old near.old }
+    ensures { ((y : Advancing width chain.now p.now l.now marks.old h)
+        → Steps m (points width chain.now) (points width p.now) (points width l.now) y.passed
+        marks.old h marks.new result)
+        × MarkRooms marks.new drawn_fits.new turned_fits.new near.new }
 {
     let from = h.base - h.end;
     let n = h.end - h.low + 1;
@@ -141,14 +142,14 @@ fn advance_at(
     h: Held,
     m: Meeting,
 ) -> Held
-    requires { ⌜ (pa ≤ pb) × (pb ≤ length (now coordinates)) × (a ≤ b) × (b ≤ length (now coordinates))
-        × Advancing width (now chain) (part (now coordinates) pa pb) (part (now coordinates) a b) (now marks) h
-        × MarkRooms (now marks) (now «drawn_fits») (now «turned_fits») (now near) ⌝ }
-    ensures { λ r. ⌜ ((y : Advancing width (now (chain .entry)) (part (now (coordinates .entry)) pa pb) (part (now (coordinates .entry)) a b)
-        (now (marks .entry)) h)
-        → Steps m (points width (now (chain .entry))) (points width (part (now (coordinates .entry)) pa pb))
-        (points width (part (now (coordinates .entry)) a b)) (y .passed) (now (marks .entry)) h (now (marks .exit)) r)
-        × MarkRooms (now (marks .exit)) (now («drawn_fits» .exit)) (now («turned_fits» .exit)) (now (near .exit)) ⌝ }
+    requires { (pa ≤ pb) × (pb ≤ length coordinates.now) × (a ≤ b) × (b ≤ length coordinates.now)
+        × Advancing width chain.now (part coordinates.now pa pb) (part coordinates.now a b) marks.old h
+        × MarkRooms marks.old drawn_fits.old turned_fits.old near.old }
+    ensures { ((y : Advancing width chain.now (part coordinates.now pa pb) (part coordinates.now a b)
+        marks.old h)
+        → Steps m (points width chain.now) (points width (part coordinates.now pa pb))
+        (points width (part coordinates.now a b)) y.passed marks.old h marks.new result)
+        × MarkRooms marks.new drawn_fits.new turned_fits.new near.new }
 {
     advance(
         marks,
@@ -166,8 +167,8 @@ fn advance_at(
 
 // Whether the mark of the place `have` is there.
 fn at_end(marks: &[u8; MOST_LINES], h: Held, have: usize) -> bool
-    requires { ⌜ h .end ≤ mostLines ⌝ }
-    ensures { λ r. ⌜ r ≡ endedAt (now (marks .entry)) h have ⌝ }
+    requires { h.end ≤ most_lines }
+    ensures { result ≡ ended_at marks.now h have }
 {
     if h.base < have {
         return false;
@@ -196,11 +197,11 @@ pub fn a_choice(
     chain: &[u64],
     m: Meeting,
 ) -> bool
-    requires { ⌜ LinesListed width (now coordinates) (now firsts) (now counts) (now listed) (now chain)
-        × MarkRooms (now marks) (now «drawn_fits») (now «turned_fits») (now near) ⌝ }
-    ensures { λ r. ⌜ ChainDecided m width (now (coordinates .entry)) (now (firsts .entry)) (now (counts .entry))
-        (now (listed .entry)) (now (chain .entry)) r
-        × MarkRooms (now (marks .exit)) (now («drawn_fits» .exit)) (now («turned_fits» .exit)) (now (near .exit)) ⌝ }
+    requires { LinesListed width coordinates.now firsts.now counts.now listed.now chain.now
+        × MarkRooms marks.old drawn_fits.old turned_fits.old near.old }
+    ensures { ChainDecided m width coordinates.now firsts.now counts.now
+        listed.now chain.now result
+        × MarkRooms marks.new drawn_fits.new turned_fits.new near.new }
 {
     let y = listed[0] as usize;
     let mut pa = firsts[y] as usize * width;

@@ -1,14 +1,14 @@
 // Whether one chain is acceptable: one of no line, of a lone line, or of lines that may be joined.
-use rules::MOST_LINES;
-use rules::Meeting;
-ghost use mathlib.Core.Path.{_≡_};
-ghost use Prim.Native.Nat.{_<_};
-ghost use lib.ListN.{length};
-ghost use Rattle·rules.specs.declared.Meeting.{Meeting as Meets};
-ghost use Rattle·rules.specs.Plane.{points};
-ghost use Rattle·rules.specs.Check.{joins as joined, fits};
-ghost use Rattle·check_chains.specs.Chains.{MarkRooms};
-ghost use Rattle·check_fits·specs.specs.Fits.{LinesTabled, ChainLent, chosen};
+#![tactic(auto)]
+
+ghost use Rattle.std.specs.Prelude.{◌≡◌, ◌<◌, length};
+ghost use Rattle.rules.specs.declared.Meeting.{Meeting as Meets};
+ghost use Rattle.rules.specs.Plane.{points};
+ghost use Rattle.rules.specs.Check.{joins as joined, fits};
+ghost use Rattle.check_chains.specs.Chains.{MarkRooms};
+ghost use Rattle.check_fits.specs.Fits.{LinesTabled, ChainLent, chosen};
+
+use rules::{MOST_LINES, Meeting};
 
 // Whether the lines that are listed may be joined as a chain.
 fn joins(
@@ -26,12 +26,12 @@ fn joins(
     chain: &[u64],
     m: Meeting,
 ) -> bool
-    requires { ⌜ LinesTabled width (now coordinates) (now firsts) (now counts) (now groups) (now kinds) × ChainLent width (now counts) (now listed) (now chain)
-        × (0 < length (now listed)) × MarkRooms (now marks) (now «drawn_fits») (now «turned_fits») (now near) ⌝ }
-    ensures { λ r. ⌜ (r ≡ joined m (chosen width (now (coordinates .entry)) (now (counts .entry)) (now (groups .entry)) (now (kinds .entry))
-        (now (listed .entry)))
-        (points width (now (chain .entry))))
-        × MarkRooms (now (marks .exit)) (now («drawn_fits» .exit)) (now («turned_fits» .exit)) (now (near .exit)) ⌝ }
+    requires { LinesTabled width coordinates.now firsts.now counts.now groups.now kinds.now × ChainLent width counts.now listed.now chain.now
+        × (0 < length listed.now) × MarkRooms marks.old drawn_fits.old turned_fits.old near.old }
+    ensures { (result ≡ joined m (chosen width coordinates.now counts.now groups.now kinds.now
+        listed.now)
+        (points width chain.now))
+        × MarkRooms marks.new drawn_fits.new turned_fits.new near.new }
 {
     if !check_lines::all_plain(listed, counts, kinds) {
         return false;
@@ -65,11 +65,11 @@ fn lone_fits(
     listed: &[u32],
     chain: &[u64],
 ) -> bool
-    requires { ⌜ LinesTabled width (now coordinates) (now firsts) (now counts) (now groups) (now kinds) × ChainLent width (now counts) (now listed) (now chain)
-        × (length (now listed) ≡ 1) ⌝ }
-    ensures { λ r. ⌜ ((m : Meets) → r ≡ fits m (chosen width (now (coordinates .entry)) (now (counts .entry)) (now (groups .entry))
-        (now (kinds .entry)) (now (listed .entry)))
-        (points width (now (chain .entry)))) ⌝ }
+    requires { LinesTabled width coordinates.now firsts.now counts.now groups.now kinds.now × ChainLent width counts.now listed.now chain.now
+        × (length listed.now ≡ 1) }
+    ensures { (m : Meets) → result ≡ fits m (chosen width coordinates.now counts.now groups.now
+        kinds.now listed.now)
+        (points width chain.now) }
 {
     let y = listed[0] as usize;
     let a = firsts[y] as usize * width;
@@ -93,12 +93,12 @@ pub fn chain_fits(
     chain: &[u64],
     m: Meeting,
 ) -> bool
-    requires { ⌜ LinesTabled width (now coordinates) (now firsts) (now counts) (now groups) (now kinds) × ChainLent width (now counts) (now listed) (now chain)
-        × MarkRooms (now marks) (now «drawn_fits») (now «turned_fits») (now near) ⌝ }
-    ensures { λ r. ⌜ (r ≡ fits m (chosen width (now (coordinates .entry)) (now (counts .entry)) (now (groups .entry)) (now (kinds .entry))
-        (now (listed .entry)))
-        (points width (now (chain .entry))))
-        × MarkRooms (now (marks .exit)) (now («drawn_fits» .exit)) (now («turned_fits» .exit)) (now (near .exit)) ⌝ }
+    requires { LinesTabled width coordinates.now firsts.now counts.now groups.now kinds.now × ChainLent width counts.now listed.now chain.now
+        × MarkRooms marks.old drawn_fits.old turned_fits.old near.old }
+    ensures { (result ≡ fits m (chosen width coordinates.now counts.now groups.now kinds.now
+        listed.now)
+        (points width chain.now))
+        × MarkRooms marks.new drawn_fits.new turned_fits.new near.new }
 {
     if listed.len() == 0 {
         return chain.len() == 0;

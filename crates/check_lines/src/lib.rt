@@ -1,18 +1,18 @@
 // The lines that chains list: whether they are plain and of one group, below n, and each listed once; and where their coordinates begin.
+#![tactic(auto)]
+
+ghost use Rattle.std.specs.Prelude.{◌≡◌, ℕ, ◌≤◌, ◌<◌, leb, length, get_or, take, drop};
+ghost use Rattle.rules.specs.Lists.{total, any_of, all_of};
+ghost use Rattle.rules.specs.Refusals.{most_lines, most_points};
+ghost use Rattle.rules.specs.Check.{same_numbers};
+ghost use Rattle.check_lines.specs.Lines.{Below, plain_at, group_is, Noted, Markable, AllSeen};
+
 use rules::MOST_LINES;
-ghost use mathlib.Core.Path.{_≡_};
-ghost use Prim.Native.Nat.{ℕ, _≤_, _<_};
-ghost use lib.Dec.{leb};
-ghost use lib.ListN.{length, getD, take, drop};
-ghost use Rattle·rules.specs.Lists.{total, anyOf, allOf};
-ghost use Rattle·rules.specs.Refusals.{mostLines, mostPoints};
-ghost use Rattle·rules.specs.Check.{sameNumbers};
-ghost use Rattle·check_lines·specs.specs.Lines.{Below, plainAt, groupIs, Noted, Markable, AllSeen};
 
 // Whether all lines that are listed are plain.
 pub fn all_plain(listed: &[u32], counts: &[u32], kinds: &[u8]) -> bool
-    requires { ⌜ Below (length (now counts)) (now listed) × Below (length (now kinds)) (now listed) ⌝ }
-    ensures { λ r. ⌜ r ≡ allOf (plainAt (now (counts .entry)) (now (kinds .entry))) (now (listed .entry)) ⌝ }
+    requires { Below (length counts.now) listed.now × Below (length kinds.now) listed.now }
+    ensures { result ≡ all_of (plain_at counts.now kinds.now) listed.now }
 {
     let mut i: usize = 0;
     while i < listed.len() {
@@ -27,9 +27,9 @@ pub fn all_plain(listed: &[u32], counts: &[u32], kinds: &[u8]) -> bool
 
 // Whether all lines that are listed have the group of the first.
 pub fn one_group(listed: &[u32], groups: &[u32]) -> bool
-    requires { ⌜ (0 < length (now listed)) × Below (length (now groups)) (now listed) ⌝ }
-    ensures { λ r. ⌜ r ≡ allOf (groupIs (now (groups .entry)) (getD (now (groups .entry)) (getD (now (listed .entry)) 0 0) 0))
-        (drop 1 (now (listed .entry))) ⌝ }
+    requires { (0 < length listed.now) × Below (length groups.now) listed.now }
+    ensures { result ≡ all_of (group_is groups.now (get_or groups.now (get_or listed.now 0 0) 0))
+        (drop 1 listed.now) }
 {
     let group = groups[listed[0] as usize];
     let mut i: usize = 1;
@@ -44,7 +44,7 @@ pub fn one_group(listed: &[u32], groups: &[u32]) -> bool
 
 // Whether a line that is listed isn't below n.
 pub fn any_beyond(listed: &[u32], n: usize) -> bool
-    ensures { λ r. ⌜ r ≡ anyOf (leb n) (now (listed .entry)) ⌝ }
+    ensures { result ≡ any_of (leb n) listed.now }
 {
     let mut i: usize = 0;
     while i < listed.len() {
@@ -58,8 +58,8 @@ pub fn any_beyond(listed: &[u32], n: usize) -> bool
 
 // Marks the lines of a chain as listed, unless one was before.
 pub fn note(seen: &mut [u8; MOST_LINES], listed: &[u32]) -> bool
-    requires { ⌜ Markable (now seen) (now listed) ⌝ }
-    ensures { λ r. ⌜ Noted (now (seen .exit)) (now (seen .entry)) (now (listed .entry)) r ⌝ }
+    requires { Markable seen.old listed.now }
+    ensures { Noted seen.new seen.old listed.now result }
 {
     let mut i: usize = 0;
     while i < listed.len() {
@@ -75,8 +75,8 @@ pub fn note(seen: &mut [u8; MOST_LINES], listed: &[u32]) -> bool
 
 // Whether the first n lines are marked.
 pub fn all_seen(seen: &[u8; MOST_LINES], n: usize) -> bool
-    requires { ⌜ n ≤ mostLines ⌝ }
-    ensures { λ r. ⌜ AllSeen (now (seen .entry)) n r ⌝ }
+    requires { n ≤ most_lines }
+    ensures { AllSeen seen.now n result }
 {
     let mut i: usize = 0;
     while i < n {
@@ -90,8 +90,8 @@ pub fn all_seen(seen: &[u8; MOST_LINES], n: usize) -> bool
 
 // The first coordinate of each line.
 pub fn first_places(counts: &[u32], firsts: &mut [u32; MOST_LINES])
-    requires { ⌜ (length (now counts) ≤ mostLines) × (total (now counts) ≤ mostPoints) × (length (now firsts) ≡ mostLines) ⌝ }
-    ensures { λ _. ⌜ ((y : ℕ) → y < length (now (counts .entry)) → getD (now (firsts .exit)) y 0 ≡ total (take y (now (counts .entry)))) ⌝ }
+    requires { (length counts.now ≤ most_lines) × (total counts.now ≤ most_points) × (length firsts.old ≡ most_lines) }
+    ensures { (y : ℕ) → y < length counts.now → get_or firsts.new y 0 ≡ total (take y counts.now) }
 {
     let mut sum: u32 = 0;
     let mut i: usize = 0;
@@ -104,7 +104,7 @@ pub fn first_places(counts: &[u32], firsts: &mut [u32; MOST_LINES])
 
 // Whether two rows have the same numbers.
 pub fn same_numbers(a: &[u64], b: &[u64]) -> bool
-    ensures { λ r. ⌜ r ≡ sameNumbers (now (a .entry)) (now (b .entry)) ⌝ }
+    ensures { result ≡ same_numbers a.now b.now }
 {
     if a.len() != b.len() {
         return false;

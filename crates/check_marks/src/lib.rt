@@ -1,24 +1,23 @@
 // The places of a chain that are still possible behind a line, as marks. A mark is a set of directions: 1 has the line as drawn, 2 has it turned, 3 has both.
-use rules::MOST_LINES;
-use rules::Meeting;
-ghost use mathlib.Core.Path.{_≡_};
-ghost use mathlib.Core.Bool.{_&&_, cond};
-ghost use Prim.Native.Nat.{ℕ, _-_, _≤_, _<_};
-ghost use lib.ListN.{length, getD};
-ghost use Rattle·rules.specs.declared.Grid.the-variants.{Exact, Cells};
-ghost use Rattle·rules.specs.Cell.{cell};
-ghost use Rattle·rules.specs.Plane.{point, points, sameInt};
-ghost use Rattle·rules.specs.Check.{oneKey, meet as meet-at};
-ghost use Rattle·rules.specs.Refusals.{mostLines};
-ghost use Rattle·point_numbers.specs.Width.{Whole};
-ghost use Rattle·check_laws.specs.Standing.{freshAt, jointAt};
-ghost use Rattle·check_marks·specs.specs.Marks.{has as has-way, setOf, shared, openTo, LineMarked, markHere, markBefore, goesOn, moved, Movable, TrimmedLow, TrimmedHigh};
+#![tactic(auto)]
+
+ghost use Rattle.std.specs.Prelude.{◌≡◌, ◌&&◌, cond, ℕ, ◌-◌, ◌≤◌, ◌<◌, length, get_or};
+ghost use Rattle.rules.specs.declared.Grid.TheVariants.{Exact, Cells};
+ghost use Rattle.rules.specs.Cell.{cell};
+ghost use Rattle.rules.specs.Plane.{point, points, same_int};
+ghost use Rattle.rules.specs.Check.{one_key, meet as meet_at};
+ghost use Rattle.rules.specs.Refusals.{most_lines};
+ghost use Rattle.point_numbers.specs.Width.{Whole};
+ghost use Rattle.check_laws.specs.Standing.{fresh_at, joint_at};
+ghost use Rattle.check_marks.specs.Marks.{has as has_way, set_of, shared, open_to, LineMarked, mark_here, mark_before, goes_on, moved, Movable, TrimmedLow, TrimmedHigh};
+
+use rules::{MOST_LINES, Meeting};
 
 // ---- sets of directions
 
 // Whether a set has a direction.
 fn has(set: u8, turned: bool) -> bool
-    ensures { λ r. ⌜ r ≡ has-way turned set ⌝ }
+    ensures { result ≡ has_way turned set }
 {
     if turned {
         return set / 2 == 1;
@@ -28,7 +27,7 @@ fn has(set: u8, turned: bool) -> bool
 
 // The set of the directions that are told.
 pub fn set_of(drawn: bool, turned: bool) -> u8
-    ensures { λ r. ⌜ r ≡ setOf drawn turned ⌝ }
+    ensures { result ≡ set_of drawn turned }
 {
     if drawn {
         if turned {
@@ -44,7 +43,7 @@ pub fn set_of(drawn: bool, turned: bool) -> u8
 
 // Whether both have a direction.
 fn both_have(a: u8, b: u8, turned: bool) -> bool
-    ensures { λ r. ⌜ r ≡ has-way turned a && has-way turned b ⌝ }
+    ensures { result ≡ has_way turned a && has_way turned b }
 {
     if has(a, turned) {
         return has(b, turned);
@@ -54,7 +53,7 @@ fn both_have(a: u8, b: u8, turned: bool) -> bool
 
 // Whether two sets share a direction.
 fn shares(a: u8, b: u8) -> bool
-    ensures { λ r. ⌜ r ≡ shared a b ⌝ }
+    ensures { result ≡ shared a b }
 {
     if both_have(a, b, false) {
         return true;
@@ -66,14 +65,14 @@ fn shares(a: u8, b: u8) -> bool
 
 // Whether two numbers have one cell.
 fn one_cell(tolerance: f64, origin: f64, a: u64, b: u64) -> bool
-    ensures { λ r. ⌜ r ≡ sameInt (cell tolerance origin a) (cell tolerance origin b) ⌝ }
+    ensures { result ≡ same_int (cell tolerance origin a) (cell tolerance origin b) }
 {
     float_cell::cell_key(a, origin, tolerance) == float_cell::cell_key(b, origin, tolerance)
 }
 
 // Whether two points have.
 fn same_cell(m: Meeting, ax: u64, ay: u64, bx: u64, by: u64) -> bool
-    ensures { λ r. ⌜ r ≡ oneKey (Cells (m .tolerance) (m .«origin_x») (m .«origin_y»)) (point ax ay) (point bx by) ⌝ }
+    ensures { result ≡ one_key (Cells m.tolerance m.origin_x m.origin_y) (point ax ay) (point bx by) }
 {
     if one_cell(m.tolerance, m.origin_x, ax, bx) {
         return one_cell(m.tolerance, m.origin_y, ay, by);
@@ -83,7 +82,7 @@ fn same_cell(m: Meeting, ax: u64, ay: u64, bx: u64, by: u64) -> bool
 
 // Whether two points have the same bits.
 fn same_bits(ax: u64, ay: u64, bx: u64, by: u64) -> bool
-    ensures { λ r. ⌜ r ≡ oneKey Exact (point ax ay) (point bx by) ⌝ }
+    ensures { result ≡ one_key Exact (point ax ay) (point bx by) }
 {
     if ax == bx {
         return ay == by;
@@ -93,7 +92,7 @@ fn same_bits(ax: u64, ay: u64, bx: u64, by: u64) -> bool
 
 // Whether two points meet: in the same bits or, with a tolerance, in the same cell.
 fn meet(m: Meeting, ax: u64, ay: u64, bx: u64, by: u64) -> bool
-    ensures { λ r. ⌜ r ≡ meet-at m (point ax ay) (point bx by) ⌝ }
+    ensures { result ≡ meet_at m (point ax ay) (point bx by) }
 {
     if same_bits(ax, ay, bx, by) {
         return true;
@@ -106,8 +105,8 @@ fn meet(m: Meeting, ax: u64, ay: u64, bx: u64, by: u64) -> bool
 
 // Where the first point of a line stands, or its last.
 fn end_of(line: &[u64], width: usize, last: bool) -> usize
-    requires { ⌜ width ≤ length (now line) ⌝ }
-    ensures { λ r. ⌜ r ≡ cond last (length (now (line .entry)) - width) 0 ⌝ }
+    requires { width ≤ length line.now }
+    ensures { result ≡ cond last (length line.now - width) 0 }
 {
     if last {
         return line.len() - width;
@@ -117,8 +116,8 @@ fn end_of(line: &[u64], width: usize, last: bool) -> usize
 
 // Whether the line p in one direction meets the line l in one.
 fn joint(p: &[u64], d: bool, l: &[u64], e: bool, width: usize, m: Meeting) -> bool
-    requires { ⌜ LineMarked width (now p) × LineMarked width (now l) ⌝ }
-    ensures { λ r. ⌜ r ≡ jointAt m (points width (now (p .entry))) d (points width (now (l .entry))) e ⌝ }
+    requires { LineMarked width p.now × LineMarked width l.now }
+    ensures { result ≡ joint_at m (points width p.now) d (points width l.now) e }
 {
     let a = end_of(p, width, !d);
     let b = end_of(l, width, e);
@@ -127,8 +126,8 @@ fn joint(p: &[u64], d: bool, l: &[u64], e: bool, width: usize, m: Meeting) -> bo
 
 // The directions of the line p from which the line l may be taken in one.
 pub fn open_to(p: &[u64], l: &[u64], e: bool, width: usize, m: Meeting) -> u8
-    requires { ⌜ LineMarked width (now p) × LineMarked width (now l) ⌝ }
-    ensures { λ r. ⌜ r ≡ openTo m (points width (now (p .entry))) (points width (now (l .entry))) e ⌝ }
+    requires { LineMarked width p.now × LineMarked width l.now }
+    ensures { result ≡ open_to m (points width p.now) (points width l.now) e }
 {
     let drawn = joint(p, false, l, e, width, m);
     let turned = joint(p, true, l, e, width, m);
@@ -140,7 +139,7 @@ pub fn open_to(p: &[u64], l: &[u64], e: bool, width: usize, m: Meeting) -> u8
 // Whether a line that fits goes on from one of two marks, by the directions that it may be taken from: from the one before, or, where its first point doesn't
 // repeat the chain's last, from the one here.
 fn goes_on(fit: u8, ways: u8, fresh: bool, here: u8, before: u8) -> bool
-    ensures { λ r. ⌜ r ≡ goesOn fit ways fresh here before ⌝ }
+    ensures { result ≡ goes_on fit ways fresh here before }
 {
     if fit == 0 {
         return false;
@@ -156,8 +155,8 @@ fn goes_on(fit: u8, ways: u8, fresh: bool, here: u8, before: u8) -> bool
 
 // The mark j, if it is before `end`.
 fn mark_here(marks: &[u8; MOST_LINES], end: usize, j: usize) -> u8
-    requires { ⌜ j < mostLines ⌝ }
-    ensures { λ r. ⌜ r ≡ markHere (now (marks .entry)) end j ⌝ }
+    requires { j < most_lines }
+    ensures { result ≡ mark_here marks.now end j }
 {
     if j < end {
         return marks[j];
@@ -167,8 +166,8 @@ fn mark_here(marks: &[u8; MOST_LINES], end: usize, j: usize) -> u8
 
 // The mark before j, if it is not before `low`.
 fn mark_before(marks: &[u8; MOST_LINES], low: usize, j: usize) -> u8
-    requires { ⌜ j < mostLines ⌝ }
-    ensures { λ r. ⌜ r ≡ markBefore (now (marks .entry)) low j ⌝ }
+    requires { j < most_lines }
+    ensures { result ≡ mark_before marks.now low j }
 {
     if low < j {
         return marks[j - 1];
@@ -178,8 +177,8 @@ fn mark_before(marks: &[u8; MOST_LINES], low: usize, j: usize) -> u8
 
 // Whether the chain's point at a place is another than the one before it; the first has none before.
 fn fresh_at(chain: &[u64], width: usize, i: usize) -> bool
-    requires { ⌜ (2 ≤ width) × (width ≤ 4) × Whole width (now chain) × (i ≤ 4294967296) ⌝ }
-    ensures { λ r. ⌜ r ≡ freshAt (points width (now (chain .entry))) i ⌝ }
+    requires { (2 ≤ width) × (width ≤ 4) × Whole width chain.now × (i ≤ 4294967296) }
+    ensures { result ≡ fresh_at (points width chain.now) i }
 {
     if i == 0 {
         return false;
@@ -207,10 +206,10 @@ pub fn move_on(
     low: usize,
     end: usize,
 )
-    requires { ⌜ Movable width (now chain) base low end × (length (now marks) ≡ mostLines) ⌝ }
-    ensures { λ _. ⌜ (length (now (marks .exit)) ≡ mostLines) × ((j : ℕ) → low ≤ j → j ≤ end → getD (now (marks .exit)) j 0
-        ≡ moved (points width (now (chain .entry))) base low end drawn turned
-        (now («drawn_fits» .entry)) (now («turned_fits» .entry)) (now (marks .entry)) j) ⌝ }
+    requires { Movable width chain.now base low end × (length marks.old ≡ most_lines) }
+    ensures { (length marks.new ≡ most_lines) × ((j : ℕ) → low ≤ j → j ≤ end → get_or marks.new j 0
+        ≡ moved (points width chain.now) base low end drawn turned
+        drawn_fits.now turned_fits.now marks.old j) }
 {
     let mut j = end + 1;
     while low < j {
@@ -226,8 +225,8 @@ pub fn move_on(
 
 // The first mark from `low` on that is there, or `end`.
 pub fn trim_low(marks: &[u8; MOST_LINES], low: usize, end: usize) -> usize
-    requires { ⌜ (low ≤ end) × (end ≤ mostLines) ⌝ }
-    ensures { λ r. ⌜ TrimmedLow (now (marks .entry)) low end r ⌝ }
+    requires { (low ≤ end) × (end ≤ most_lines) }
+    ensures { TrimmedLow marks.now low end result }
 {
     let mut i = low;
     while i < end {
@@ -241,8 +240,8 @@ pub fn trim_low(marks: &[u8; MOST_LINES], low: usize, end: usize) -> usize
 
 // One more than the last mark before `end` that is there, or `low`.
 pub fn trim_high(marks: &[u8; MOST_LINES], low: usize, end: usize) -> usize
-    requires { ⌜ (low ≤ end) × (end ≤ mostLines) ⌝ }
-    ensures { λ r. ⌜ TrimmedHigh (now (marks .entry)) low end r ⌝ }
+    requires { (low ≤ end) × (end ≤ most_lines) }
+    ensures { TrimmedHigh marks.now low end result }
 {
     let mut i = end;
     while low < i {

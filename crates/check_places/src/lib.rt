@@ -1,18 +1,18 @@
 // Where a line stands in a chain: at a place from which on the chain's points are the line's, laid with repeats dropped, by `==`. A place is how many of
 // the chain's points stand before it.
+#![tactic(auto)]
+
+ghost use Rattle.std.specs.Prelude.{◌≡◌, not, ◌&&◌, cond, ◌+◌, ◌-◌, ◌*◌, ◌≤◌, ◌<◌, leb, eqb, length};
+ghost use Rattle.rules.specs.Lists.{one};
+ghost use Rattle.rules.specs.Plane.{point, points};
+ghost use Rattle.rules.specs.Refusals.{most_lines};
+ghost use Rattle.point_numbers.specs.Width.{Whole};
+ghost use Rattle.check_places.specs.Places.{far, PlaceGround, number_stands, last_kept, met, Reached, alike_at, Stretched, Nearing, Anew, Ahead, Advanced, Tables, PlacesFilled};
+
 use rules::MOST_LINES;
-ghost use mathlib.Core.Path.{_≡_};
-ghost use mathlib.Core.Bool.{not, _&&_, cond};
-ghost use Prim.Native.Nat.{_+_, _-_, _*_, _≤_, _<_};
-ghost use lib.Dec.{leb, eqb};
-ghost use lib.ListN.{length};
-ghost use Rattle·rules.specs.Lists.{one};
-ghost use Rattle·rules.specs.Plane.{point, points};
-ghost use Rattle·rules.specs.Refusals.{mostLines};
-ghost use Rattle·point_numbers.specs.Width.{Whole};
-ghost use Rattle·check_places·specs.specs.Places.{far, PlaceGround, numberStands, lastKept, met, Reached, alikeAt, Stretched, Nearing, Anew, Ahead, Advanced, Tables, PlacesFilled};
 
 // How many of a line's points stand at a place of the chain, whether that is all of them, and else the x and y of the first that doesn't.
+#[derive(Clone, Copy)]
 pub struct Extent {
     pub points: usize,
     pub whole: bool,
@@ -22,6 +22,7 @@ pub struct Extent {
 
 // What is known of the places up to one: how many points stand there, `here`; the first place where as many as anywhere stand, `best`, with what is reached
 // there; and the place `low` behind it whose points go farthest, up to `high`.
+#[derive(Clone, Copy)]
 struct Scan {
     here: usize,
     best: usize,
@@ -35,8 +36,8 @@ struct Scan {
 
 // Whether the chain's point whose numbers begin at c is equal to x, y.
 fn stands(chain: &[u64], c: usize, x: u64, y: u64) -> bool
-    requires { ⌜ (c < length (now chain) → c + 1 < length (now chain)) ⌝ }
-    ensures { λ r. ⌜ r ≡ numberStands (now (chain .entry)) c (point x y) ⌝ }
+    requires { c < length chain.now → c + 1 < length chain.now }
+    ensures { result ≡ number_stands chain.now c (point x y) }
 {
     if chain.len() <= c {
         return false;
@@ -46,7 +47,7 @@ fn stands(chain: &[u64], c: usize, x: u64, y: u64) -> bool
 
 // Whether a point is equal to the last one that stands there, if there is one.
 fn repeats(points: usize, last_x: u64, last_y: u64, x: u64, y: u64) -> bool
-    ensures { λ r. ⌜ r ≡ met (lastKept points «last_x» «last_y») (point x y) ⌝ }
+    ensures { result ≡ met (last_kept points last_x last_y) (point x y) }
 {
     if points == 0 {
         return false;
@@ -56,8 +57,8 @@ fn repeats(points: usize, last_x: u64, last_y: u64, x: u64, y: u64) -> bool
 
 // Where a line's next point begins, in a direction, with so many numbers of other points left; the last of its points begins at `last`.
 fn next_point(last: usize, left: usize, turned: bool) -> usize
-    requires { ⌜ left ≤ last ⌝ }
-    ensures { λ r. ⌜ r ≡ cond turned left (last - left) ⌝ }
+    requires { left ≤ last }
+    ensures { result ≡ cond turned left (last - left) }
 {
     if turned {
         return left;
@@ -67,8 +68,8 @@ fn next_point(last: usize, left: usize, turned: bool) -> usize
 
 // How many of a line's points stand at the place `at`, in a direction.
 pub fn reach(chain: &[u64], width: usize, at: usize, line: &[u64], turned: bool) -> Extent
-    requires { ⌜ PlaceGround width (now chain) (now line) × (at ≤ far + far) ⌝ }
-    ensures { λ r. ⌜ Reached width (now (chain .entry)) (now (line .entry)) turned at r ⌝ }
+    requires { PlaceGround width chain.now line.now × (at ≤ far + far) }
+    ensures { Reached width chain.now line.now turned at result }
 {
     let last = line.len() - width;
     let mut c = at * width;
@@ -107,8 +108,8 @@ pub fn reach(chain: &[u64], width: usize, at: usize, line: &[u64], turned: bool)
 
 // From n on, how many of the `count` points at the place `best` stand at the place i too.
 fn stretch(chain: &[u64], width: usize, i: usize, best: usize, n: usize, count: usize) -> usize
-    requires { ⌜ Stretched width (now chain) i best n count ⌝ }
-    ensures { λ r. ⌜ r ≡ alikeAt (points width (now (chain .entry))) best count i ⌝ }
+    requires { Stretched width chain.now i best n count }
+    ensures { result ≡ alike_at (points width chain.now) best count i }
 {
     let mut k = n;
     while k < count {
@@ -124,8 +125,8 @@ fn stretch(chain: &[u64], width: usize, i: usize, best: usize, n: usize, count: 
 // How many of the points at the best place stand at the place i too. The points from i up to `high` are those at the best place from i - low on: where fewer of
 // them stand there, so many do here, and else all of them.
 fn alike(near: &[u32; MOST_LINES], chain: &[u64], width: usize, s: Scan, i: usize) -> usize
-    requires { ⌜ Nearing width (now chain) (now near) s i ⌝ }
-    ensures { λ r. ⌜ r ≡ alikeAt (points width (now (chain .entry))) (s .best) (s .points) i ⌝ }
+    requires { Nearing width chain.now near.now s i }
+    ensures { result ≡ alike_at (points width chain.now) s.best s.points i }
 {
     if s.high <= i {
         return stretch(chain, width, i, s.best, 0, s.points);
@@ -140,8 +141,8 @@ fn alike(near: &[u32; MOST_LINES], chain: &[u64], width: usize, s: Scan, i: usiz
 
 // Whether the place i is better than the best: as many points stand there, and the next one does too.
 fn better(chain: &[u64], width: usize, s: Scan, i: usize, n: usize) -> bool
-    requires { ⌜ (2 ≤ width) × (width ≤ 4) × Whole width (now chain) × (i ≤ far + far) × (n ≤ far) ⌝ }
-    ensures { λ r. ⌜ r ≡ not (s .whole) && (leb (s .points) n && numberStands (now (chain .entry)) ((i + n) * width) (point (s .x) (s .y))) ⌝ }
+    requires { (2 ≤ width) × (width ≤ 4) × Whole width chain.now × (i ≤ far + far) × (n ≤ far) }
+    ensures { result ≡ not s.whole && (leb s.points n && number_stands chain.now ((i + n) * width) (point s.x s.y)) }
 {
     if s.whole {
         return false;
@@ -154,8 +155,8 @@ fn better(chain: &[u64], width: usize, s: Scan, i: usize, n: usize) -> bool
 
 // The first place that is looked at, or one that is better than all before.
 fn scan_first(chain: &[u64], width: usize, line: &[u64], turned: bool, i: usize) -> Scan
-    requires { ⌜ PlaceGround width (now chain) (now line) × (i ≤ far + far) ⌝ }
-    ensures { λ r. ⌜ Anew width (now (chain .entry)) (now (line .entry)) turned r i ⌝ }
+    requires { PlaceGround width chain.now line.now × (i ≤ far + far) }
+    ensures { Anew width chain.now line.now turned result i }
 {
     let r = reach(chain, width, i, line, turned);
     Scan {
@@ -180,8 +181,8 @@ fn scan_next(
     s: Scan,
     i: usize,
 ) -> Scan
-    requires { ⌜ PlaceGround width (now chain) (now line) × (i ≤ far + far) × Ahead width (now chain) (now line) turned (now near) s i ⌝ }
-    ensures { λ r. ⌜ Advanced width (now (chain .entry)) (now (line .entry)) turned (now (near .exit)) s r i ⌝ }
+    requires { PlaceGround width chain.now line.now × (i ≤ far + far) × Ahead width chain.now line.now turned near.old s i }
+    ensures { Advanced width chain.now line.now turned near.new s result i }
 {
     let n = alike(near, chain, width, s, i);
     if better(chain, width, s, i, n) {
@@ -199,7 +200,7 @@ fn scan_next(
 
 // 1 where the whole line stands at the place that was looked at last, else 0.
 fn fit(s: Scan) -> u8
-    ensures { λ r. ⌜ r ≡ one (s .whole && eqb (s .here) (s .points)) ⌝ }
+    ensures { result ≡ one (s.whole && eqb s.here s.points) }
 {
     if s.whole {
         if s.here == s.points {
@@ -221,9 +222,9 @@ pub fn fill(
     from: usize,
     n: usize,
 ) -> usize
-    requires { ⌜ PlaceGround width (now chain) (now line) × (from ≤ far) × (0 < n) × (n ≤ mostLines) × Tables (now fits) (now near) ⌝ }
-    ensures { λ r. ⌜ PlacesFilled width (now (chain .entry)) (now (line .entry)) turned from n (now (fits .exit)) r
-        × Tables (now (fits .exit)) (now (near .exit)) ⌝ }
+    requires { PlaceGround width chain.now line.now × (from ≤ far) × (0 < n) × (n ≤ most_lines) × Tables fits.old near.old }
+    ensures { PlacesFilled width chain.now line.now turned from n fits.new result
+        × Tables fits.new near.new }
 {
     let mut s = scan_first(chain, width, line, turned, from);
     fits[0] = fit(s);

@@ -1,40 +1,40 @@
 -- The answers of the WKB calls are proper, and one call has one number at the door and leaves each lent slice in one way.
 use Prim.Native.Nat.{ℕ}
-use mathlib.Core.Path.{_≡_, sym, subst, _∙_}
+use mathlib.Core.Path.{◌≡◌, sym, subst, ◌∙◌}
 use mathlib.Core.List.{List}
 use lib.ListN.{length}
-use Rattle·rules.specs.declared.Answer.{Answer}
-use Rattle·rules.specs.Calls.{Numbered}
-use Rattle·rules.specs.Wkb.{LentRun, readRefusalOf, Read, LentChains, runOf, writeRefusalOf, Wrote}
-use Rattle·door·specs.specs.Proper.{Proper}
-use Rattle·door·proofs.proofs.Answers.{proper-answer, numbered-once}
+use Rattle.rules.specs.declared.Answer.{Answer}
+use Rattle.rules.specs.Calls.{Numbered}
+use Rattle.rules.specs.Wkb.{LentRun, read_refusal_of, Read, LentChains, run_of, write_refusal_of, Wrote}
+use Rattle.door.specs.Proper.{Proper}
+use Rattle.door.proofs.Answers.{proper_answer, numbered_once}
 
-pub proper-read : {i : LentRun} {r : Answer} {coordinates counts type : List ℕ} → Read i r coordinates counts type → Proper r
-proper-read {i} b = subst Proper (sym (b .answer)) (proper-answer (readRefusalOf i) (length (i .lengths)))
+pub proper_read : {i : LentRun} {r : Answer} {coordinates counts type : List ℕ} → Read i r coordinates counts type → Proper r
+proper_read {i} b = subst Proper (sym b.answer) (proper_answer (read_refusal_of i) (length i.lengths))
 
-pub proper-wrote : {i : LentChains} {r : Answer} {run lengths : List ℕ} → Wrote i r run lengths → Proper r
-proper-wrote {i} b = subst Proper (sym (b .answer)) (proper-answer (writeRefusalOf i) (length (runOf i)))
+pub proper_wrote : {i : LentChains} {r : Answer} {run lengths : List ℕ} → Wrote i r run lengths → Proper r
+proper_wrote {i} b = subst Proper (sym b.answer) (proper_answer (write_refusal_of i) (length (run_of i)))
 
 -- ---- one number
 
-pub one-reading : (i : LentRun) (r r′ : ℕ) (coordinates coordinates′ counts counts′ type type′ : List ℕ)
+pub one_reading : (i : LentRun) (r r' : ℕ) (coordinates coordinates' counts counts' type type' : List ℕ)
     → Numbered (λ a. Read i a coordinates counts type) r
-    → Numbered (λ a. Read i a coordinates′ counts′ type′) r′
-    → (r ≡ r′) × (coordinates ≡ coordinates′) × (counts ≡ counts′) × (type ≡ type′)
-one-reading i r r′ coordinates coordinates′ counts counts′ type type′ a b =
-    let p = a .determined in
-    let q = b .determined in (
-      numbered-once (λ x y u v. u .answer ∙ sym (v .answer)) a b,
-      p .coordinates ∙ sym (q .coordinates),
-      p .counts ∙ sym (q .counts),
-      p .type ∙ sym (q .type),
+    → Numbered (λ a. Read i a coordinates' counts' type') r'
+    → (r ≡ r') × (coordinates ≡ coordinates') × (counts ≡ counts') × (type ≡ type')
+one_reading i r r' coordinates coordinates' counts counts' type type' a b =
+    let p = a.determined in
+    let q = b.determined in (
+      numbered_once (λ x y u v. u.answer ∙ sym v.answer) a b,
+      p.coordinates ∙ sym q.coordinates,
+      p.counts ∙ sym q.counts,
+      p.type ∙ sym q.type,
     )
 
-pub one-writing : (i : LentChains) (r r′ : ℕ) (run run′ lengths lengths′ : List ℕ)
+pub one_writing : (i : LentChains) (r r' : ℕ) (run run' lengths lengths' : List ℕ)
     → Numbered (λ a. Wrote i a run lengths) r
-    → Numbered (λ a. Wrote i a run′ lengths′) r′
-    → (r ≡ r′) × (run ≡ run′) × (lengths ≡ lengths′)
-one-writing i r r′ run run′ lengths lengths′ a b =
-    let p = a .determined in
-    let q = b .determined in
-    (numbered-once (λ x y u v. u .answer ∙ sym (v .answer)) a b, p .run ∙ sym (q .run), p .lengths ∙ sym (q .lengths))
+    → Numbered (λ a. Wrote i a run' lengths') r'
+    → (r ≡ r') × (run ≡ run') × (lengths ≡ lengths')
+one_writing i r r' run run' lengths lengths' a b =
+    let p = a.determined in
+    let q = b.determined in
+    (numbered_once (λ x y u v. u.answer ∙ sym v.answer) a b, p.run ∙ sym q.run, p.lengths ∙ sym q.lengths)

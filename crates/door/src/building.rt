@@ -1,14 +1,15 @@
 // Building: in one call, with a limit or with an offset in its place, or in two.
+ghost use Rattle.rules.specs.Layout.{lent};
+ghost use Rattle.rules.specs.Refusals.{rooms};
+ghost use Rattle.rules.specs.Calls.{Numbered, Built};
+ghost use Rattle.rules.specs.Pieces.{lent_pieces, first_rooms, FirstLeft, finish_rooms, Finished};
+ghost use Rattle.rules.specs.Offset.{BuiltOffset};
+
 use crate::number;
 use rules::Settings;
-ghost use Rattle·rules.specs.Layout.{lent};
-ghost use Rattle·rules.specs.Refusals.{rooms};
-ghost use Rattle·rules.specs.Calls.{Numbered, Built};
-ghost use Rattle·rules.specs.Pieces.{lentPieces, firstRooms, FirstLeft, finishRooms, Finished};
-ghost use Rattle·rules.specs.Offset.{BuiltOffset};
 
 // Building: the number of chains.
-#[no_mangle]
+#[unsafe(no_mangle)]
 pub extern "C" fn lovasuku_build(
     wkb_type: u32,
     coordinates: &[u64],
@@ -29,12 +30,12 @@ pub extern "C" fn lovasuku_build(
     spare: &mut [u64],
     workspace: &mut [u64],
 ) -> u64
-    ensures { λ r. ⌜ Numbered (λ a. Built «wkb_type» (lent (now (coordinates .entry)) (now (counts .entry)) (now (groups .entry)) (now (kinds .entry)))
-        (record { tolerance = tolerance; «origin_x» = «origin_x»; «origin_y» = «origin_y»; switch = switch; limit = limit })
-        (rooms (now (table .entry)) (now (members .entry)) (now (marks .entry)) (now (listing .entry))
-        (now (merged .entry)) (now (boxes .entry)) (now (spare .entry)) (now (workspace .entry)))
-        a (rooms (now (table .exit)) (now (members .exit)) (now (marks .exit)) (now (listing .exit))
-        (now (merged .exit)) (now (boxes .exit)) (now (spare .exit)) (now (workspace .exit)))) r ⌝ }
+    ensures { Numbered (λ a. Built wkb_type (lent coordinates.now counts.now groups.now kinds.now)
+        (record { tolerance = tolerance; origin_x = origin_x; origin_y = origin_y; switch = switch; limit = limit })
+        (rooms table.old members.old marks.old listing.old
+        merged.old boxes.old spare.old workspace.old)
+        a (rooms table.new members.new marks.new listing.new
+        merged.new boxes.new spare.new workspace.new)) result }
 {
     number(build_chains::build(
         wkb_type,
@@ -61,7 +62,7 @@ pub extern "C" fn lovasuku_build(
 }
 
 // Building with an offset in the limit's place: the number of chains.
-#[no_mangle]
+#[unsafe(no_mangle)]
 pub extern "C" fn lovasuku_build_offset(
     wkb_type: u32,
     coordinates: &[u64],
@@ -82,12 +83,12 @@ pub extern "C" fn lovasuku_build_offset(
     spare: &mut [u64],
     workspace: &mut [u64],
 ) -> u64
-    ensures { λ r. ⌜ Numbered (λ a. BuiltOffset «wkb_type» (lent (now (coordinates .entry)) (now (counts .entry)) (now (groups .entry)) (now (kinds .entry)))
-        tolerance «origin_x» «origin_y» switch offset
-        (rooms (now (table .entry)) (now (members .entry)) (now (marks .entry)) (now (listing .entry))
-        (now (merged .entry)) (now (boxes .entry)) (now (spare .entry)) (now (workspace .entry)))
-        a (rooms (now (table .exit)) (now (members .exit)) (now (marks .exit)) (now (listing .exit))
-        (now (merged .exit)) (now (boxes .exit)) (now (spare .exit)) (now (workspace .exit)))) r ⌝ }
+    ensures { Numbered (λ a. BuiltOffset wkb_type (lent coordinates.now counts.now groups.now kinds.now)
+        tolerance origin_x origin_y switch offset
+        (rooms table.old members.old marks.old listing.old
+        merged.old boxes.old spare.old workspace.old)
+        a (rooms table.new members.new marks.new listing.new
+        merged.new boxes.new spare.new workspace.new)) result }
 {
     number(offset_calls::build_offset(
         wkb_type,
@@ -112,7 +113,7 @@ pub extern "C" fn lovasuku_build_offset(
 }
 
 // The first of two calls, round one alone: the number of pieces.
-#[no_mangle]
+#[unsafe(no_mangle)]
 pub extern "C" fn lovasuku_first(
     wkb_type: u32,
     coordinates: &[u64],
@@ -128,12 +129,12 @@ pub extern "C" fn lovasuku_first(
     merged: &mut [u64],
     workspace: &mut [u64],
 ) -> u64
-    ensures { λ r. ⌜ Numbered (λ a. FirstLeft «wkb_type»
-        (lent (now (coordinates .entry)) (now (counts .entry)) (now (groups .entry)) (now (kinds .entry))) switch limit
-        (firstRooms (now (pieces .entry)) (now (members .entry)) (now (marks .entry)) (now (listing .entry))
-        (now (merged .entry)) (now (workspace .entry)))
-        a (firstRooms (now (pieces .exit)) (now (members .exit)) (now (marks .exit)) (now (listing .exit))
-        (now (merged .exit)) (now (workspace .exit)))) r ⌝ }
+    ensures { Numbered (λ a. FirstLeft wkb_type
+        (lent coordinates.now counts.now groups.now kinds.now) switch limit
+        (first_rooms pieces.old members.old marks.old listing.old
+        merged.old workspace.old)
+        a (first_rooms pieces.new members.new marks.new listing.new
+        merged.new workspace.new)) result }
 {
     number(lent_calls::first(
         wkb_type,
@@ -153,7 +154,7 @@ pub extern "C" fn lovasuku_first(
 }
 
 // The second of two calls, which finishes pieces that are lent: the number of chains.
-#[no_mangle]
+#[unsafe(no_mangle)]
 pub extern "C" fn lovasuku_finish<'a>(
     wkb_type: u32,
     coordinates: &'a [u64],
@@ -179,14 +180,14 @@ pub extern "C" fn lovasuku_finish<'a>(
     boxes: &mut [u64],
     workspace: &mut [u64],
 ) -> u64
-    ensures { λ r. ⌜ Numbered (λ a. Finished «wkb_type» (lent (now (coordinates .entry)) (now (counts .entry)) (now (groups .entry)) (now (kinds .entry)))
-        (lentPieces (now (pieces .entry)) (now («piece_members» .entry)) (now («piece_marks» .entry)) (now («piece_listing» .entry))
-        (now («piece_merged» .entry)) k)
-        (record { tolerance = tolerance; «origin_x» = «origin_x»; «origin_y» = «origin_y»; switch = switch; limit = limit })
-        (finishRooms (now (table .entry)) (now (members .entry)) (now (marks .entry)) (now (listing .entry))
-        (now (merged .entry)) (now (boxes .entry)) (now (workspace .entry)))
-        a (finishRooms (now (table .exit)) (now (members .exit)) (now (marks .exit)) (now (listing .exit))
-        (now (merged .exit)) (now (boxes .exit)) (now (workspace .exit)))) r ⌝ }
+    ensures { Numbered (λ a. Finished wkb_type (lent coordinates.now counts.now groups.now kinds.now)
+        (lent_pieces pieces.now piece_members.now piece_marks.now piece_listing.now
+        piece_merged.now k)
+        (record { tolerance = tolerance; origin_x = origin_x; origin_y = origin_y; switch = switch; limit = limit })
+        (finish_rooms table.old members.old marks.old listing.old
+        merged.old boxes.old workspace.old)
+        a (finish_rooms table.new members.new marks.new listing.new
+        merged.new boxes.new workspace.new)) result }
 {
     number(lent_calls::finish(
         wkb_type,

@@ -1,15 +1,15 @@
 // What is asked of chains: whether the table has one, which lie in a window, and whether those of another hand are acceptable.
+ghost use Rattle.std.specs.Prelude.{◌≡◌};
+ghost use Rattle.rules.specs.Layout.{lent};
+ghost use Rattle.rules.specs.Calls.{number_of, Numbered, asked};
+ghost use Rattle.rules.specs.Windows.{boxes_as, Windowed};
+ghost use Rattle.rules.specs.Check.{delivery, Checked};
+
 use crate::number;
-use rules::Meeting;
-use rules::Window;
-ghost use mathlib.Core.Path.{_≡_};
-ghost use Rattle·rules.specs.Layout.{lent};
-ghost use Rattle·rules.specs.Calls.{numberOf, Numbered, asked};
-ghost use Rattle·rules.specs.Windows.{boxesAs, Windowed};
-ghost use Rattle·rules.specs.Check.{delivery, Checked};
+use rules::{Meeting, Window};
 
 // The chain question: 0, -12 for a number that is no type, or -10 where the table has no chain k in these coordinates.
-#[no_mangle]
+#[unsafe(no_mangle)]
 pub extern "C" fn lovasuku_chain(
     wkb_type: u32,
     coordinates: &[u64],
@@ -17,13 +17,13 @@ pub extern "C" fn lovasuku_chain(
     table: &[u32],
     k: u64,
 ) -> u64
-    ensures { λ r. ⌜ r ≡ numberOf (asked «wkb_type» (now (coordinates .entry)) (now (merged .entry)) (now (table .entry)) k) ⌝ }
+    ensures { result ≡ number_of (asked wkb_type coordinates.now merged.now table.now k) }
 {
     number(build_question::chain(wkb_type, coordinates, merged, table, k as usize))
 }
 
 // What lies in a window: the number of chains found.
-#[no_mangle]
+#[unsafe(no_mangle)]
 pub extern "C" fn lovasuku_window(
     boxes: &[u64],
     k: u64,
@@ -33,9 +33,9 @@ pub extern "C" fn lovasuku_window(
     greatest_y: f64,
     found: &mut [u32],
 ) -> u64
-    ensures { λ r. ⌜ Numbered (λ a. Windowed (boxesAs (now (boxes .entry)) k
-        (record { «least_x» = «least_x»; «least_y» = «least_y»; «greatest_x» = «greatest_x»; «greatest_y» = «greatest_y» }) (now (found .entry)))
-        a (now (found .exit))) r ⌝ }
+    ensures { Numbered (λ a. Windowed (boxes_as boxes.now k
+        (record { least_x = least_x; least_y = least_y; greatest_x = greatest_x; greatest_y = greatest_y }) found.old)
+        a found.new) result }
 {
     number(box_window::chains_in(
         boxes,
@@ -51,7 +51,7 @@ pub extern "C" fn lovasuku_window(
 }
 
 // Chains made elsewhere: 0 where they are acceptable.
-#[no_mangle]
+#[unsafe(no_mangle)]
 pub extern "C" fn lovasuku_check<'a>(
     wkb_type: u32,
     coordinates: &'a [u64],
@@ -67,11 +67,11 @@ pub extern "C" fn lovasuku_check<'a>(
     merged: &'a [u64],
     workspace: &mut [u64],
 ) -> u64
-    ensures { λ r. ⌜ Numbered (λ a. Checked (delivery «wkb_type»
-        (lent (now (coordinates .entry)) (now (counts .entry)) (now (groups .entry)) (now (kinds .entry)))
-        (record { tolerance = tolerance; «origin_x» = «origin_x»; «origin_y» = «origin_y» })
-        (now (table .entry)) k (now (listing .entry)) (now (merged .entry)) (now (workspace .entry)))
-        a (now (workspace .exit))) r ⌝ }
+    ensures { Numbered (λ a. Checked (delivery wkb_type
+        (lent coordinates.now counts.now groups.now kinds.now)
+        (record { tolerance = tolerance; origin_x = origin_x; origin_y = origin_y })
+        table.now k listing.now merged.now workspace.old)
+        a workspace.new) result }
 {
     number(check_calls::check(
         wkb_type,

@@ -1,10 +1,11 @@
 // WKB: lines in, and chains out.
+ghost use Rattle.rules.specs.Calls.{Numbered};
+ghost use Rattle.rules.specs.Wkb.{Read, run_as, Wrote, chains_as};
+
 use crate::number;
-ghost use Rattle·rules.specs.Calls.{Numbered};
-ghost use Rattle·rules.specs.Wkb.{Read, runAs, Wrote, chainsAs};
 
 // WKB in: the number of records.
-#[no_mangle]
+#[unsafe(no_mangle)]
 pub extern "C" fn lovasuku_read_wkb(
     run: &[u8],
     lengths: &[u64],
@@ -12,15 +13,15 @@ pub extern "C" fn lovasuku_read_wkb(
     counts: &mut [u32],
     wkb_type: &mut [u32],
 ) -> u64
-    ensures { λ r. ⌜ Numbered (λ a. Read (runAs (now (run .entry)) (now (lengths .entry)) (now (coordinates .entry)) (now (counts .entry))
-        (now («wkb_type» .entry)))
-        a (now (coordinates .exit)) (now (counts .exit)) (now («wkb_type» .exit))) r ⌝ }
+    ensures { Numbered (λ a. Read (run_as run.now lengths.now coordinates.old counts.old
+        wkb_type.old)
+        a coordinates.new counts.new wkb_type.new) result }
 {
     number(wkb_reading::read(run, lengths, coordinates, counts, wkb_type))
 }
 
 // WKB out: the number of bytes.
-#[no_mangle]
+#[unsafe(no_mangle)]
 pub extern "C" fn lovasuku_write_wkb<'a>(
     wkb_type: u32,
     coordinates: &'a [u64],
@@ -31,8 +32,8 @@ pub extern "C" fn lovasuku_write_wkb<'a>(
     run: &mut [u8],
     lengths: &mut [u64],
 ) -> u64
-    ensures { λ r. ⌜ Numbered (λ a. Wrote (chainsAs «wkb_type» (now (coordinates .entry)) (now (merged .entry)) (now (table .entry)) k order
-        (now (run .entry)) (now (lengths .entry))) a (now (run .exit)) (now (lengths .exit))) r ⌝ }
+    ensures { Numbered (λ a. Wrote (chains_as wkb_type coordinates.now merged.now table.now k order
+        run.old lengths.old) a run.new lengths.new) result }
 {
     number(wkb_writing::write(wkb_type, coordinates, merged, table, k, order, run, lengths))
 }

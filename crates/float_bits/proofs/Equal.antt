@@ -1,42 +1,42 @@
 -- Equal numbers by their bits. Numbers are equal where their ranks are, and a rank is read off the bits: so other bits are other numbers, but for the two zeros.
-use mathlib.Core.Path.{_≡_, refl, sym, ap, _∙_, subst}
+use mathlib.Core.Path.{◌≡◌, refl, sym, ap, ◌∙◌, subst}
 use mathlib.Core.Bool.{Bool, true, false, not}
-use mathlib.Core.Logic.{_⊎_, inl, inr}
-use Prim.Native.Nat.{ℕ, _+_, _-_, _%_, _≤_, _<_, _^_}
+use mathlib.Core.Logic.{◌⊎◌, inl, inr}
+use Prim.Native.Nat.{ℕ, ◌+◌, ◌-◌, ◌%◌, ◌≤◌, ◌<◌, ◌^◌}
 use native.Mathlib.Omega.{arith}
-use native.Mathlib.Decide.{decLt}
-use borrow.Author.Tests.{ltb-true, ne-eqb}
+use native.Mathlib.Decide.{dec_lt}
+use borrow.Author.Tests.{ltb-true, ne_eqb}
 use lib.Dec.{T, ltb, eqb, eqb→eq}
 use lib.Ieee.Fits.{eq→eqb}
-use lib.Ieee.{Float, nan, inf, fin, binary64, ofBits, toBits, eq, isNan}
-use lib.Ieee.Bits.{ofBits-fits, toBits-ofBits, nanBits-is, nanBits-above}
-use Rattle·float_order.specs.Rank.{rank}
-use Rattle·float_order.proofs.Order.{bool-ext, le-num-l, eq→le, antisymm, refl-le}
-use Rattle·float_order.proofs.Ranks.{rank-eq-is, rank-low, rank-high}
-use Rattle·float_bits·proofs.proofs.Patterns.{is-nan}
+use lib.Ieee.{Float, nan, inf, fin, binary64, of_bits, to_bits, eq, is_nan}
+use lib.Ieee.Bits.{of_bits-fits, to_bits-of_bits, nan_bits_is, nan_bits_above}
+use Rattle.float_order.specs.Rank.{rank}
+use Rattle.float_order.proofs.Order.{bool_ext, le_num_l, eq_to_le, antisymm, refl_le}
+use Rattle.float_order.proofs.Ranks.{rank_eq_is, rank_low, rank_high}
+use Rattle.float_bits.proofs.Patterns.{is_nan_lem}
 
 -- a number equals itself
-pub eq-self : (x : Float) → eq x x ≡ not (isNan x)
-eq-self x = bool-ext (eq x x) (not (isNan x)) (λ h. le-num-l x x (eq→le x x h)) (λ n. antisymm x x (refl-le x n) (refl-le x n))
+pub eq_self : (x : Float) → eq x x ≡ not (is_nan x)
+eq_self x = bool_ext (eq x x) (not (is_nan x)) (λ h. le_num_l x x (eq_to_le x x h)) (λ n. antisymm x x (refl_le x n) (refl_le x n))
 
 -- ---- a NaN equals nothing
 
-nan-first : (x y : Float) → isNan x ≡ true → eq x y ≡ false
+nan_first : (x y : Float) → is_nan x ≡ true → eq x y ≡ false
 unfolding eq
-nan-first x y e = ap (λ (z : Float). eq z y) (is-nan x e)
+nan_first x y e = ap (λ (z : Float). eq z y) (is_nan_lem x e)
 
-beside-nan : (x : Float) → eq x nan ≡ false
+beside_nan : (x : Float) → eq x nan ≡ false
 unfolding eq
-beside-nan nan = refl
-beside-nan (inf s) = refl
-beside-nan (fin s m e) = refl
+beside_nan nan = refl
+beside_nan (inf s) = refl
+beside_nan (fin s m e) = refl
 
-nan-second : (x y : Float) → isNan y ≡ true → eq x y ≡ false
-nan-second x y e = ap (eq x) (is-nan y e) ∙ beside-nan x
+nan_second : (x y : Float) → is_nan y ≡ true → eq x y ≡ false
+nan_second x y e = ap (eq x) (is_nan_lem y e) ∙ beside_nan x
 
-nan-above : (n : ℕ) → isNan (ofBits binary64 n) ≡ true → 0 < n % 2 ^ 63
-nan-above n e =
-    let h : ltb 0x7ff0_0000_0000_0000 (n % 2 ^ 63) ≡ true = sym (nanBits-above binary64 n) ∙ nanBits-is binary64 n ∙ e in
+nan_above : (n : ℕ) → is_nan (of_bits binary64 n) ≡ true → 0 < n % 2 ^ 63
+nan_above n e =
+    let h : ltb 0x7ff0_0000_0000_0000 (n % 2 ^ 63) ≡ true = sym (nan_bits_above binary64 n) ∙ nan_bits_is binary64 n ∙ e in
     omega (arith, ltb-true)
 
 -- ---- the rank, from the bits
@@ -44,14 +44,14 @@ nan-above n e =
 abbrev Ranked : ℕ → ℕ → Type 0
 Ranked n r = ((n < 2 ^ 63) × (r ≡ n + 2 ^ 63)) ⊎ ((2 ^ 63 ≤ n) × (r ≡ 2 ^ 63 - (n - 2 ^ 63)))
 
-ranked : (n : ℕ) → n < 2 ^ 64 → T (not (isNan (ofBits binary64 n))) → Ranked n (rank binary64 (ofBits binary64 n))
+ranked : (n : ℕ) → n < 2 ^ 64 → T (not (is_nan (of_bits binary64 n))) → Ranked n (rank binary64 (of_bits binary64 n))
 ranked n l i =
-    let t : toBits binary64 (ofBits binary64 n) ≡ n = toBits-ofBits binary64 n l i in
-    elim (decLt n (2 ^ 63)) [
-      | yes h ↦ inl (h, sym (rank-low binary64 (ofBits binary64 n) (ofBits-fits binary64 n) i (rw t h)) ∙ ap (λ (k : ℕ). k + 2 ^ 63) t)
+    let t : to_bits binary64 (of_bits binary64 n) ≡ n = to_bits-of_bits binary64 n l i in
+    elim (dec_lt n (2 ^ 63)) [
+      | yes h ↦ inl (h, sym (rank_low binary64 (of_bits binary64 n) (of_bits-fits binary64 n) i (rw t h)) ∙ ap (λ (k : ℕ). k + 2 ^ 63) t)
       | no h ↦
           let g : 2 ^ 63 ≤ n = omega arith in
-          inr (g, sym (rank-high binary64 (ofBits binary64 n) (ofBits-fits binary64 n) i (rw t g)) ∙ ap (λ (k : ℕ). 2 ^ 63 - (k - 2 ^ 63)) t)
+          inr (g, sym (rank_high binary64 (of_bits binary64 n) (of_bits-fits binary64 n) i (rw t g)) ∙ ap (λ (k : ℕ). 2 ^ 63 - (k - 2 ^ 63)) t)
     ]
 
 module _ (a b : ℕ) (a-fits : a < 2 ^ 64) (b-fits : b < 2 ^ 64) (other : a ≡ b → ⊥) where
@@ -61,24 +61,24 @@ module _ (a b : ℕ) (a-fits : a < 2 ^ 64) (b-fits : b < 2 ^ 64) (other : a ≡ 
   zeros r s (inr p) (inl q) = (λ h. omega arith, λ h. omega arith)
   zeros r s (inr p) (inr q) = (λ h. omega arith, λ h. absurd (other (omega arith)))
 
-  zero-ranks : (r s : ℕ) → Ranked a r → Ranked b s → eqb (a % 2 ^ 63 + b % 2 ^ 63) 0 ≡ eqb r s
-  zero-ranks r s p q =
+  zero_ranks : (r s : ℕ) → Ranked a r → Ranked b s → eqb (a % 2 ^ 63 + b % 2 ^ 63) 0 ≡ eqb r s
+  zero_ranks r s p q =
       let z = zeros r s p q in
-      bool-ext (eqb (a % 2 ^ 63 + b % 2 ^ 63) 0) (eqb r s) (λ h. eq→eqb (z .0 (eqb→eq (a % 2 ^ 63 + b % 2 ^ 63) 0 h))) (λ h. eq→eqb (z .1 (eqb→eq r s h)))
+      bool_ext (eqb (a % 2 ^ 63 + b % 2 ^ 63) 0) (eqb r s) (λ h. eq→eqb (z.0 (eqb→eq (a % 2 ^ 63 + b % 2 ^ 63) 0 h))) (λ h. eq→eqb (z.1 (eqb→eq r s h)))
 
   -- other bits are equal numbers exactly where both are zeros
-  pub other-bits : eqb (a % 2 ^ 63 + b % 2 ^ 63) 0 ≡ eq (ofBits binary64 a) (ofBits binary64 b)
-  other-bits = go (isNan (ofBits binary64 a)) (isNan (ofBits binary64 b)) refl refl
+  pub other_bits : eqb (a % 2 ^ 63 + b % 2 ^ 63) 0 ≡ eq (of_bits binary64 a) (of_bits binary64 b)
+  other_bits = go (is_nan (of_bits binary64 a)) (is_nan (of_bits binary64 b)) refl refl
     where
-      go : (p q : Bool) → isNan (ofBits binary64 a) ≡ p → isNan (ofBits binary64 b) ≡ q → eqb (a % 2 ^ 63 + b % 2 ^ 63) 0 ≡ eq (ofBits binary64 a) (ofBits binary64 b)
-      go true q e f = ne-eqb (a % 2 ^ 63 + b % 2 ^ 63) 0 (λ z. omega (arith, nan-above a e)) ∙ sym (nan-first (ofBits binary64 a) (ofBits binary64 b) e)
-      go false true e f = ne-eqb (a % 2 ^ 63 + b % 2 ^ 63) 0 (λ z. omega (arith, nan-above b f)) ∙ sym (nan-second (ofBits binary64 a) (ofBits binary64 b) f)
+      go : (p q : Bool) → is_nan (of_bits binary64 a) ≡ p → is_nan (of_bits binary64 b) ≡ q → eqb (a % 2 ^ 63 + b % 2 ^ 63) 0 ≡ eq (of_bits binary64 a) (of_bits binary64 b)
+      go true q e f = ne_eqb (a % 2 ^ 63 + b % 2 ^ 63) 0 (λ z. omega (arith, nan_above a e)) ∙ sym (nan_first (of_bits binary64 a) (of_bits binary64 b) e)
+      go false true e f = ne_eqb (a % 2 ^ 63 + b % 2 ^ 63) 0 (λ z. omega (arith, nan_above b f)) ∙ sym (nan_second (of_bits binary64 a) (of_bits binary64 b) f)
       go false false e f =
-          let i : T (not (isNan (ofBits binary64 a))) = subst (λ (t : Bool). T (not t)) (sym e) tt in
-          let j : T (not (isNan (ofBits binary64 b))) = subst (λ (t : Bool). T (not t)) (sym f) tt in
-          zero-ranks (rank binary64 (ofBits binary64 a)) (rank binary64 (ofBits binary64 b)) (ranked a a-fits i) (ranked b b-fits j)
-          ∙ sym (rank-eq-is binary64 (ofBits binary64 a) (ofBits binary64 b) (ofBits-fits binary64 a) (ofBits-fits binary64 b) i j)
+          let i : T (not (is_nan (of_bits binary64 a))) = subst (λ (t : Bool). T (not t)) (sym e) tt in
+          let j : T (not (is_nan (of_bits binary64 b))) = subst (λ (t : Bool). T (not t)) (sym f) tt in
+          zero_ranks (rank binary64 (of_bits binary64 a)) (rank binary64 (of_bits binary64 b)) (ranked a a-fits i) (ranked b b-fits j)
+          ∙ sym (rank_eq_is binary64 (of_bits binary64 a) (of_bits binary64 b) (of_bits-fits binary64 a) (of_bits-fits binary64 b) i j)
 
 -- numbers that differ in more than the sign are not equal
-pub apart : (a b : ℕ) → a < 2 ^ 64 → b < 2 ^ 64 → (a % 2 ^ 63 ≡ b % 2 ^ 63 → ⊥) → eq (ofBits binary64 a) (ofBits binary64 b) ≡ false
-apart a b h k o = sym (other-bits a b h k (λ e. o (ap (λ (n : ℕ). n % 2 ^ 63) e))) ∙ ne-eqb (a % 2 ^ 63 + b % 2 ^ 63) 0 (λ z. o (omega arith))
+pub apart : (a b : ℕ) → a < 2 ^ 64 → b < 2 ^ 64 → (a % 2 ^ 63 ≡ b % 2 ^ 63 → ⊥) → eq (of_bits binary64 a) (of_bits binary64 b) ≡ false
+apart a b h k o = sym (other_bits a b h k (λ e. o (ap (λ (n : ℕ). n % 2 ^ 63) e))) ∙ ne_eqb (a % 2 ^ 63 + b % 2 ^ 63) 0 (λ z. o (omega arith))

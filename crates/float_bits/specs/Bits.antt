@@ -1,7 +1,8 @@
 -- A float kept as a number: its 64 bits. A NaN, which has no bits of its own, is kept as the pattern that lib.Ieee writes for it.
-use Prim.Native.Nat.{ℕ}
-use lib.Ieee.{Float, binary64, toBits}
+use Rattle.std.specs.Prelude.{ℕ, Float}
+use Rattle.std.specs.Float.{binary64}
+use Rattle.std.specs.Float.Ieee.{to_bits}
 
-unfoldable pub bitsOf : Float → ℕ
-unfolding toBits
-bitsOf x = toBits binary64 x
+unfoldable pub bits_of : Float → ℕ
+unfolding to_bits
+bits_of x = to_bits binary64 x

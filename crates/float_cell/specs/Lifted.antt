@@ -1,6 +1,5 @@
 -- An `i64` as a number of 64 binary digits, by which a table holds a cell.
-use Prim.Native.Nat.{ℕ, _+_, _-_, _^_}
-use lib.IntN.{ℤ, pos, negsuc}
+use Rattle.std.specs.Prelude.{ℕ, ◌+◌, ◌-◌, ◌^◌, ℤ, pos, negsuc}
 
 -- 2 ^ 63 more, for an integer from -(2 ^ 63) on: -1 is `negsuc 0`
 abbrev pub lifted : ℤ → ℕ

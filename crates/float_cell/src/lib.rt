@@ -1,8 +1,11 @@
 // The cell of a coordinate: the floor of (coordinate - origin) / tolerance as an `i64`. There is no `%` on floats here, which would be a call of the C library.
+#![tactic(auto)]
+
+ghost use Rattle.std.specs.Prelude.{◌≡◌};
+ghost use Rattle.rules.specs.Cell.{floor64, cell};
+ghost use Rattle.float_cell.specs.Lifted.{lifted};
+
 use float_bits;
-ghost use mathlib.Core.Path.{_≡_};
-ghost use Rattle·rules.specs.Cell.{floor64, cell};
-ghost use Rattle·float_cell·specs.specs.Lifted.{lifted};
 
 const FAR: f64 = 9223372036854775808.0; // 2^63
 
@@ -12,7 +15,7 @@ const WHOLE: f64 = 6755399441055744.0; // 3 * 2^51, a sum with which has no digi
 
 // The floor of any float. x's whole part, toward zero, is its floor unless it lies above x; then the floor is one less.
 fn floor_far(x: f64) -> i64
-    ensures { λ r. ⌜ r ≡ floor64 x ⌝ }
+    ensures { result ≡ floor64 x }
 {
     if x >= -FAR {
         if x < FAR {
@@ -32,7 +35,7 @@ fn floor_far(x: f64) -> i64
 
 // The floor of x. Below 2^51 there is no branch on the sign or the fraction: y is a whole number next to x.
 pub fn floor(x: f64) -> i64
-    ensures { λ r. ⌜ r ≡ floor64 x ⌝ }
+    ensures { result ≡ floor64 x }
 {
     if x < CLOSE {
         if x > -CLOSE {
@@ -45,7 +48,7 @@ pub fn floor(x: f64) -> i64
 
 // 2^63 more than t.
 fn lift(t: i64) -> u64
-    ensures { λ r. ⌜ r ≡ lifted t ⌝ }
+    ensures { result ≡ lifted t }
 {
     if t < 0 {
         return 9223372036854775807 - ((-1 - t) as u64);
@@ -55,7 +58,7 @@ fn lift(t: i64) -> u64
 
 // The cell of the coordinate whose bits are n, from an origin on, as a number that stands for it in a key.
 pub fn cell_key(n: u64, origin: f64, tolerance: f64) -> u64
-    ensures { λ r. ⌜ r ≡ lifted (cell tolerance origin n) ⌝ }
+    ensures { result ≡ lifted (cell tolerance origin n) }
 {
     lift(floor((float_bits::of_bits(n) - origin) / tolerance))
 }

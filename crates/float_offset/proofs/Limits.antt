@@ -1,107 +1,107 @@
 -- The limit of an offset: its bits, its place between -1 and 1, and that a greater offset never has a lower limit.
-use Prim.Native.Nat.{ℕ, _+_, _-_, _^_, _≤_, _<_, zero-le}
-use mathlib.Core.Path.{_≡_, refl, sym, ap, _∙_, subst}
-use mathlib.Core.Bool.{Bool, true, false, not, _&&_, cond}
-use native.Mathlib.Nat.{le-trans}
+use Prim.Native.Nat.{ℕ, ◌+◌, ◌-◌, ◌^◌, ◌≤◌, ◌<◌, zero-le}
+use mathlib.Core.Path.{◌≡◌, refl, sym, ap, ◌∙◌, subst}
+use mathlib.Core.Bool.{Bool, true, false, not, ◌&&◌, cond}
+use native.Mathlib.Nat.{le_trans}
 use native.Mathlib.Omega.{arith}
 use borrow.Author.Tests.{lt-ltb, le-ltb, ltb-false}
 use lib.Dec.{T, ltb}
-use lib.Ieee.{Float, nan, binary64, div, size, round, ofBits, toBits, fits, isNan, le}
-use lib.Ieee.Fits.{and-i, round-fits}
-use lib.Ieee.Bits.{toBits-ofBits, is-true}
-use Rattle·rules.specs.declared.Answer.the-variants.{Accepted, Refused}
-use Rattle·rules.specs.Root.{digits, floorRoot}
-use Rattle·rules.specs.Plane.{unity, minus-unity}
-use Rattle·rules.specs.Refusals.{firstOf, limitBad}
-use Rattle·rules.specs.Calls.{answerOf, unless}
-use Rattle·float_order.specs.Rank.{rank}
-use Rattle·float_order.proofs.Ranks.{rank→le, rank-high}
-use Rattle·float_order.proofs.Order.{trans}
-use Rattle·rules.specs.Offset.{offsetRoot, offsetLimit, offsetRefusalOf, offsetAsked, limitFor}
-use Rattle·float_offset·proofs.proofs.Roots.{root-falls, root-least, root-greatest}
-use Rattle·float_offset·proofs.proofs.Patterns.{of-bits, number}
+use lib.Ieee.{Float, nan, binary64, div, size, round, of_bits, to_bits, fits, is_nan, le}
+use lib.Ieee.Fits.{and_i, round-fits}
+use lib.Ieee.Bits.{to_bits-of_bits, is_true}
+use Rattle.rules.specs.declared.Answer.TheVariants.{Accepted, Refused}
+use Rattle.rules.specs.Root.{digits, floor_root}
+use Rattle.rules.specs.Plane.{unity, minus_unity}
+use Rattle.rules.specs.Refusals.{first_of, limit_bad}
+use Rattle.rules.specs.Calls.{answer_of, unless}
+use Rattle.float_order.specs.Rank.{rank}
+use Rattle.float_order.proofs.Ranks.{rank_to_le, rank_high}
+use Rattle.float_order.proofs.Order.{trans}
+use Rattle.rules.specs.Offset.{offset_root, offset_limit, offset_refusal_of, offset_asked, limit_for}
+use Rattle.float_offset.proofs.Roots.{root_falls, root_least, root_greatest}
+use Rattle.float_offset.proofs.Patterns.{of_bits_lem, number}
 
-limit-fits : (g : ℕ) → T (fits binary64 (offsetLimit g))
-unfolding offsetLimit
-limit-fits g = round-fits binary64 true (offsetRoot g) (2 ^ 53)
+limit_fits : (g : ℕ) → T (fits binary64 (offset_limit g))
+unfolding offset_limit
+limit_fits g = round-fits binary64 true (offset_root g) (2 ^ 53)
 
 module _ (g : ℕ) (h : g ≤ 1000) where
-  pub pattern : ofBits binary64 (0xbfd0_0000_0000_0000 + offsetRoot g) ≡ offsetLimit g
-  unfolding offsetLimit
-  pattern = of-bits (offsetRoot g) (root-least g h) (root-greatest g)
+  pub pattern : of_bits binary64 (0xbfd0_0000_0000_0000 + offset_root g) ≡ offset_limit g
+  unfolding offset_limit
+  pattern = of_bits_lem (offset_root g) (root_least g h) (root_greatest g)
 
-  pub limit-number : T (not (isNan (offsetLimit g)))
-  limit-number = subst (λ (v : Float). T (not (isNan v))) pattern (number (offsetRoot g) (root-greatest g))
+  pub limit_number : T (not (is_nan (offset_limit g)))
+  limit_number = subst (λ (v : Float). T (not (is_nan v))) pattern (number (offset_root g) (root_greatest g))
 
   -- the limit's bits are those of -1/4, and M
-  pub limit-bits : toBits binary64 (offsetLimit g) ≡ 0xbfd0_0000_0000_0000 + offsetRoot g
-  limit-bits =
-      ap (toBits binary64) (sym pattern)
-      ∙ toBits-ofBits binary64 (0xbfd0_0000_0000_0000 + offsetRoot g) (omega (arith, root-greatest g)) (number (offsetRoot g) (root-greatest g))
+  pub limit_bits : to_bits binary64 (offset_limit g) ≡ 0xbfd0_0000_0000_0000 + offset_root g
+  limit_bits =
+      ap (to_bits binary64) (sym pattern)
+      ∙ to_bits-of_bits binary64 (0xbfd0_0000_0000_0000 + offset_root g) (omega (arith, root_greatest g)) (number (offset_root g) (root_greatest g))
 
-  limit-rank : 2 ^ 63 - (0xbfd0_0000_0000_0000 + offsetRoot g - 2 ^ 63) ≡ rank binary64 (offsetLimit g)
-  limit-rank =
-      ap (λ (n : ℕ). 2 ^ 63 - (n - 2 ^ 63)) (sym limit-bits)
-      ∙ rank-high binary64 (offsetLimit g) (limit-fits g) limit-number (rw limit-bits (omega arith))
+  limit_rank : 2 ^ 63 - (0xbfd0_0000_0000_0000 + offset_root g - 2 ^ 63) ≡ rank binary64 (offset_limit g)
+  limit_rank =
+      ap (λ (n : ℕ). 2 ^ 63 - (n - 2 ^ 63)) (sym limit_bits)
+      ∙ rank_high binary64 (offset_limit g) (limit_fits g) limit_number (rw limit_bits (omega arith))
 
 -- a greater offset never gives a lower limit
-pub limit-grows : (g h : ℕ) → g ≤ h → h ≤ 1000 → T (le (offsetLimit g) (offsetLimit h))
-limit-grows g h l b =
-    let a : g ≤ 1000 = le-trans l b in
-    rank→le binary64 (offsetLimit g) (offsetLimit h) (limit-fits g) (limit-fits h) (limit-number g a) (limit-number h b)
-    (omega (arith, limit-rank g a, limit-rank h b, root-falls g h l))
+pub limit_grows : (g h : ℕ) → g ≤ h → h ≤ 1000 → T (le (offset_limit g) (offset_limit h))
+limit_grows g h l b =
+    let a : g ≤ 1000 = le_trans l b in
+    rank_to_le binary64 (offset_limit g) (offset_limit h) (limit_fits g) (limit_fits h) (limit_number g a) (limit_number h b)
+    (omega (arith, limit_rank g a, limit_rank h b, root_falls g h l))
 
 -- ---- the limit lies between -1 and 1, so that it is never refused by 6
-first-limit : offsetLimit 0 ≡ minus-unity
-unfolding offsetLimit offsetRoot floorRoot digits round size
-first-limit = refl
+first_limit : offset_limit 0 ≡ minus_unity
+unfolding offset_limit offset_root floor_root digits round size
+first_limit = refl
 
-under-one : T (le (offsetLimit 1000) unity)
-unfolding le offsetLimit offsetRoot floorRoot digits round size
-under-one = tt
+under_one : T (le (offset_limit 1000) unity)
+unfolding le offset_limit offset_root floor_root digits round size
+under_one = tt
 
-pub limit-good : (g : ℕ) → g ≤ 1000 → limitBad (offsetLimit g) ≡ false
-unfolding limitBad
-limit-good g h =
-    let a : T (le minus-unity (offsetLimit g)) = subst (λ (v : Float). T (le v (offsetLimit g))) first-limit (limit-grows 0 g zero-le h) in
-    let b : T (le (offsetLimit g) unity) = trans (offsetLimit g) (offsetLimit 1000) unity (limit-grows g 1000 h (omega arith)) under-one in
-    ap not (is-true (le minus-unity (offsetLimit g) && le (offsetLimit g) unity) (and-i (le minus-unity (offsetLimit g)) (le (offsetLimit g) unity) a b))
+pub limit_good : (g : ℕ) → g ≤ 1000 → limit_bad (offset_limit g) ≡ false
+unfolding limit_bad
+limit_good g h =
+    let a : T (le minus_unity (offset_limit g)) = subst (λ (v : Float). T (le v (offset_limit g))) first_limit (limit_grows 0 g zero-le h) in
+    let b : T (le (offset_limit g) unity) = trans (offset_limit g) (offset_limit 1000) unity (limit_grows g 1000 h (omega arith)) under_one in
+    ap not (is_true (le minus_unity (offset_limit g) && le (offset_limit g) unity) (and_i (le minus_unity (offset_limit g)) (le (offset_limit g) unity) a b))
 
 -- ---- the question's two answers
-pub asked-refused : (g : ℕ) → 1000 < g → Refused 22 ≡ offsetAsked g
-unfolding offsetAsked offsetRefusalOf firstOf answerOf unless
-asked-refused g h = rw (lt-ltb 1000 g h, firstOf)
+pub asked_refused : (g : ℕ) → 1000 < g → Refused 22 ≡ offset_asked g
+unfolding offset_asked offset_refusal_of first_of answer_of unless
+asked_refused g h = rw (lt-ltb 1000 g h, first_of)
 
-pub asked-limit : (g : ℕ) → g ≤ 1000 → Accepted (0xbfd0_0000_0000_0000 + offsetRoot g) ≡ offsetAsked g
-unfolding offsetAsked offsetRefusalOf firstOf answerOf unless
-asked-limit g h = rw (le-ltb 1000 g h, firstOf, limit-bits g h)
+pub asked_limit : (g : ℕ) → g ≤ 1000 → Accepted (0xbfd0_0000_0000_0000 + offset_root g) ≡ offset_asked g
+unfolding offset_asked offset_refusal_of first_of answer_of unless
+asked_limit g h = rw (le-ltb 1000 g h, first_of, limit_bits g h)
 
 -- ---- an offset in the limit's place
-pub limit-none : (g : ℕ) → 1000 < g → div binary64 (ofBits binary64 0) (ofBits binary64 0) ≡ limitFor g
-unfolding limitFor div ofBits
-limit-none g h = rw (lt-ltb 1000 g h)
+pub limit_none : (g : ℕ) → 1000 < g → div binary64 (of_bits binary64 0) (of_bits binary64 0) ≡ limit_for g
+unfolding limit_for div of_bits
+limit_none g h = rw (lt-ltb 1000 g h)
 
-pub limit-there : (g : ℕ) → g ≤ 1000 → ofBits binary64 (0xbfd0_0000_0000_0000 + offsetRoot g) ≡ limitFor g
-unfolding limitFor
-limit-there g h = rw (le-ltb 1000 g h) (pattern g h)
+pub limit_there : (g : ℕ) → g ≤ 1000 → of_bits binary64 (0xbfd0_0000_0000_0000 + offset_root g) ≡ limit_for g
+unfolding limit_for
+limit_there g h = rw (le-ltb 1000 g h) (pattern g h)
 
-nan-bad : limitBad nan ≡ true
-unfolding limitBad le
-nan-bad = refl
+nan_bad : limit_bad nan ≡ true
+unfolding limit_bad le
+nan_bad = refl
 
 -- such a limit is refused exactly where the offset is above 1,000
-pub limit-bad : (g : ℕ) → limitBad (limitFor g) ≡ ltb 1000 g
-unfolding limitFor
-limit-bad g = go (ltb 1000 g) refl
+pub limit_bad_lem : (g : ℕ) → limit_bad (limit_for g) ≡ ltb 1000 g
+unfolding limit_for
+limit_bad_lem g = go (ltb 1000 g) refl
   where
-    go : (t : Bool) → ltb 1000 g ≡ t → limitBad (cond t nan (offsetLimit g)) ≡ t
-    go true e = nan-bad
-    go false e = limit-good g (ltb-false 1000 g e)
+    go : (t : Bool) → ltb 1000 g ≡ t → limit_bad (cond t nan (offset_limit g)) ≡ t
+    go true e = nan_bad
+    go false e = limit_good g (ltb-false 1000 g e)
 
 -- up to 1,000 it is the offset's limit, and grows with it
-pub limit-is : (g : ℕ) → g ≤ 1000 → limitFor g ≡ offsetLimit g
-unfolding limitFor
-limit-is g h = rw (le-ltb 1000 g h)
+pub limit_is : (g : ℕ) → g ≤ 1000 → limit_for g ≡ offset_limit g
+unfolding limit_for
+limit_is g h = rw (le-ltb 1000 g h)
 
-pub limit-for-grows : (g h : ℕ) → g ≤ h → h ≤ 1000 → T (le (limitFor g) (limitFor h))
-limit-for-grows g h l b = rw (limit-is g (le-trans l b), limit-is h b) (limit-grows g h l b)
+pub limit_for_grows : (g h : ℕ) → g ≤ h → h ≤ 1000 → T (le (limit_for g) (limit_for h))
+limit_for_grows g h l b = rw (limit_is g (le_trans l b), limit_is h b) (limit_grows g h l b)

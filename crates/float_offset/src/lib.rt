@@ -1,8 +1,10 @@
 // The limit that an offset of so many millimetres per metre run stands for.
+#![tactic(auto)]
+
+ghost use Rattle.std.specs.Prelude.{◌≡◌, ◌≤◌};
+ghost use Rattle.rules.specs.Offset.{offset_root, offset_asked, limit_for};
+
 use rules::Answer;
-ghost use mathlib.Core.Path.{_≡_};
-ghost use Prim.Native.Nat.{_≤_};
-ghost use Rattle·rules.specs.Offset.{offsetRoot, offsetAsked, limitFor};
 
 // The greatest offset, in millimetres per metre run.
 const MOST: u32 = 1000;
@@ -14,8 +16,8 @@ const BITS: u64 = 0xBFD0_0000_0000_0000;
 // digits of the quotient, which are divided out as they are needed. After i digits q is the root of the quotient of 250,000 * 4^i, cut to a whole
 // number, over what the quotient has over q * q, and left what the division leaves.
 fn largest(g: u64) -> u64
-    requires { ⌜ g ≤ 1000 ⌝ }
-    ensures { λ r. ⌜ r ≡ offsetRoot g ⌝ }
+    requires { g ≤ 1000 }
+    ensures { result ≡ offset_root g }
 {
     let d = 1000000 + g * g;
     let mut q: u64 = 0;
@@ -40,7 +42,7 @@ fn largest(g: u64) -> u64
 
 // The limit's 64 bits, or refused with 22.
 pub fn offset_limit(g: u32) -> Answer
-    ensures { λ r. ⌜ r ≡ offsetAsked g ⌝ }
+    ensures { result ≡ offset_asked g }
 {
     if MOST < g {
         return Answer::Refused(22);
@@ -50,7 +52,7 @@ pub fn offset_limit(g: u32) -> Answer
 
 // The limit that a call with an offset in the limit's place goes on with. Above 1,000 it is a NaN, which such a call refuses where it refuses a limit.
 pub fn limit_for(g: u32) -> f64
-    ensures { λ r. ⌜ r ≡ limitFor g ⌝ }
+    ensures { result ≡ limit_for g }
 {
     if MOST < g {
         return 0.0 / 0.0;

@@ -1,5 +1,5 @@
 -- A choice by a test whose answer is known.
-use mathlib.Core.Path.{_≡_}
+use mathlib.Core.Path.{◌≡◌}
 use mathlib.Core.Bool.{Bool, true, false, cond}
 
 pub chosen : {A : Type 0} (b : Bool) (x y : A) → b ≡ true → x ≡ cond b x y

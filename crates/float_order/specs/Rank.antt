@@ -1,8 +1,8 @@
 -- The rank of a float: a whole number by which the numbers of a format are in order. It lies above the sign's weight, or below it, by the bits of the
 -- float's magnitude, so that both zeros have one rank. For binary64 it is below 2 ^ 64.
-use Prim.Native.Nat.{ℕ, _+_, _-_, _*_, _/_, _^_}
-use mathlib.Core.Bool.{Bool, false, cond}
-use lib.Ieee.{Float, nan, inf, fin, Format, prec, low, up, down, size, hid, ones, top}
+use Rattle.std.specs.Prelude.{ℕ, ◌+◌, ◌-◌, ◌*◌, ◌/◌, ◌^◌, Bool, false, cond, Float}
+use Rattle.std.specs.Float.{nan, inf, fin, Format}
+use Rattle.std.specs.Float.Ieee.{prec, low, up, down, size, hid, ones, top}
 
 -- the bits of n of the format's smallest values, without a sign
 abbrev pub code : Format → ℕ → ℕ

@@ -1,12 +1,13 @@
 // The measure of two directions, and floats as keys: whole numbers of 64 binary digits that are in order as the floats are.
-ghost use mathlib.Core.Path.{_≡_};
-ghost use mathlib.Core.Bool.{not};
-ghost use lib.Dec.{T};
-ghost use lib.Ieee.{binary64, isNan};
-ghost use lib.Ieee.Scale.{finite};
-ghost use Rattle·rules.specs.Plane.{clamp, measure as measure-of};
-ghost use Rattle·float_order·specs.specs.Rank.{rank as rank-of};
-ghost use Rattle·float_order·specs.specs.Key.{key as key-of, low-key as low-key-of};
+#![tactic(auto)]
+
+ghost use Rattle.std.specs.Prelude.{◌≡◌, not, T};
+ghost use Rattle.std.specs.Float.{binary64};
+ghost use Rattle.std.specs.Float.Ieee.{is_nan};
+ghost use Rattle.std.specs.Float.Ieee.Scale.{finite};
+ghost use Rattle.rules.specs.Plane.{clamp, measure as measure_of};
+ghost use Rattle.float_order.specs.Rank.{rank as rank_of};
+ghost use Rattle.float_order.specs.Key.{key as key_of, low_key as low_key_of};
 
 // The weight of a double's sign, and the key of a NaN.
 const SIGN: u64 = 0x8000_0000_0000_0000;
@@ -15,7 +16,7 @@ pub const GREATEST: u64 = 0xFFFF_FFFF_FFFF_FFFF;
 
 // A dot product brought to -1..1. A NaN stays.
 pub fn clamped(x: f64) -> f64
-    ensures { λ r. ⌜ r ≡ clamp x ⌝ }
+    ensures { result ≡ clamp x }
 {
     if x < -1.0 {
         return -1.0;
@@ -28,15 +29,15 @@ pub fn clamped(x: f64) -> f64
 
 // The measure of two directions: their dot product, clamped.
 pub fn measure(ax: f64, ay: f64, bx: f64, by: f64) -> f64
-    ensures { λ r. ⌜ r ≡ measure-of ax ay bx by ⌝ }
+    ensures { result ≡ measure_of ax ay bx by }
 {
     clamped(ax * bx + ay * by)
 }
 
 // Numbers are in order as their ranks are, and both zeros have one rank.
 pub fn rank(x: f64) -> u64
-    requires { ⌜ T (not (isNan x)) ⌝ }
-    ensures { λ r. ⌜ r ≡ rank-of binary64 x ⌝ }
+    requires { T (not (is_nan x)) }
+    ensures { result ≡ rank_of binary64 x }
 {
     let n = f64::to_bits(x);
     if n < SIGN {
@@ -48,21 +49,21 @@ pub fn rank(x: f64) -> u64
 
 // A measure's key. A NaN's is the greatest, so that it is at or below no limit's.
 pub fn key(x: f64) -> u64
-    ensures { λ r. ⌜ r ≡ key-of x ⌝ }
+    ensures { result ≡ key_of x }
 {
     if x == x { rank(x) } else { GREATEST }
 }
 
 // A bound's key. A NaN's is the least, so that it rules nothing out.
 pub fn low_key(x: f64) -> u64
-    ensures { λ r. ⌜ r ≡ low-key-of x ⌝ }
+    ensures { result ≡ low_key_of x }
 {
     if x == x { rank(x) } else { 0 }
 }
 
 // Neither a NaN nor an infinity: taken from itself it leaves a number.
 pub fn is_finite(x: f64) -> bool
-    ensures { λ r. ⌜ r ≡ finite x ⌝ }
+    ensures { result ≡ finite x }
 {
     let d = x - x;
     d == d

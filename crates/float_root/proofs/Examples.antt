@@ -1,10 +1,10 @@
 -- Roots that antt computes: the definition runs.
-use mathlib.Core.Path.{_≡_, refl}
+use mathlib.Core.Path.{◌≡◌, refl}
 use mathlib.Core.Bool.{true, false}
 use lib.IntN.{pos, negsuc}
-use lib.Ieee.{nan, inf, fin, binary64, ofBits, mul}
-use Rattle·rules.specs.Root.{root}
-use Rattle·rules.proofs.Computing.{book}
+use lib.Ieee.{nan, inf, fin, binary64, of_bits, mul}
+use Rattle.rules.specs.Root.{root}
+use Rattle.rules.proofs.Computing.{book}
 
 -- the root of 4; of the smallest double, which is 2 ^ -537; of the largest; of 2 and of 0.1
 four : root binary64 (fin false 1 (pos 2)) ≡ fin false 1 (pos 1)
@@ -15,15 +15,15 @@ smallest : root binary64 (fin false 1 (negsuc 1073)) ≡ fin false 1 (negsuc 536
 unfolding book root
 smallest = refl
 
-largest : root binary64 (ofBits binary64 0x7fef_ffff_ffff_ffff) ≡ ofBits binary64 0x5fef_ffff_ffff_ffff
+largest : root binary64 (of_bits binary64 0x7fef_ffff_ffff_ffff) ≡ of_bits binary64 0x5fef_ffff_ffff_ffff
 unfolding book root
 largest = refl
 
-two : root binary64 (ofBits binary64 0x4000_0000_0000_0000) ≡ ofBits binary64 0x3ff6_a09e_667f_3bcd
+two : root binary64 (of_bits binary64 0x4000_0000_0000_0000) ≡ of_bits binary64 0x3ff6_a09e_667f_3bcd
 unfolding book root
 two = refl
 
-tenth : root binary64 (ofBits binary64 0x3fb9_9999_9999_999a) ≡ ofBits binary64 0x3fd4_3d13_6248_490f
+tenth : root binary64 (of_bits binary64 0x3fb9_9999_9999_999a) ≡ of_bits binary64 0x3fd4_3d13_6248_490f
 unfolding book root
 tenth = refl
 

@@ -1,9 +1,9 @@
 -- What makes a double the nearest one to a root, on whole numbers.
-use Prim.Native.Nat.{ℕ, _+_, _*_, _/_, _^_, _<_}
-use lib.Dec.{T}
-use lib.Ieee.{Float, nan, inf, fin, binary64, up, down, fits}
-use lib.Ieee.Scale.{finite}
-use lib.Ieee.Positive.{positive}
+use Rattle.std.specs.Prelude.{ℕ, ◌+◌, ◌*◌, ◌/◌, ◌^◌, ◌<◌, T, Float}
+use Rattle.std.specs.Float.{nan, inf, fin, binary64}
+use Rattle.std.specs.Float.Ieee.{up, down, fits}
+use Rattle.std.specs.Float.Ieee.Scale.{finite}
+use Rattle.std.specs.Float.Ieee.Positive.{positive}
 
 -- how many of a double's smallest values, 2 ^ -1074, a finite double is in size
 abbrev pub count : Float → ℕ
@@ -16,7 +16,7 @@ count (fin s m e) = m * up e * 2 ^ 1074 / down e
 -- above x where y is above r. Both are strict: there is no tie.
 pub record Nearest (x r : Float) : Type 0 where
   pub held : T (fits binary64 r)
-  pub above-zero : T (positive r)
+  pub above_zero : T (positive r)
   pub under : (y : Float) → T (fits binary64 y) → T (finite y) → count y < count r
       → (count y + count r) * (count y + count r) < 4 * (count x * 2 ^ 1074)
   pub over : (y : Float) → T (fits binary64 y) → T (finite y) → count r < count y

@@ -1,10 +1,13 @@
 // IEEE 754's squareRoot of an `f64`, worked out from its bits on whole numbers.
+#![tactic(auto)]
+
+ghost use Rattle.std.specs.Prelude.{◌≡◌, ◌*◌, ◌^◌, ◌≤◌, ◌<◌};
+ghost use Rattle.std.specs.Float.{binary64};
+ghost use Rattle.std.specs.Float.Ieee.{of_bits};
+ghost use Rattle.rules.specs.Root.{root_units, root as root_of};
+
 use float_bits;
 use float_whole_root;
-ghost use mathlib.Core.Path.{_≡_};
-ghost use Prim.Native.Nat.{_*_, _^_, _≤_, _<_};
-ghost use lib.Ieee.{binary64, ofBits};
-ghost use Rattle·rules.specs.Root.{rootUnits, root as root-of};
 
 const UNIT: u64 = 4503599627370496; // 2^52, the weight of the exponent's field
 
@@ -15,21 +18,22 @@ const INFINITE: u64 = 0x7FF0_0000_0000_0000;
 // The root of w * 4^26 * 4^k squares of the smallest value: its significand's digits, and k in the exponent's field. Where the significand
 // is 2^53, the sum carries into that field, as it should.
 fn assemble(w: u64, k: u64) -> f64
-    requires { ⌜ (2 ^ 52 ≤ w) × (w < 2 ^ 54) × (k ≤ 1600) ⌝ }
-    ensures { λ r. ⌜ r ≡ rootUnits binary64 (w * 2 ^ 52 * 4 ^ k) ⌝ }
+    requires { (2 ^ 52 ≤ w) × (w < 2 ^ 54) × (k ≤ 1600) }
+    ensures { result ≡ root_units binary64 (w * 2 ^ 52 * 4 ^ k) }
 {
     f64::from_bits(k * UNIT + float_whole_root::nearest_root(w))
 }
 
 // m * 2^s with 53 binary digits.
+#[derive(Clone, Copy)]
 struct Normal {
     m: u64,
     s: u64,
 }
 
 fn shifted(m: u64) -> Normal
-    requires { ⌜ (0 < m) × (m < 2 ^ 53) ⌝ }
-    ensures { λ r. ⌜ (r .m ≡ m * 2 ^ (r .s)) × (2 ^ 52 ≤ r .m) × (r .m < 2 ^ 53) × (r .s ≤ 52) ⌝ }
+    requires { (0 < m) × (m < 2 ^ 53) }
+    ensures { (result.m ≡ m * 2 ^ result.s) × (2 ^ 52 ≤ result.m) × (result.m < 2 ^ 53) × (result.s ≤ 52) }
 {
     let mut a = m;
     let mut s: u64 = 0;
@@ -42,8 +46,8 @@ fn shifted(m: u64) -> Normal
 
 // The root of m * 2^j squares of the smallest value. An even power of two goes into the exponent, and what is left of it into the radicand.
 fn scaled(m: u64, j: u64) -> f64
-    requires { ⌜ (0 < m) × (m < 2 ^ 53) × (1074 ≤ j) × (j ≤ 3119) ⌝ }
-    ensures { λ r. ⌜ r ≡ rootUnits binary64 (m * 2 ^ j) ⌝ }
+    requires { (0 < m) × (m < 2 ^ 53) × (1074 ≤ j) × (j ≤ 3119) }
+    ensures { result ≡ root_units binary64 (m * 2 ^ j) }
 {
     let a = shifted(m);
     let b = a.m;
@@ -53,8 +57,8 @@ fn scaled(m: u64, j: u64) -> f64
 
 // The root of the value that n stands for, where that is finite and above zero.
 fn positive(n: u64) -> f64
-    requires { ⌜ (0 < n) × (n < 0x7ff0_0000_0000_0000) ⌝ }
-    ensures { λ r. ⌜ r ≡ root-of binary64 (ofBits binary64 n) ⌝ }
+    requires { (0 < n) × (n < 0x7ff0_0000_0000_0000) }
+    ensures { result ≡ root_of binary64 (of_bits binary64 n) }
 {
     let e = n / UNIT;
     let t = n % UNIT;
@@ -67,7 +71,7 @@ fn positive(n: u64) -> f64
 
 // The root of the value that n stands for, whatever that is.
 pub fn root_of_bits(n: u64) -> f64
-    ensures { λ r. ⌜ r ≡ root-of binary64 (ofBits binary64 n) ⌝ }
+    ensures { result ≡ root_of binary64 (of_bits binary64 n) }
 {
     if n == 0 {
         return 0.0;
@@ -86,7 +90,7 @@ pub fn root_of_bits(n: u64) -> f64
 
 // The root of x.
 pub fn root(x: f64) -> f64
-    ensures { λ r. ⌜ r ≡ root-of binary64 x ⌝ }
+    ensures { result ≡ root_of binary64 x }
 {
     root_of_bits(float_bits::bits_of(x))
 }

@@ -1,16 +1,16 @@
 -- The square of a number by its two halves of 27 binary digits, and what its distance from w * 2 ^ 52 shows.
-use mathlib.Core.Path.{_≡_, refl, sym, ap, _∙_, subst}
+use mathlib.Core.Path.{◌≡◌, refl, sym, ap, ◌∙◌, subst}
 use mathlib.Core.Bool.{Bool, true, false}
 use borrow.Author.Tests.{ltb-true, ltb-false, leb-true, leb-false}
-use mir.Val.{boolByte}
+use mir.Val.{bool_byte}
 use lib.Dec.{T, ltb, leb, le→leb}
 use lib.IntN.{pos}
-use lib.Ieee.{binary64, inFloat}
-use Prim.Native.Nat.{ℕ, _+_, _-_, _*_, _/_, _%_, _≤_, _<_, _^_}
-use native.Mathlib.Nat.{add-mul, mul-add, mul-comm, mul-mul-mul-comm, mul-le-mul, mul-right-comm, div-add-mod'}
+use lib.Ieee.{binary64, in_float}
+use Prim.Native.Nat.{ℕ, ◌+◌, ◌-◌, ◌*◌, ◌/◌, ◌%◌, ◌≤◌, ◌<◌, ◌^◌}
+use native.Mathlib.Nat.{add-mul, mul-add, mul_comm, mul-mul-mul_comm, mul-le-mul, mul_right_comm, div-add-mod'}
 use native.Mathlib.Omega.{arith}
-use Rattle·float_whole_root·specs.specs.Near.{Near}
-use Rattle·float_whole_root·proofs.proofs.Squares.{sq-more}
+use Rattle.float_whole_root.specs.Near.{Near}
+use Rattle.float_whole_root.proofs.Squares.{sq_more}
 
 -- the halves' products are small
 pub record Halves (a b : ℕ) : Type 0 where
@@ -29,9 +29,9 @@ expand a b =
     let p = add-mul (a * 2 ^ 27) b (a * 2 ^ 27 + b) in
     let q = mul-add (a * 2 ^ 27) (a * 2 ^ 27) b in
     let s = mul-add b (a * 2 ^ 27) b in
-    let t = mul-mul-mul-comm a (2 ^ 27) a (2 ^ 27) in
-    let u = mul-right-comm a (2 ^ 27) b in
-    let v = mul-comm b (a * 2 ^ 27) in
+    let t = mul-mul-mul_comm a (2 ^ 27) a (2 ^ 27) in
+    let u = mul_right_comm a (2 ^ 27) b in
+    let v = mul_comm b (a * 2 ^ 27) in
     omega arith
 
 combined : (a b : ℕ)
@@ -54,34 +54,34 @@ apart w g h l e s o = record { is = omega arith }
 
 module _ {w g e : ℕ} (p : Apart w g e) where
   pub above : (2 ^ 55) + g < e → e ≤ (2 ^ 55 + 2) + g * 3 → Near (w * 2 ^ 52) (g + 1)
-  above h k = let q = sq-more g in let i = p .is in record { under = omega arith; over = omega arith }
+  above h k = let q = sq_more g in let i = p.is in record { under = omega arith; over = omega arith }
 
   pub beneath : 2 ≤ g → e + g ≤ 2 ^ 55 → (2 ^ 55 + 2) < e + g * 3 → Near (w * 2 ^ 52) (g - 1)
   beneath o h k =
-      let i = p .is in
+      let i = p.is in
       let j : g - 1 + 1 ≡ g = omega arith in
-      let q : g * g ≡ (g - 1) * (g - 1) + 2 * (g - 1) + 1 = ap (λ (x : ℕ). x * x) (sym j) ∙ sq-more (g - 1) in
+      let q : g * g ≡ (g - 1) * (g - 1) + 2 * (g - 1) + 1 = ap (λ (x : ℕ). x * x) (sym j) ∙ sq_more (g - 1) in
       record { under = omega arith; over = omega arith }
 
   pub there : e ≤ 2 ^ 55 + g → 2 ^ 55 < e + g → Near (w * 2 ^ 52) g
-  there h k = let i = p .is in record { under = omega arith; over = omega arith }
+  there h k = let i = p.is in record { under = omega arith; over = omega arith }
 
 -- ---- the float of a number below 2 ^ 54, halved, loses nothing
-pub half-in : (w : ℕ) → w < 2 ^ 54 → T (inFloat binary64 (pos (w / 2)))
-unfolding inFloat
-half-in w h = le→leb (w / 2) (2 ^ 53) (omega arith)
+pub half_in : (w : ℕ) → w < 2 ^ 54 → T (in_float binary64 (pos (w / 2)))
+unfolding in_float
+half_in w h = le→leb (w / 2) (2 ^ 53) (omega arith)
 
 -- ---- one up or one down by a test's value
-pub byte-le : (b : Bool) → boolByte b ≤ 1
-byte-le true = omega arith
-byte-le false = omega arith
+pub byte_le : (b : Bool) → bool_byte b ≤ 1
+byte_le true = omega arith
+byte_le false = omega arith
 
 pub moved : {w g e : ℕ} → Apart w g e → 2 ≤ g → e ≤ (2 ^ 55 + 2) + g * 3 → (2 ^ 55 + 2) < e + g * 3
-    → Near (w * 2 ^ 52) (g + boolByte (ltb (2 ^ 55 + g) e) - boolByte (leb (e + g) (2 ^ 55)))
+    → Near (w * 2 ^ 52) (g + bool_byte (ltb (2 ^ 55 + g) e) - bool_byte (leb (e + g) (2 ^ 55)))
 moved {w} {g} {e} p o h k = go (ltb (2 ^ 55 + g) e) refl (leb (e + g) (2 ^ 55)) refl
   where
     go : (a : Bool) → ltb (2 ^ 55 + g) e ≡ a → (b : Bool) → leb (e + g) (2 ^ 55) ≡ b
-        → Near (w * 2 ^ 52) (g + boolByte a - boolByte b)
+        → Near (w * 2 ^ 52) (g + bool_byte a - bool_byte b)
     go true s true t = absurd (omega (arith, ltb-true (2 ^ 55 + g) e s, leb-true (e + g) (2 ^ 55) t))
     go true s false t =
         let z : g + 1 ≡ g + 1 - 0 = omega arith in subst (Near (w * 2 ^ 52)) z (above p (ltb-true (2 ^ 55 + g) e s) h)

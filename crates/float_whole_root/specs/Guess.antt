@@ -1,14 +1,12 @@
 -- What `leading` and `guess` answer, to the last bit: each operation is that of lib.Ieee on doubles, in the order of the code.
-use mathlib.Core.Bool.{false, _&&_, cond}
-use Prim.Native.Nat.{ℕ, _+_, _-_, _*_, _/_, _^_}
-use lib.Dec.{leb}
-use lib.IntN.{pos}
-use lib.Ieee.{Float, binary64, round, ofInt, add, mul, div}
-use Rattle·float_bits.specs.Bits.{bitsOf}
+use Rattle.std.specs.Prelude.{false, ◌&&◌, cond, ℕ, ◌+◌, ◌-◌, ◌*◌, ◌/◌, ◌^◌, leb, pos, Float}
+use Rattle.std.specs.Float.{binary64}
+use Rattle.std.specs.Float.Ieee.{round, of_int, add, mul, div}
+use Rattle.float_bits.specs.Bits.{bits_of}
 
 -- How far the bits n stand above those of 1/2, which for a double from 1 to 2 is the double times 2 ^ 52; and 2 where that is not from 2 to 2 ^ 53.
-unfoldable pub leading-of : ℕ → ℕ
-leading-of n = cond (leb (1022 * 2 ^ 52 + 2) n && leb n (1024 * 2 ^ 52)) (n - 1022 * 2 ^ 52) 2
+unfoldable pub leading_of : ℕ → ℕ
+leading_of n = cond (leb (1022 * 2 ^ 52 + 2) n && leb n (1024 * 2 ^ 52)) (n - 1022 * 2 ^ 52) 2
 
 -- the sum of two doubles
 abbrev pub plus : Float → Float → Float
@@ -25,7 +23,7 @@ fraction n d = round binary64 false n d
 
 -- x: half of w, without its fraction, divided by 2 ^ 51, which is w / 2 ^ 52 but for w's last digit
 unfoldable pub radicand : ℕ → Float
-radicand w = div binary64 (ofInt binary64 (pos (w / 2))) (fraction (2 ^ 51) 1)
+radicand w = div binary64 (of_int binary64 (pos (w / 2))) (fraction (2 ^ 51) 1)
 
 -- y: what the straight line nearest to the root has at x
 unfoldable pub start : Float → Float
@@ -45,5 +43,5 @@ unfoldable pub mean : Float → Float → Float
 mean x t = times (plus t (div binary64 x t)) (fraction 1 2)
 
 -- the digits that these steps give, one after the other
-unfoldable pub guess-of : ℕ → ℕ
-guess-of w = let x = radicand w in leading-of (bitsOf (mean x (step x (start x))))
+unfoldable pub guess_of : ℕ → ℕ
+guess_of w = let x = radicand w in leading_of (bits_of (mean x (step x (start x))))

@@ -1,6 +1,5 @@
 -- What makes a whole number the nearest one to a root, and what a test of a guess answers. There is no tie, since no whole number is the square of a middle.
-use mathlib.Core.Path.{_≡_}
-use Prim.Native.Nat.{ℕ, _+_, _*_, _≤_, _<_}
+use Rattle.std.specs.Prelude.{◌≡◌, ℕ, ◌+◌, ◌*◌, ◌≤◌, ◌<◌}
 
 -- r is nearest to the root of c, for a c above 0: (r - 1/2) ^ 2 < c < (r + 1/2) ^ 2, without the quarters
 pub record Near (c r : ℕ) : Type 0 where

@@ -1,10 +1,12 @@
 // The whole number nearest to the root of w * 2^52: a guess in floats, and an exact test of it in whole numbers.
+#![tactic(auto)]
+
+ghost use Rattle.std.specs.Prelude.{◌+◌, ◌*◌, ◌^◌, ◌≤◌, ◌<◌, ◌≡◌};
+ghost use Rattle.float_bits.specs.Bits.{bits_of};
+ghost use Rattle.float_whole_root.specs.Near.{Near, Settles};
+ghost use Rattle.float_whole_root.specs.Guess.{leading_of, guess_of};
+
 use float_bits;
-ghost use Prim.Native.Nat.{_+_, _*_, _^_, _≤_, _<_};
-ghost use mathlib.Core.Path.{_≡_};
-ghost use Rattle·float_bits.specs.Bits.{bitsOf};
-ghost use Rattle·float_whole_root·specs.specs.Near.{Near, Settles};
-ghost use Rattle·float_whole_root·specs.specs.Guess.{leading-of, guess-of};
 
 const UNIT: u64 = 4503599627370496; // 2^52
 
@@ -13,6 +15,7 @@ const MIDDLE: u64 = 36028797018963968; // 2^55
 const BEYOND: u64 = 36028797018963970; // 2^55 + 2
 
 // high * 2^52 + low.
+#[derive(Clone, Copy)]
 struct Square {
     high: u64,
     low: u64,
@@ -20,8 +23,8 @@ struct Square {
 
 // The square of r, by the halves of r of 27 binary digits each.
 fn squared(r: u64) -> Square
-    requires { ⌜ r < 2 ^ 54 ⌝ }
-    ensures { λ s. ⌜ (s .high * 2 ^ 52 + s .low ≡ r * r) × (s .low < 2 ^ 52) ⌝ }
+    requires { r < 2 ^ 54 }
+    ensures { (result.high * 2 ^ 52 + result.low ≡ r * r) × (result.low < 2 ^ 52) }
 {
     let a = r / 134217728;
     let b = r % 134217728;
@@ -35,8 +38,8 @@ fn squared(r: u64) -> Square
 
 // The whole number nearest to the root of w * 2^52, where that is g or next to g. Elsewhere 0.
 fn settled(w: u64, g: u64) -> u64
-    requires { ⌜ (0 < w) × (w < 2 ^ 54) × (2 ≤ g) × (g ≤ 2 ^ 53) ⌝ }
-    ensures { λ r. ⌜ Settles (w * 2 ^ 52) g r ⌝ }
+    requires { (0 < w) × (w < 2 ^ 54) × (2 ≤ g) × (g ≤ 2 ^ 53) }
+    ensures { Settles (w * 2 ^ 52) g result }
 {
     let s = squared(g);
     let high = s.high;
@@ -63,7 +66,7 @@ fn settled(w: u64, g: u64) -> u64
 
 // The digits of a v from 1 to 2 as a whole number, v * 2^52: they are its bits. Elsewhere 2.
 fn leading(v: f64) -> u64
-    ensures { λ r. ⌜ (r ≡ leading-of (bitsOf v)) × (2 ≤ r) × (r ≤ 2 ^ 53) ⌝ }
+    ensures { (result ≡ leading_of (bits_of v)) × (2 ≤ result) × (result ≤ 2 ^ 53) }
 {
     let n = float_bits::bits_of(v);
     if n < 0x3FE0_0000_0000_0002 {
@@ -78,8 +81,8 @@ fn leading(v: f64) -> u64
 // A number that is likely the root, or next to it. x is w / 2^52 but for its last digit, between 1 and 4; y is the line nearest to its root, t a step of
 // the fifth order from there, and what is left is one of Newton's.
 fn guess(w: u64) -> u64
-    requires { ⌜ w < 2 ^ 54 ⌝ }
-    ensures { λ r. ⌜ (r ≡ guess-of w) × (2 ≤ r) × (r ≤ 2 ^ 53) ⌝ }
+    requires { w < 2 ^ 54 }
+    ensures { (result ≡ guess_of w) × (2 ≤ result) × (result ≤ 2 ^ 53) }
 {
     let x = (w / 2) as f64 / 2251799813685248.0;
     let y = 0.6862915003646809 + x * 0.34314575018234034;
@@ -94,8 +97,8 @@ fn guess(w: u64) -> u64
 // The nearest whole number, digit by digit from the top. After i digits q is the root of the first 2 * i binary digits of w * 4^26 cut to
 // a whole number, rem is what those leave over q * q, and `rest` holds w's digits that are still to come.
 fn digits(w: u64) -> u64
-    requires { ⌜ (0 < w) × (w < 2 ^ 54) ⌝ }
-    ensures { λ r. ⌜ Near (w * 2 ^ 52) r ⌝ }
+    requires { (0 < w) × (w < 2 ^ 54) }
+    ensures { Near (w * 2 ^ 52) result }
 {
     let mut q: u64 = 0;
     let mut rem: u64 = 0;
@@ -119,8 +122,8 @@ fn digits(w: u64) -> u64
 
 // The guess or a neighbour of it, and the slow way where that is not the answer.
 pub fn nearest_root(w: u64) -> u64
-    requires { ⌜ (0 < w) × (w < 2 ^ 54) ⌝ }
-    ensures { λ r. ⌜ Near (w * 2 ^ 52) r ⌝ }
+    requires { (0 < w) × (w < 2 ^ 54) }
+    ensures { Near (w * 2 ^ 52) result }
 {
     let r = settled(w, guess(w));
     if 0 < r {

@@ -1,13 +1,14 @@
 // One exact round, many zooms: the first call leaves the pieces of round one in lent slices, and the second takes such pieces, with a tolerance and an
 // origin, and finishes them.
-use rules::Answer;
-use rules::LINE_ROOM;
-use rules::Settings;
-ghost use mathlib.Core.Path.{_≡_};
-ghost use Rattle·rules.specs.Chaining.{roundTwo};
-ghost use Rattle·rules.specs.Layout.{lent};
-ghost use Rattle·rules.specs.Pieces.{lentPieces, firstRooms, firstRefusalOf, FirstLeft, finishRooms, finishRefusalOf, Finished};
-ghost use Rattle·build_chains.specs.Building.{Left, Second};
+#![tactic(auto)]
+
+ghost use Rattle.std.specs.Prelude.{◌≡◌};
+ghost use Rattle.rules.specs.Chaining.{round_two};
+ghost use Rattle.rules.specs.Layout.{lent};
+ghost use Rattle.rules.specs.Pieces.{lent_pieces, first_rooms, first_refusal_of, FirstLeft, finish_rooms, finish_refusal_of, Finished};
+ghost use Rattle.build_chains.specs.Building.{Left, Second};
+
+use rules::{Answer, LINE_ROOM, Settings};
 
 // A first call that is not refused: round one, its pieces as they are lent, and the zeros that are left.
 fn first_admitted(
@@ -25,15 +26,15 @@ fn first_admitted(
     merged: &mut [u64],
     workspace: &mut [u64],
 ) -> Answer
-    requires { ⌜ firstRefusalOf «wkb_type» (lent (now coordinates) (now counts) (now groups) (now kinds)) switch limit
-        (firstRooms (now pieces) (now members) (now marks) (now listing)
-        (now merged) (now workspace)) ≡ 0 ⌝ }
-    ensures { λ r. ⌜ FirstLeft «wkb_type»
-        (lent (now (coordinates .entry)) (now (counts .entry)) (now (groups .entry)) (now (kinds .entry))) switch limit
-        (firstRooms (now (pieces .entry)) (now (members .entry)) (now (marks .entry)) (now (listing .entry))
-        (now (merged .entry)) (now (workspace .entry)))
-        r (firstRooms (now (pieces .exit)) (now (members .exit)) (now (marks .exit)) (now (listing .exit))
-        (now (merged .exit)) (now (workspace .exit))) ⌝ }
+    requires { first_refusal_of wkb_type (lent coordinates.now counts.now groups.now kinds.now) switch limit
+        (first_rooms pieces.old members.old marks.old listing.old
+        merged.old workspace.old) ≡ 0 }
+    ensures { FirstLeft wkb_type
+        (lent coordinates.now counts.now groups.now kinds.now) switch limit
+        (first_rooms pieces.old members.old marks.old listing.old
+        merged.old workspace.old)
+        result (first_rooms pieces.new members.new marks.new listing.new
+        merged.new workspace.new) }
 {
     let n = counts.len();
     let width = point_numbers::width_of(wkb_type);
@@ -87,12 +88,12 @@ pub fn first(
     merged: &mut [u64],
     workspace: &mut [u64],
 ) -> Answer
-    ensures { λ r. ⌜ FirstLeft «wkb_type»
-        (lent (now (coordinates .entry)) (now (counts .entry)) (now (groups .entry)) (now (kinds .entry))) switch limit
-        (firstRooms (now (pieces .entry)) (now (members .entry)) (now (marks .entry)) (now (listing .entry))
-        (now (merged .entry)) (now (workspace .entry)))
-        r (firstRooms (now (pieces .exit)) (now (members .exit)) (now (marks .exit)) (now (listing .exit))
-        (now (merged .exit)) (now (workspace .exit))) ⌝ }
+    ensures { FirstLeft wkb_type
+        (lent coordinates.now counts.now groups.now kinds.now) switch limit
+        (first_rooms pieces.old members.old marks.old listing.old
+        merged.old workspace.old)
+        result (first_rooms pieces.new members.new marks.new listing.new
+        merged.new workspace.new) }
 {
     let refused = lent_refusals::first_refusal(
         wkb_type,
@@ -142,11 +143,11 @@ fn join_again<'a>(
     merged: &mut [u64],
     workspace: &mut [u64],
 ) -> usize
-    requires { ⌜ Second width n m settings (now coordinates) (now groups) (now copies) (now merged) (now workspace) ⌝ }
-    ensures { λ r. ⌜ ((y : Second width n m settings (now (coordinates .entry)) (now (groups .entry)) (now (copies .entry))
-        (now (merged .entry)) (now (workspace .entry)))
-        → Left width n (now (coordinates .entry)) (y .counts) (roundTwo settings (y .ps))
-        0 r (now (merged .exit)) (now (merged .entry)) (now (workspace .exit)) (now (workspace .entry))) ⌝ }
+    requires { Second width n m settings coordinates.now groups.now copies.now merged.old workspace.old }
+    ensures { (y : Second width n m settings coordinates.now groups.now copies.now
+        merged.old workspace.old)
+        → Left width n coordinates.now y.counts (round_two settings y.ps)
+        0 result merged.new merged.old workspace.new workspace.old }
 {
     if 0.0 < settings.tolerance {
         return build_chains::round_two(
@@ -196,18 +197,18 @@ fn finish_admitted<'a>(
     boxes: &mut [u64],
     workspace: &mut [u64],
 ) -> Answer
-    requires { ⌜ finishRefusalOf «wkb_type» (lent (now coordinates) (now counts) (now groups) (now kinds))
-        (lentPieces (now pieces) (now «piece_members») (now «piece_marks») (now «piece_listing»)
-        (now «piece_merged») k) settings
-        (finishRooms (now table) (now members) (now marks) (now listing)
-        (now merged) (now boxes) (now workspace)) ≡ 0 ⌝ }
-    ensures { λ r. ⌜ Finished «wkb_type» (lent (now (coordinates .entry)) (now (counts .entry)) (now (groups .entry)) (now (kinds .entry)))
-        (lentPieces (now (pieces .entry)) (now («piece_members» .entry)) (now («piece_marks» .entry)) (now («piece_listing» .entry))
-        (now («piece_merged» .entry)) k) settings
-        (finishRooms (now (table .entry)) (now (members .entry)) (now (marks .entry)) (now (listing .entry))
-        (now (merged .entry)) (now (boxes .entry)) (now (workspace .entry)))
-        r (finishRooms (now (table .exit)) (now (members .exit)) (now (marks .exit)) (now (listing .exit))
-        (now (merged .exit)) (now (boxes .exit)) (now (workspace .exit))) ⌝ }
+    requires { finish_refusal_of wkb_type (lent coordinates.now counts.now groups.now kinds.now)
+        (lent_pieces pieces.now piece_members.now piece_marks.now piece_listing.now
+        piece_merged.now k) settings
+        (finish_rooms table.old members.old marks.old listing.old
+        merged.old boxes.old workspace.old) ≡ 0 }
+    ensures { Finished wkb_type (lent coordinates.now counts.now groups.now kinds.now)
+        (lent_pieces pieces.now piece_members.now piece_marks.now piece_listing.now
+        piece_merged.now k) settings
+        (finish_rooms table.old members.old marks.old listing.old
+        merged.old boxes.old workspace.old)
+        result (finish_rooms table.new members.new marks.new listing.new
+        merged.new boxes.new workspace.new) }
 {
     let n = counts.len();
     let width = point_numbers::width_of(wkb_type);
@@ -276,13 +277,13 @@ pub fn finish<'a>(
     boxes: &mut [u64],
     workspace: &mut [u64],
 ) -> Answer
-    ensures { λ r. ⌜ Finished «wkb_type» (lent (now (coordinates .entry)) (now (counts .entry)) (now (groups .entry)) (now (kinds .entry)))
-        (lentPieces (now (pieces .entry)) (now («piece_members» .entry)) (now («piece_marks» .entry)) (now («piece_listing» .entry))
-        (now («piece_merged» .entry)) k) settings
-        (finishRooms (now (table .entry)) (now (members .entry)) (now (marks .entry)) (now (listing .entry))
-        (now (merged .entry)) (now (boxes .entry)) (now (workspace .entry)))
-        r (finishRooms (now (table .exit)) (now (members .exit)) (now (marks .exit)) (now (listing .exit))
-        (now (merged .exit)) (now (boxes .exit)) (now (workspace .exit))) ⌝ }
+    ensures { Finished wkb_type (lent coordinates.now counts.now groups.now kinds.now)
+        (lent_pieces pieces.now piece_members.now piece_marks.now piece_listing.now
+        piece_merged.now k) settings
+        (finish_rooms table.old members.old marks.old listing.old
+        merged.old boxes.old workspace.old)
+        result (finish_rooms table.new members.new marks.new listing.new
+        merged.new boxes.new workspace.new) }
 {
     let refused = lent_refusals::finish_refusal(
         wkb_type,

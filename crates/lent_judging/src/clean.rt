@@ -1,15 +1,14 @@
 // The front of the merged coordinates that are lent: what the pieces take of it is looked at together.
+ghost use Rattle.std.specs.Prelude.{◌≡◌, ◌*◌, ◌≤◌, length};
+ghost use Rattle.rules.specs.Refusals.{piece_size};
+ghost use Rattle.lent_judging.specs.Front.{last_end, clean_to};
+
 use rules::PIECE;
-ghost use mathlib.Core.Path.{_≡_};
-ghost use Prim.Native.Nat.{_*_, _≤_};
-ghost use lib.ListN.{length};
-ghost use Rattle·rules.specs.Refusals.{pieceSize};
-ghost use Rattle·lent_judging·specs.specs.Front.{lastEnd, cleanTo};
 
 // Where the coordinates of the last of k pieces end that has merged ones, or 0.
 fn last_end(pieces: &[u32], k: usize) -> usize
-    requires { ⌜ k * pieceSize ≤ length (now pieces) ⌝ }
-    ensures { λ r. ⌜ (r ≡ lastEnd (now (pieces .entry)) k) × (r ≤ 8589934590) ⌝ }
+    requires { k * piece_size ≤ length pieces.now }
+    ensures { (result ≡ last_end pieces.now k) × (result ≤ 8589934590) }
 {
     let mut q = k;
     while 0 < q {
@@ -24,8 +23,8 @@ fn last_end(pieces: &[u32], k: usize) -> usize
 
 // How many of the first merged coordinates are places: all up to the end of the last piece that has some, or none.
 pub fn clean_front(width: usize, pieces: &[u32], k: usize, merged: &[u64]) -> usize
-    requires { ⌜ (2 ≤ width) × (width ≤ 4) × (k * pieceSize ≤ length (now pieces)) ⌝ }
-    ensures { λ r. ⌜ r ≡ cleanTo width (now (merged .entry)) (lastEnd (now (pieces .entry)) k) ⌝ }
+    requires { (2 ≤ width) × (width ≤ 4) × (k * piece_size ≤ length pieces.now) }
+    ensures { result ≡ clean_to width merged.now (last_end pieces.now k) }
 {
     let end = last_end(pieces, k);
     let numbers = end * width;

@@ -1,18 +1,19 @@
 // Refusal 19: pieces that a call lends, judged with no workspace and with nothing stored. Lines are noted in a small table; a piece of one line is judged
 // without a loop, and its coordinates are places because the input's are. The merged coordinates are looked at together, and piece by piece only where one is
 // none.
+#![tactic(auto)]
+
 mod clean;
+
+ghost use Rattle.std.specs.Prelude.{◌≡◌, ◌+◌, ◌*◌, ◌≤◌, length, get_or};
+ghost use Rattle.rules.specs.Layout.{lent};
+ghost use Rattle.rules.specs.Refusals.{most_lines, piece_size};
+ghost use Rattle.rules.specs.Pieces.{lent_pieces, lent_bad};
+ghost use Rattle.lent_judging.specs.Judging.{LinesSized, FrameJudged, OneLent, OneJudged, LinesLent, LinesJudged, points_bad, Judgeable, PieceJudged, OneAsked, MoreAsked};
+ghost use Rattle.lent_judging.specs.Front.{FrontClean};
 
 use crate::clean::clean_front;
 use rules::PIECE;
-ghost use mathlib.Core.Path.{_≡_};
-ghost use Prim.Native.Nat.{_+_, _*_, _≤_};
-ghost use lib.ListN.{length, getD};
-ghost use Rattle·rules.specs.Layout.{lent};
-ghost use Rattle·rules.specs.Refusals.{mostLines, pieceSize};
-ghost use Rattle·rules.specs.Pieces.{lentPieces, lentBad};
-ghost use Rattle·lent_judging·specs.specs.Judging.{LinesSized, FrameJudged, OneLent, OneJudged, LinesLent, LinesJudged, pointsBad, Judgeable, PieceJudged, OneAsked, MoreAsked};
-ghost use Rattle·lent_judging·specs.specs.Front.{FrontClean};
 
 // Whether a record names no line or no coordinate, or leaves its slices, of which the lengths are given.
 fn frame_bad(
@@ -28,8 +29,8 @@ fn frame_bad(
     input: usize,
     merged: usize,
 ) -> bool
-    requires { ⌜ width ≤ 4 ⌝ }
-    ensures { λ r. ⌜ FrameJudged first lines source point points width members marks listing input merged r ⌝ }
+    requires { width ≤ 4 }
+    ensures { FrameJudged first lines source point points width members marks listing input merged result }
 {
     if lines == 0 {
         return true;
@@ -68,8 +69,8 @@ fn one_bad(
     point: u32,
     points: u32,
 ) -> bool
-    requires { ⌜ (length (now seen) ≡ mostLines) × OneLent (now places) (now counts) (now kinds) ⌝ }
-    ensures { λ r. ⌜ OneJudged (now (seen .exit)) (now (seen .entry)) (now (counts .entry)) (now (kinds .entry)) line mark listed source point points r ⌝ }
+    requires { (length seen.old ≡ most_lines) × OneLent places.now counts.now kinds.now }
+    ensures { OneJudged seen.new seen.old counts.now kinds.now line mark listed source point points result }
 {
     if !lent_noting::is_fresh(seen, counts, kinds, line) {
         return true;
@@ -102,9 +103,9 @@ fn lines_bad(
     marks: &[u8],
     listing: &[u32],
 ) -> bool
-    requires { ⌜ LinesLent (now seen) (now counts) (now groups) (now kinds) (now lines) (now marks) (now listing) ⌝ }
-    ensures { λ r. ⌜ LinesJudged (now (seen .exit)) (now (seen .entry)) (now (counts .entry)) (now (groups .entry)) (now (kinds .entry))
-        (now (lines .entry)) (now (marks .entry)) (now (listing .entry)) r ⌝ }
+    requires { LinesLent seen.old counts.now groups.now kinds.now lines.now marks.now listing.now }
+    ensures { LinesJudged seen.new seen.old counts.now groups.now kinds.now
+        lines.now marks.now listing.now result }
 {
     let first = lines[0] as usize;
     if groups.len() <= first {
@@ -125,8 +126,8 @@ fn points_bad(
     point: u32,
     points: u32,
 ) -> bool
-    requires { ⌜ (2 ≤ width) × (width ≤ 4) × (source ≡ 1 → (point + points) * width ≤ length (now merged)) × FrontClean width (now merged) clean ⌝ }
-    ensures { λ r. ⌜ r ≡ pointsBad width source point points (now (merged .entry)) ⌝ }
+    requires { (2 ≤ width) × (width ≤ 4) × (source ≡ 1 → (point + points) * width ≤ length merged.now) × FrontClean width merged.now clean }
+    ensures { result ≡ points_bad width source point points merged.now }
 {
     if source != 1 {
         return true;
@@ -150,10 +151,10 @@ fn frame_at(
     input: usize,
     merged: usize,
 ) -> bool
-    requires { ⌜ (q * pieceSize + pieceSize ≤ length (now pieces)) × (width ≤ 4) ⌝ }
-    ensures { λ r. ⌜ FrameJudged (getD (now (pieces .entry)) (q * pieceSize) 0) (getD (now (pieces .entry)) (q * pieceSize + 1) 0)
-        (getD (now (pieces .entry)) (q * pieceSize + 2) 0) (getD (now (pieces .entry)) (q * pieceSize + 3) 0)
-        (getD (now (pieces .entry)) (q * pieceSize + 4) 0) width members marks listing input merged r ⌝ }
+    requires { (q * piece_size + piece_size ≤ length pieces.now) × (width ≤ 4) }
+    ensures { FrameJudged (get_or pieces.now (q * piece_size) 0) (get_or pieces.now (q * piece_size + 1) 0)
+        (get_or pieces.now (q * piece_size + 2) 0) (get_or pieces.now (q * piece_size + 3) 0)
+        (get_or pieces.now (q * piece_size + 4) 0) width members marks listing input merged result }
 {
     let at = q * PIECE;
     frame_bad(
@@ -183,12 +184,12 @@ fn one_at(
     listing: &[u32],
     q: usize,
 ) -> bool
-    requires { ⌜ OneAsked (now seen) (now places) (now counts) (now kinds) (now pieces) (now members) (now marks) (now listing) q ⌝ }
-    ensures { λ r. ⌜ ((y : OneAsked (now (seen .entry)) (now (places .entry)) (now (counts .entry)) (now (kinds .entry))
-        (now (pieces .entry)) (now (members .entry)) (now (marks .entry)) (now (listing .entry)) q)
-        → PieceJudged (y .width) (lent (y .coordinates) (now (counts .entry)) (y .groups) (now (kinds .entry)))
-        (lentPieces (now (pieces .entry)) (now (members .entry)) (now (marks .entry)) (now (listing .entry)) (y .merged) (y .number))
-        (now (seen .exit)) q r) ⌝ }
+    requires { OneAsked seen.old places.now counts.now kinds.now pieces.now members.now marks.now listing.now q }
+    ensures { (y : OneAsked seen.old places.now counts.now kinds.now
+        pieces.now members.now marks.now listing.now q)
+        → PieceJudged y.width (lent y.coordinates counts.now y.groups kinds.now)
+        (lent_pieces pieces.now members.now marks.now listing.now y.merged y.number)
+        seen.new q result }
 {
     let at = q * PIECE;
     let from = pieces[at] as usize;
@@ -221,12 +222,12 @@ fn more_at(
     clean: usize,
     q: usize,
 ) -> bool
-    requires { ⌜ MoreAsked width clean (now seen) (now counts) (now groups) (now kinds) (now pieces) (now members) (now marks) (now listing) (now merged) q ⌝ }
-    ensures { λ r. ⌜ ((y : MoreAsked width clean (now (seen .entry)) (now (counts .entry)) (now (groups .entry)) (now (kinds .entry))
-        (now (pieces .entry)) (now (members .entry)) (now (marks .entry)) (now (listing .entry)) (now (merged .entry)) q)
-        → PieceJudged width (lent (y .coordinates) (now (counts .entry)) (now (groups .entry)) (now (kinds .entry)))
-        (lentPieces (now (pieces .entry)) (now (members .entry)) (now (marks .entry)) (now (listing .entry)) (now (merged .entry)) (y .number))
-        (now (seen .exit)) q r) ⌝ }
+    requires { MoreAsked width clean seen.old counts.now groups.now kinds.now pieces.now members.now marks.now listing.now merged.now q }
+    ensures { (y : MoreAsked width clean seen.old counts.now groups.now kinds.now
+        pieces.now members.now marks.now listing.now merged.now q)
+        → PieceJudged width (lent y.coordinates counts.now groups.now kinds.now)
+        (lent_pieces pieces.now members.now marks.now listing.now merged.now y.number)
+        seen.new q result }
 {
     let at = q * PIECE;
     let from = pieces[at] as usize;
@@ -270,12 +271,12 @@ fn judge(
     k: u64,
     q: usize,
 ) -> bool
-    requires { ⌜ Judgeable width (lent (now coordinates) (now counts) (now groups) (now kinds))
-        (lentPieces (now pieces) (now members) (now marks) (now listing) (now merged) k) (now seen) (now places) q
-        × FrontClean width (now merged) clean ⌝ }
-    ensures { λ r. ⌜ PieceJudged width (lent (now (coordinates .entry)) (now (counts .entry)) (now (groups .entry)) (now (kinds .entry)))
-        (lentPieces (now (pieces .entry)) (now (members .entry)) (now (marks .entry)) (now (listing .entry)) (now (merged .entry)) k)
-        (now (seen .exit)) q r ⌝ }
+    requires { Judgeable width (lent coordinates.now counts.now groups.now kinds.now)
+        (lent_pieces pieces.now members.now marks.now listing.now merged.now k) seen.old places.now q
+        × FrontClean width merged.now clean }
+    ensures { PieceJudged width (lent coordinates.now counts.now groups.now kinds.now)
+        (lent_pieces pieces.now members.now marks.now listing.now merged.now k)
+        seen.new q result }
 {
     if frame_at(
         pieces,
@@ -291,30 +292,11 @@ fn judge(
     }
     if pieces[q * PIECE + 1] == 1 {
         return one_at(
-            seen,
-            places,
-            counts,
-            kinds,
-            pieces,
-            members,
-            marks,
-            listing,
-            q,
+            seen, places, counts, kinds, pieces, members, marks, listing, q,
         );
     }
     more_at(
-        seen,
-        width,
-        counts,
-        groups,
-        kinds,
-        pieces,
-        members,
-        marks,
-        listing,
-        merged,
-        clean,
-        q,
+        seen, width, counts, groups, kinds, pieces, members, marks, listing, merged, clean, q,
     )
 }
 
@@ -332,9 +314,9 @@ pub fn lent_bad(
     merged: &[u64],
     k: u64,
 ) -> bool
-    requires { ⌜ LinesSized width (lent (now coordinates) (now counts) (now groups) (now kinds)) ⌝ }
-    ensures { λ r. ⌜ r ≡ lentBad width (lent (now (coordinates .entry)) (now (counts .entry)) (now (groups .entry)) (now (kinds .entry)))
-        (lentPieces (now (pieces .entry)) (now (members .entry)) (now (marks .entry)) (now (listing .entry)) (now (merged .entry)) k) ⌝ }
+    requires { LinesSized width (lent coordinates.now counts.now groups.now kinds.now) }
+    ensures { result ≡ lent_bad width (lent coordinates.now counts.now groups.now kinds.now)
+        (lent_pieces pieces.now members.now marks.now listing.now merged.now k) }
 {
     if pieces.len() as u64 / (PIECE as u64) < k {
         return true;

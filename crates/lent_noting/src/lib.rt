@@ -1,19 +1,18 @@
 // The lines of lent pieces, noted piece by piece in a table with a byte for each line: 0 where a line wasn't met, 1 where it is a member of the piece at
 // hand and not yet in its listing, 2 where it is in both. So between two pieces no line has a 1, and a line that has one is of the piece at hand.
+#![tactic(auto)]
+
+ghost use Rattle.std.specs.Prelude.{◌≡◌, ◌&&◌, ◌≤◌, eqb, leb, length};
+ghost use Rattle.rules.specs.Lists.{one, total};
+ghost use Rattle.rules.specs.Refusals.{most_lines, most_points};
+ghost use Rattle.lent_noting.specs.Noting.{Placed, fresh, PlacesTabled, MembersNoted, ListingNoted, AllNoted};
+
 use rules::MOST_LINES;
-ghost use mathlib.Core.Path.{_≡_};
-ghost use mathlib.Core.Bool.{_&&_};
-ghost use Prim.Native.Nat.{_≤_};
-ghost use lib.Dec.{eqb, leb};
-ghost use lib.ListN.{length};
-ghost use Rattle·rules.specs.Lists.{one, total};
-ghost use Rattle·rules.specs.Refusals.{mostLines, mostPoints};
-ghost use Rattle·lent_noting·specs.specs.Noting.{Placed, fresh, PlacesTabled, MembersNoted, ListingNoted, AllNoted};
 
 // Where each line's coordinates begin, counted in coordinates. Returns how many there are in all.
 pub fn place_lines(places: &mut [u32; 4096], counts: &[u32]) -> u32
-    requires { ⌜ (length (now places) ≡ mostLines) × (length (now counts) ≤ mostLines) × (total (now counts) ≤ mostPoints) ⌝ }
-    ensures { λ r. ⌜ (r ≡ total (now (counts .entry))) × (length (now (places .exit)) ≡ mostLines) × Placed (now (places .exit)) (now (counts .entry)) ⌝ }
+    requires { (length places.old ≡ most_lines) × (length counts.now ≤ most_lines) × (total counts.now ≤ most_points) }
+    ensures { (result ≡ total counts.now) × (length places.new ≡ most_lines) × Placed places.new counts.now }
 {
     let mut sum: u32 = 0;
     let mut i: usize = 0;
@@ -27,8 +26,8 @@ pub fn place_lines(places: &mut [u32; 4096], counts: &[u32]) -> u32
 
 // Whether a number is that of a plain line without a mark.
 pub fn is_fresh(seen: &[u8; 4096], counts: &[u32], kinds: &[u8], line: u32) -> bool
-    requires { ⌜ (length (now seen) ≡ mostLines) × (length (now counts) ≤ mostLines) × (length (now kinds) ≡ length (now counts)) ⌝ }
-    ensures { λ r. ⌜ r ≡ fresh (now (seen .entry)) (now (counts .entry)) (now (kinds .entry)) line ⌝ }
+    requires { (length seen.now ≡ most_lines) × (length counts.now ≤ most_lines) × (length kinds.now ≡ length counts.now) }
+    ensures { result ≡ fresh seen.now counts.now kinds.now line }
 {
     let y = line as usize;
     if counts.len() <= y {
@@ -50,9 +49,9 @@ pub fn note_members(
     lines: &[u32],
     marks: &[u8],
 ) -> bool
-    requires { ⌜ (length (now seen) ≡ mostLines) × PlacesTabled (now counts) (now groups) (now kinds) × (length (now marks) ≡ length (now lines)) ⌝ }
-    ensures { λ r. ⌜ MembersNoted (now (seen .exit)) (now (seen .entry)) (now (counts .entry)) (now (groups .entry)) (now (kinds .entry)) group
-        (now (lines .entry)) (now (marks .entry)) r ⌝ }
+    requires { (length seen.old ≡ most_lines) × PlacesTabled counts.now groups.now kinds.now × (length marks.now ≡ length lines.now) }
+    ensures { MembersNoted seen.new seen.old counts.now groups.now kinds.now group
+        lines.now marks.now result }
 {
     let mut i: usize = 0;
     while i < lines.len() {
@@ -74,8 +73,8 @@ pub fn note_members(
 
 // Whether each line of a listing has the mark 1; each gets the mark 2.
 pub fn note_listing(seen: &mut [u8; 4096], listing: &[u32]) -> bool
-    requires { ⌜ length (now seen) ≡ mostLines ⌝ }
-    ensures { λ r. ⌜ ListingNoted (now (seen .exit)) (now (seen .entry)) (now (listing .entry)) r ⌝ }
+    requires { length seen.old ≡ most_lines }
+    ensures { ListingNoted seen.new seen.old listing.now result }
 {
     let mut i: usize = 0;
     while i < listing.len() {
@@ -94,7 +93,7 @@ pub fn note_listing(seen: &mut [u8; 4096], listing: &[u32]) -> bool
 
 // 1 for a line that is plain and has no mark, and 0 for another.
 fn unnoted(count: u32, kind: u8, mark: u8) -> u32
-    ensures { λ r. ⌜ r ≡ one ((eqb kind 0 && leb 2 count) && eqb mark 0) ⌝ }
+    ensures { result ≡ one ((eqb kind 0 && leb 2 count) && eqb mark 0) }
 {
     if !build_lines::is_plain(count, kind) {
         return 0;
@@ -107,8 +106,8 @@ fn unnoted(count: u32, kind: u8, mark: u8) -> u32
 
 // Whether each plain line has a mark. All are looked at, so that several go at once.
 pub fn all_noted(seen: &[u8; 4096], counts: &[u32], kinds: &[u8]) -> bool
-    requires { ⌜ (length (now seen) ≡ mostLines) × (length (now counts) ≤ mostLines) × (length (now kinds) ≡ length (now counts)) ⌝ }
-    ensures { λ r. ⌜ AllNoted (now (seen .entry)) (now (counts .entry)) (now (kinds .entry)) r ⌝ }
+    requires { (length seen.now ≡ most_lines) × (length counts.now ≤ most_lines) × (length kinds.now ≡ length counts.now) }
+    ensures { AllNoted seen.now counts.now kinds.now result }
 {
     let mut left: u32 = 0;
     let mut y: usize = 0;

@@ -1,17 +1,13 @@
 // The refusals of the two calls that part building, in the order of checking.
-use rules::BOX_ROOM;
-use rules::BOX_ROOM_BESIDE;
-use rules::LINE_ROOM;
-use rules::PIECE;
-use rules::RECORD;
-use rules::Settings;
-ghost use mathlib.Core.Path.{_≡_};
-ghost use mathlib.Core.List.{[], _∷_};
-ghost use Prim.Native.Nat.{_≤_};
-ghost use Rattle·rules.specs.Layout.{lent};
-ghost use Rattle·rules.specs.Refusals.{firstOf, mostLines};
-ghost use Rattle·rules.specs.Pieces.{lentPieces, firstRooms, firstRefusalOf, finishRooms, finishRefusalOf};
-ghost use Rattle·lent_refusals·specs.specs.Tests.{callTests, roomsShort, restShort};
+#![tactic(auto)]
+
+ghost use Rattle.std.specs.Prelude.{◌≡◌, [], ◌∷◌, ◌≤◌};
+ghost use Rattle.rules.specs.Layout.{lent};
+ghost use Rattle.rules.specs.Refusals.{first_of, most_lines};
+ghost use Rattle.rules.specs.Pieces.{lent_pieces, first_rooms, first_refusal_of, finish_rooms, finish_refusal_of};
+ghost use Rattle.lent_refusals.specs.Tests.{call_tests, rooms_short, rest_short};
+
+use rules::{BOX_ROOM, BOX_ROOM_BESIDE, LINE_ROOM, PIECE, RECORD, Settings};
 
 // Whether a room is shorter than n lines, records of so many numbers and the numbers of the coordinates ask for, or one of the rest is too short.
 fn room_short(
@@ -25,8 +21,8 @@ fn room_short(
     merged: usize,
     rest: bool,
 ) -> bool
-    requires { ⌜ (n ≤ mostLines) × (size ≤ 6) ⌝ }
-    ensures { λ r. ⌜ r ≡ roomsShort n size numbers table members marks listing merged rest ⌝ }
+    requires { (n ≤ most_lines) × (size ≤ 6) }
+    ensures { result ≡ rooms_short n size numbers table members marks listing merged rest }
 {
     if table < n * size {
         return true;
@@ -48,8 +44,8 @@ fn room_short(
 
 // Whether the boxes or the workspace are too short for n lines.
 fn rest_short(n: usize, boxes: usize, workspace: usize) -> bool
-    requires { ⌜ n ≤ mostLines ⌝ }
-    ensures { λ r. ⌜ r ≡ restShort n boxes workspace ⌝ }
+    requires { n ≤ most_lines }
+    ensures { result ≡ rest_short n boxes workspace }
 {
     if boxes < n * BOX_ROOM + BOX_ROOM_BESIDE {
         return true;
@@ -59,7 +55,7 @@ fn rest_short(n: usize, boxes: usize, workspace: usize) -> bool
 
 // The last two refusals in their order: of lent pieces, of which the first call has none, and of rooms.
 fn last_refusal(bad: bool, short: bool) -> u64
-    ensures { λ r. ⌜ r ≡ firstOf ((19, bad) ∷ (7, short) ∷ []) ⌝ }
+    ensures { result ≡ first_of ((19, bad) ∷ (7, short) ∷ []) }
 {
     if bad {
         return 19;
@@ -80,8 +76,8 @@ fn call_refusal(
     switch: u8,
     limit: f64,
 ) -> u64
-    ensures { λ r. ⌜ r ≡ firstOf (callTests «wkb_type»
-        (lent (now (coordinates .entry)) (now (counts .entry)) (now (groups .entry)) (now (kinds .entry))) switch limit) ⌝ }
+    ensures { result ≡ first_of (call_tests wkb_type
+        (lent coordinates.now counts.now groups.now kinds.now) switch limit) }
 {
     let refused = build_refusals::line_refusal(wkb_type, coordinates, counts, groups, kinds);
     if refused != 0 {
@@ -109,9 +105,9 @@ pub fn first_refusal(
     merged: &[u64],
     workspace: &[u64],
 ) -> u64
-    ensures { λ r. ⌜ r ≡ firstRefusalOf «wkb_type»
-        (lent (now (coordinates .entry)) (now (counts .entry)) (now (groups .entry)) (now (kinds .entry))) switch limit
-        (firstRooms (now (pieces .entry)) (now (members .entry)) (now (marks .entry)) (now (listing .entry)) (now (merged .entry)) (now (workspace .entry))) ⌝ }
+    ensures { result ≡ first_refusal_of wkb_type
+        (lent coordinates.now counts.now groups.now kinds.now) switch limit
+        (first_rooms pieces.now members.now marks.now listing.now merged.now workspace.now) }
 {
     let refused = call_refusal(wkb_type, coordinates, counts, groups, kinds, switch, limit);
     if refused != 0 {
@@ -154,11 +150,11 @@ pub fn finish_refusal(
     boxes: &[u64],
     workspace: &[u64],
 ) -> u64
-    ensures { λ r. ⌜ r ≡ finishRefusalOf «wkb_type» (lent (now (coordinates .entry)) (now (counts .entry)) (now (groups .entry)) (now (kinds .entry)))
-        (lentPieces (now (pieces .entry)) (now («piece_members» .entry)) (now («piece_marks» .entry)) (now («piece_listing» .entry))
-        (now («piece_merged» .entry)) k) settings
-        (finishRooms (now (table .entry)) (now (members .entry)) (now (marks .entry)) (now (listing .entry)) (now (merged .entry)) (now (boxes .entry))
-        (now (workspace .entry))) ⌝ }
+    ensures { result ≡ finish_refusal_of wkb_type (lent coordinates.now counts.now groups.now kinds.now)
+        (lent_pieces pieces.now piece_members.now piece_marks.now piece_listing.now
+        piece_merged.now k) settings
+        (finish_rooms table.now members.now marks.now listing.now merged.now boxes.now
+        workspace.now) }
 {
     let refused = call_refusal(
         wkb_type,

@@ -1,26 +1,20 @@
 // Lent pieces as the pieces that go into a round, and pieces that come out of a round as a call leaves them.
-use chain_pieces::LISTING;
-use chain_pieces::MARKS;
-use chain_pieces::MEMBERS;
-use chain_pieces::TAKEN;
-use chain_pieces::TAKEN_LISTING;
-use chain_pieces::TAKEN_MARKS;
-use chain_pieces::TAKEN_MEMBERS;
+#![tactic(auto)]
+
+ghost use Rattle.std.specs.Prelude.{◌≡◌, true, ◌+◌, ◌*◌, ◌≤◌, length};
+ghost use Rattle.rules.specs.Refusals.{piece_size};
+ghost use Rattle.point_slices.specs.Holds.{HoldsFrom};
+ghost use Rattle.lent_taking.specs.Taking.{PiecesTakable, Took, PieceTakable, PieceTook};
+ghost use Rattle.lent_taking.specs.Row.{row_end, in_row};
+ghost use Rattle.lent_taking.specs.Leaving.{Leavable, PiecesLeft};
+
+use chain_pieces::{LISTING, MARKS, MEMBERS, TAKEN, TAKEN_LISTING, TAKEN_MARKS, TAKEN_MEMBERS};
 use rules::PIECE;
-ghost use mathlib.Core.Path.{_≡_};
-ghost use mathlib.Core.Bool.{true};
-ghost use Prim.Native.Nat.{_+_, _*_, _≤_};
-ghost use lib.ListN.{length};
-ghost use Rattle·rules.specs.Refusals.{pieceSize};
-ghost use Rattle·point_slices.specs.Holds.{HoldsFrom};
-ghost use Rattle·lent_taking·specs.specs.Taking.{PiecesTakable, Took, PieceTakable, PieceTook};
-ghost use Rattle·lent_taking·specs.specs.Row.{rowEnd, inRow};
-ghost use Rattle·lent_taking·specs.specs.Leaving.{Leavable, PiecesLeft};
 
 // Numbers as words, from `at` on.
 fn take_numbers(w: &mut [u64], at: usize, numbers: &[u32])
-    requires { ⌜ at + length (now numbers) ≤ length (now w) ⌝ }
-    ensures { λ _. ⌜ HoldsFrom (now (w .exit)) (now (w .entry)) at (length (now (numbers .entry))) (now (numbers .entry)) ⌝ }
+    requires { at + length numbers.now ≤ length w.old }
+    ensures { HoldsFrom w.new w.old at (length numbers.now) numbers.now }
 {
     let mut i: usize = 0;
     while i < numbers.len() {
@@ -31,8 +25,8 @@ fn take_numbers(w: &mut [u64], at: usize, numbers: &[u32])
 
 // Marks as words, from `at` on.
 fn take_marks(w: &mut [u64], at: usize, marks: &[u8])
-    requires { ⌜ at + length (now marks) ≤ length (now w) ⌝ }
-    ensures { λ _. ⌜ HoldsFrom (now (w .exit)) (now (w .entry)) at (length (now (marks .entry))) (now (marks .entry)) ⌝ }
+    requires { at + length marks.now ≤ length w.old }
+    ensures { HoldsFrom w.new w.old at (length marks.now) marks.now }
 {
     let mut i: usize = 0;
     while i < marks.len() {
@@ -53,9 +47,9 @@ fn take_piece(
     listing: &[u32],
     q: usize,
 ) -> usize
-    requires { ⌜ PieceTakable (now w) n q m (now pieces) (now members) (now marks) (now listing) ⌝ }
-    ensures { λ r. ⌜ PieceTook (now (w .exit)) (now (w .entry)) n q m
-        (now (pieces .entry)) (now (members .entry)) (now (marks .entry)) (now (listing .entry)) r ⌝ }
+    requires { PieceTakable w.old n q m pieces.now members.now marks.now listing.now }
+    ensures { PieceTook w.new w.old n q m
+        pieces.now members.now marks.now listing.now result }
 {
     let at = q * PIECE;
     let from = pieces[at] as usize;
@@ -86,8 +80,8 @@ fn take_each(
     marks: &[u8],
     listing: &[u32],
 ) -> usize
-    requires { ⌜ PiecesTakable (now w) n k (now pieces) (now members) (now marks) (now listing) ⌝ }
-    ensures { λ r. ⌜ Took (now (w .exit)) (now (w .entry)) n k (now (pieces .entry)) (now (members .entry)) (now (marks .entry)) (now (listing .entry)) r ⌝ }
+    requires { PiecesTakable w.old n k pieces.now members.now marks.now listing.now }
+    ensures { Took w.new w.old n k pieces.now members.now marks.now listing.now result }
 {
     let mut m: usize = 0;
     let mut q: usize = 0;
@@ -100,8 +94,8 @@ fn take_each(
 
 // Whether the members of each of k pieces begin where those of the piece before it end, and those of the first at 0.
 fn in_a_row(pieces: &[u32], k: usize) -> bool
-    requires { ⌜ k * pieceSize ≤ length (now pieces) ⌝ }
-    ensures { λ r. ⌜ r ≡ inRow (now (pieces .entry)) k ⌝ }
+    requires { k * piece_size ≤ length pieces.now }
+    ensures { result ≡ in_row pieces.now k }
 {
     let mut end: usize = 0;
     let mut q: usize = 0;
@@ -117,8 +111,8 @@ fn in_a_row(pieces: &[u32], k: usize) -> bool
 
 // How many members k pieces have whose members are in a row.
 fn row_end(pieces: &[u32], k: usize) -> usize
-    requires { ⌜ k * pieceSize ≤ length (now pieces) ⌝ }
-    ensures { λ r. ⌜ r ≡ rowEnd (now (pieces .entry)) k ⌝ }
+    requires { k * piece_size ≤ length pieces.now }
+    ensures { result ≡ row_end pieces.now k }
 {
     if k == 0 {
         return 0;
@@ -137,8 +131,8 @@ fn take_row(
     marks: &[u8],
     listing: &[u32],
 ) -> usize
-    requires { ⌜ PiecesTakable (now w) n k (now pieces) (now members) (now marks) (now listing) × (inRow (now pieces) k ≡ true) ⌝ }
-    ensures { λ r. ⌜ Took (now (w .exit)) (now (w .entry)) n k (now (pieces .entry)) (now (members .entry)) (now (marks .entry)) (now (listing .entry)) r ⌝ }
+    requires { PiecesTakable w.old n k pieces.now members.now marks.now listing.now × (in_row pieces.now k ≡ true) }
+    ensures { Took w.new w.old n k pieces.now members.now marks.now listing.now result }
 {
     let m = row_end(pieces, k);
     take_numbers(w, n * TAKEN, &pieces[0..k * PIECE]);
@@ -158,8 +152,8 @@ pub fn take_pieces(
     marks: &[u8],
     listing: &[u32],
 ) -> usize
-    requires { ⌜ PiecesTakable (now w) n k (now pieces) (now members) (now marks) (now listing) ⌝ }
-    ensures { λ r. ⌜ Took (now (w .exit)) (now (w .entry)) n k (now (pieces .entry)) (now (members .entry)) (now (marks .entry)) (now (listing .entry)) r ⌝ }
+    requires { PiecesTakable w.old n k pieces.now members.now marks.now listing.now }
+    ensures { Took w.new w.old n k pieces.now members.now marks.now listing.now result }
 {
     if in_a_row(pieces, k) {
         return take_row(w, n, k, pieces, members, marks, listing);
@@ -178,13 +172,13 @@ pub fn leave_pieces(
     marks: &mut [u8],
     listing: &mut [u32],
 )
-    requires { ⌜ Leavable (now w) n p m (now pieces) (now members) (now marks) (now listing) ⌝ }
-    ensures { λ _. ⌜ ((y : Leavable (now (w .entry)) n p m (now (pieces .entry)) (now (members .entry)) (now (marks .entry)) (now (listing .entry)))
-        → PiecesLeft (y .counts) (y .small .ps)
-        (now (pieces .exit)) (now (pieces .entry))
-        (now (members .exit)) (now (members .entry))
-        (now (marks .exit)) (now (marks .entry))
-        (now (listing .exit)) (now (listing .entry))) ⌝ }
+    requires { Leavable w.now n p m pieces.old members.old marks.old listing.old }
+    ensures { (y : Leavable w.now n p m pieces.old members.old marks.old listing.old)
+        → PiecesLeft y.counts y.small.ps
+        pieces.new pieces.old
+        members.new members.old
+        marks.new marks.old
+        listing.new listing.old }
 {
     build_layout::lay_words(w, 0, p * PIECE, pieces, 0);
     build_layout::lay_words(w, n * MEMBERS, m, members, 0);

@@ -1,17 +1,18 @@
 // The calls with an offset, so many millimetres per metre run, in the limit's place.
-use rules::Answer;
-use rules::Settings;
-ghost use mathlib.Core.Path.{_≡_};
-ghost use mathlib.Core.Bool.{true, false};
-ghost use Rattle·rules.specs.Layout.{lent};
-ghost use Rattle·rules.specs.Refusals.{rooms};
-ghost use Rattle·rules.specs.Offset.{BuiltOffset, PairedOffset, endsFor};
-ghost use Rattle·offset_calls·specs.specs.Renumbered.{renumbered as renumbered-of};
+#![tactic(auto)]
+
+ghost use Rattle.std.specs.Prelude.{◌≡◌, true, false};
+ghost use Rattle.rules.specs.Layout.{lent};
+ghost use Rattle.rules.specs.Refusals.{rooms};
+ghost use Rattle.rules.specs.Offset.{BuiltOffset, PairedOffset, ends_for};
+ghost use Rattle.offset_calls.specs.Renumbered.{renumbered as renumbered_of};
+
+use rules::{Answer, Settings};
 
 // The answer of such a call, by that of the call with the offset's limit: a limit refused by 6 is an offset refused by 22. With a switch above 1 it is
 // the switch that was refused.
 fn renumbered(switch: u8, answer: Answer) -> Answer
-    ensures { λ r. ⌜ r ≡ renumbered-of switch answer ⌝ }
+    ensures { result ≡ renumbered_of switch answer }
 {
     if 1 < switch {
         return answer;
@@ -46,12 +47,12 @@ pub fn build_offset(
     spare: &mut [u64],
     workspace: &mut [u64],
 ) -> Answer
-    ensures { λ r. ⌜ BuiltOffset «wkb_type» (lent (now (coordinates .entry)) (now (counts .entry)) (now (groups .entry)) (now (kinds .entry)))
-        tolerance «origin_x» «origin_y» switch offset
-        (rooms (now (table .entry)) (now (members .entry)) (now (marks .entry)) (now (listing .entry))
-        (now (merged .entry)) (now (boxes .entry)) (now (spare .entry)) (now (workspace .entry)))
-        r (rooms (now (table .exit)) (now (members .exit)) (now (marks .exit)) (now (listing .exit))
-        (now (merged .exit)) (now (boxes .exit)) (now (spare .exit)) (now (workspace .exit))) ⌝ }
+    ensures { BuiltOffset wkb_type (lent coordinates.now counts.now groups.now kinds.now)
+        tolerance origin_x origin_y switch offset
+        (rooms table.old members.old marks.old listing.old
+        merged.old boxes.old spare.old workspace.old)
+        result (rooms table.new members.new marks.new listing.new
+        merged.new boxes.new spare.new workspace.new) }
 {
     let limit = float_offset::limit_for(offset);
     renumbered(
@@ -90,9 +91,9 @@ pub fn pairs_plain_offset(
     pairs: &mut [u32],
     workspace: &mut [u64],
 ) -> Answer
-    ensures { λ r. ⌜ PairedOffset false offset
-        (endsFor (now (present .entry)) (now (directions .entry)) (now (pieces .entry)) offset (now (pairs .entry)) (now (workspace .entry)))
-        r (now (pairs .exit)) (now (workspace .exit)) ⌝ }
+    ensures { PairedOffset false offset
+        (ends_for present.now directions.now pieces.now offset pairs.old workspace.old)
+        result pairs.new workspace.new }
 {
     let limit = float_offset::limit_for(offset);
     renumbered(
@@ -110,9 +111,9 @@ pub fn pairs_indexed_offset(
     pairs: &mut [u32],
     workspace: &mut [u64],
 ) -> Answer
-    ensures { λ r. ⌜ PairedOffset true offset
-        (endsFor (now (present .entry)) (now (directions .entry)) (now (pieces .entry)) offset (now (pairs .entry)) (now (workspace .entry)))
-        r (now (pairs .exit)) (now (workspace .exit)) ⌝ }
+    ensures { PairedOffset true offset
+        (ends_for present.now directions.now pieces.now offset pairs.old workspace.old)
+        result pairs.new workspace.new }
 {
     let limit = float_offset::limit_for(offset);
     renumbered(
@@ -130,9 +131,9 @@ pub fn pairs_chosen_offset(
     pairs: &mut [u32],
     workspace: &mut [u64],
 ) -> Answer
-    ensures { λ r. ⌜ PairedOffset false offset
-        (endsFor (now (present .entry)) (now (directions .entry)) (now (pieces .entry)) offset (now (pairs .entry)) (now (workspace .entry)))
-        r (now (pairs .exit)) (now (workspace .exit)) ⌝ }
+    ensures { PairedOffset false offset
+        (ends_for present.now directions.now pieces.now offset pairs.old workspace.old)
+        result pairs.new workspace.new }
 {
     let limit = float_offset::limit_for(offset);
     renumbered(

@@ -1,13 +1,16 @@
 // One box around all directions of a node: where even its nearest corner is too far from each of them, no pair qualifies, and a route need not look.
+#![tactic(auto)]
+
+ghost use Rattle.std.specs.Prelude.{◌≡◌};
+ghost use Rattle.pair_ends.specs.Ends.{EndsRoom, direction_at};
+ghost use Rattle.pair_all_directions.specs.Around.{Every, tame, round_of, joined_of, around_of, beyond_of, idle_of};
+
 use pair_bounds::Bounds;
 use rules::Direction;
-ghost use mathlib.Core.Path.{_≡_};
-ghost use Rattle·pair_ends.specs.Ends.{EndsRoom, directionAt};
-ghost use Rattle·pair_all_directions·specs.specs.Around.{Every, tame, round-of, joined-of, around-of, beyond-of, idle-of};
 
 // Whether a direction, if present, is finite.
 fn finite_way(way: Direction) -> bool
-    ensures { λ r. ⌜ r ≡ tame way ⌝ }
+    ensures { result ≡ tame way }
 {
     let Direction::Toward(x, y) = way else {
         return true;
@@ -20,8 +23,8 @@ fn finite_way(way: Direction) -> bool
 
 // Whether each present direction is finite.
 pub fn all_finite(w: &[u64], d: usize) -> bool
-    requires { ⌜ EndsRoom (now w) d ⌝ }
-    ensures { λ r. ⌜ Every (λ e. tame (directionAt (now (w .entry)) d e)) d r ⌝ }
+    requires { EndsRoom w.now d }
+    ensures { Every (λ e. tame (direction_at w.now d e)) d result }
 {
     let mut e = 0;
     while e < d {
@@ -35,7 +38,7 @@ pub fn all_finite(w: &[u64], d: usize) -> bool
 
 // Whether a direction, if present, is in the disk.
 fn round_way(way: Direction) -> bool
-    ensures { λ r. ⌜ r ≡ round-of way ⌝ }
+    ensures { result ≡ round_of way }
 {
     let Direction::Toward(x, y) = way else {
         return true;
@@ -45,8 +48,8 @@ fn round_way(way: Direction) -> bool
 
 // Whether each present direction is in the disk.
 pub fn all_round(w: &[u64], d: usize) -> bool
-    requires { ⌜ EndsRoom (now w) d ⌝ }
-    ensures { λ r. ⌜ Every (λ e. round-of (directionAt (now (w .entry)) d e)) d r ⌝ }
+    requires { EndsRoom w.now d }
+    ensures { Every (λ e. round_of (direction_at w.now d e)) d result }
 {
     let mut e = 0;
     while e < d {
@@ -60,7 +63,7 @@ pub fn all_round(w: &[u64], d: usize) -> bool
 
 // The least box around a box and a direction.
 fn joined(b: Bounds, way: Direction) -> Bounds
-    ensures { λ r. ⌜ r ≡ joined-of b way ⌝ }
+    ensures { result ≡ joined_of b way }
 {
     let Direction::Toward(x, y) = way else {
         return b;
@@ -79,8 +82,8 @@ fn joined(b: Bounds, way: Direction) -> Bounds
 
 // The least box around all directions.
 fn around(w: &[u64], d: usize) -> Bounds
-    requires { ⌜ EndsRoom (now w) d ⌝ }
-    ensures { λ r. ⌜ r ≡ around-of (directionAt (now (w .entry)) d) d ⌝ }
+    requires { EndsRoom w.now d }
+    ensures { result ≡ around_of (direction_at w.now d) d }
 {
     let mut b = Bounds::empty();
     let mut e = 0;
@@ -93,7 +96,7 @@ fn around(w: &[u64], d: usize) -> Bounds
 
 // Whether no direction of a box makes a pair with this one under the limit's key.
 fn beyond(b: Bounds, limit: u64, way: Direction) -> bool
-    ensures { λ r. ⌜ r ≡ beyond-of b limit way ⌝ }
+    ensures { result ≡ beyond_of b limit way }
 {
     let Direction::Toward(x, y) = way else {
         return true;
@@ -103,8 +106,8 @@ fn beyond(b: Bounds, limit: u64, way: Direction) -> bool
 
 // Whether each direction is too far from the box around all of them, so that no pair qualifies.
 pub fn apart(w: &[u64], d: usize, limit: u64) -> bool
-    requires { ⌜ EndsRoom (now w) d ⌝ }
-    ensures { λ r. ⌜ Every (λ e. beyond-of (around-of (directionAt (now (w .entry)) d) d) limit (directionAt (now (w .entry)) d e)) d r ⌝ }
+    requires { EndsRoom w.now d }
+    ensures { Every (λ e. beyond_of (around_of (direction_at w.now d) d) limit (direction_at w.now d e)) d result }
 {
     let b = around(w, d);
     let mut e = 0;
@@ -119,8 +122,8 @@ pub fn apart(w: &[u64], d: usize, limit: u64) -> bool
 
 // Whether each direction is tame and too far from the box around all of them.
 pub fn idle(w: &[u64], d: usize, limit: u64) -> bool
-    requires { ⌜ EndsRoom (now w) d ⌝ }
-    ensures { λ r. ⌜ Every (λ e. idle-of (directionAt (now (w .entry)) d) d limit e) d r ⌝ }
+    requires { EndsRoom w.now d }
+    ensures { Every (λ e. idle_of (direction_at w.now d) d limit e) d result }
 {
     if !all_finite(w, d) {
         return false;

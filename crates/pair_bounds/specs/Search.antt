@@ -1,5 +1,5 @@
 -- The words of a search over a tree of bounds, on whole numbers alone. The children of the node n are 2 * n and 2 * n + 1.
-use Prim.Native.Nat.{ℕ, zero, suc, _+_, _*_, _^_, _≤_, min}
+use Rattle.std.specs.Prelude.{ℕ, zero, suc, ◌+◌, ◌*◌, ◌^◌, ◌≤◌, min}
 
 -- a key and an index, which is below 2 ^ 64, as one number: its order is that of the key and then the index
 abbrev pub place : ℕ → ℕ → ℕ

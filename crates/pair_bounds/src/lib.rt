@@ -1,8 +1,10 @@
 // The bounds of a node's directions: the least box around them, with the first of their indexes.
+#![tactic(auto)]
+
+ghost use Rattle.std.specs.Prelude.{◌≡◌, min};
+ghost use Rattle.pair_bounds.specs.Box.{corner as corner_at, gap as gap_at, half_square, least, greatest, round_way, empty_of, union_of, corner_of, gap_of, lower_of};
+
 use float_order;
-ghost use mathlib.Core.Path.{_≡_};
-ghost use Prim.Native.Nat.{min};
-ghost use Rattle·pair_bounds·specs.specs.Box.{corner as corner-at, gap as gap-at, half-square, least, greatest, round-way, empty-of, union-of, corner-of, gap-of, lower-of};
 
 // The index of no end, which is after all others.
 pub const GONE: u64 = 0xFFFF_FFFF_FFFF_FFFF;
@@ -15,27 +17,27 @@ const BEYOND: f64 = 1.000000007450580596923828125;
 
 // The lesser of two numbers. Of two zeros the first.
 fn lesser(a: f64, b: f64) -> f64
-    ensures { λ r. ⌜ r ≡ least a b ⌝ }
+    ensures { result ≡ least a b }
 {
     if b < a { b } else { a }
 }
 
 fn greater(a: f64, b: f64) -> f64
-    ensures { λ r. ⌜ r ≡ greatest a b ⌝ }
+    ensures { result ≡ greatest a b }
 {
     if a < b { b } else { a }
 }
 
 // The end of low..high whose product with a is the least.
 fn corner(a: f64, low: f64, high: f64) -> f64
-    ensures { λ r. ⌜ r ≡ corner-at a low high ⌝ }
+    ensures { result ≡ corner_at a low high }
 {
     if a < 0.0 { high } else { low }
 }
 
 // What is least, in size, of a + z for z in low..high.
 fn gap(a: f64, low: f64, high: f64) -> f64
-    ensures { λ r. ⌜ r ≡ gap-at a low high ⌝ }
+    ensures { result ≡ gap_at a low high }
 {
     let u = low + a;
     if 0.0 < u {
@@ -47,24 +49,25 @@ fn gap(a: f64, low: f64, high: f64) -> f64
 
 // Half of g's square.
 fn halved(g: f64) -> f64
-    ensures { λ r. ⌜ r ≡ half-square g ⌝ }
+    ensures { result ≡ half_square g }
 {
     g * (g * 0.5)
 }
 
 // Whether a direction is in the unit disk, or hardly beyond it.
 pub fn is_round(x: f64, y: f64) -> bool
-    ensures { λ r. ⌜ r ≡ round-way x y ⌝ }
+    ensures { result ≡ round_way x y }
 {
     x * x + y * y <= RIM
 }
 
 fn earlier(a: u64, b: u64) -> u64
-    ensures { λ r. ⌜ r ≡ min a b ⌝ }
+    ensures { result ≡ min a b }
 {
     if b < a { b } else { a }
 }
 
+#[derive(Clone, Copy)]
 pub struct Bounds {
     pub low_x: f64,
     pub low_y: f64,
@@ -84,14 +87,14 @@ impl Bounds {
     };
 
     pub fn empty() -> Bounds
-        ensures { λ r. ⌜ r ≡ empty-of ⌝ }
+        ensures { result ≡ empty_of }
     {
         Bounds::EMPTY
     }
 
     // The least box around both.
     pub fn union(a: Bounds, b: Bounds) -> Bounds
-        ensures { λ r. ⌜ r ≡ union-of a b ⌝ }
+        ensures { result ≡ union_of a b }
     {
         Bounds {
             low_x: lesser(a.low_x, b.low_x),
@@ -104,7 +107,7 @@ impl Bounds {
 
     // The measure of (ax, ay) with a corner of the box: at most that with each direction in it.
     pub fn corner_measure(self, ax: f64, ay: f64) -> f64
-        ensures { λ r. ⌜ r ≡ corner-of self ax ay ⌝ }
+        ensures { result ≡ corner_of self ax ay }
     {
         let x = corner(ax, self.low_x, self.high_x);
         let y = corner(ay, self.low_y, self.high_y);
@@ -114,7 +117,7 @@ impl Bounds {
     // The same where all are in the disk, by how far the box is from -(ax, ay). A box's corner may be as far beyond the circle as the box is wide; this is
     // beyond it by no more than the square of that.
     fn gap_measure(self, ax: f64, ay: f64) -> f64
-        ensures { λ r. ⌜ r ≡ gap-of self ax ay ⌝ }
+        ensures { result ≡ gap_of self ax ay }
     {
         let x = halved(gap(ax, self.low_x, self.high_x));
         let y = halved(gap(ay, self.low_y, self.high_y));
@@ -123,7 +126,7 @@ impl Bounds {
 
     // The greater of the two where all are in the disk, else the corner's. Where all directions have one x, the corner is one of them.
     pub fn lower_measure(self, round: bool, ax: f64, ay: f64) -> f64
-        ensures { λ r. ⌜ r ≡ lower-of round self ax ay ⌝ }
+        ensures { result ≡ lower_of round self ax ay }
     {
         let m = self.corner_measure(ax, ay);
         if round {

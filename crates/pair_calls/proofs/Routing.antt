@@ -1,85 +1,85 @@
 -- A call that isn't refused leaves in its workspace what the routes ask for.
-use Prim.Native.Nat.{ℕ, _<_}
-use mathlib.Core.Path.{_≡_, refl, sym, _∙_, ap, subst}
-use mathlib.Core.Bool.{Bool, true, false, _&&_}
-use mathlib.Core.Logic.{_⊎_, ⊎-elim}
+use Prim.Native.Nat.{ℕ, ◌<◌}
+use mathlib.Core.Path.{◌≡◌, refl, sym, ◌∙◌, ap, subst}
+use mathlib.Core.Bool.{Bool, true, false, ◌&&◌}
+use mathlib.Core.Logic.{◌⊎◌, ⊎_elim}
 use mathlib.Core.List.{List}
 use native.Mathlib.Omega.{arith}
 use lib.Dec.{T, eqb, ltb}
 use lib.Ieee.{Float}
 use lib.Ieee.Scale.{finite}
-use lib.ListN.{length, getD, List·getD-eq-default}
+use lib.ListN.{length, get_or, get_or-eq_default}
 use borrow.Author.Tests.{eqb-true, ltb-true, ltb-false}
-use Rattle·rules.specs.declared.Direction.{Direction}
-use Rattle·rules.specs.declared.Direction.the-variants.{Absent, Toward}
-use Rattle·rules.specs.Selecting.{End}
-use Rattle·rules.specs.Layout.{given, ends}
-use Rattle·rules.specs.Refusals.{LentEnds, anyWild, pairRefusalOf}
-use Rattle·pair_laws.specs.Ends.{endAt, there}
-use Rattle·pair_laws.specs.Owners.{AtMostTwice}
-use Rattle·pair_laws.proofs.Order.{two, tf}
-use Rattle·pair_laws.proofs.Ends.{ends-length, ends-at}
-use Rattle·pair_laws.proofs.Refusals.{admitted, at-most-twice, all-finite}
-use Rattle·pair_index.specs.Index.{Finite}
-use Rattle·pair_lending.specs.Lent.{Put}
-use Rattle·pair_lending.proofs.Answers.{matched, put-room}
-use Rattle·pair_calls·specs.specs.declared.Route.{Route}
-use Rattle·pair_calls·specs.specs.Routed.{aloneBy, Routed}
+use Rattle.rules.specs.declared.Direction.{Direction}
+use Rattle.rules.specs.declared.Direction.TheVariants.{Absent, Toward}
+use Rattle.rules.specs.Selecting.{End}
+use Rattle.rules.specs.Layout.{given, ends}
+use Rattle.rules.specs.Refusals.{LentEnds, any_wild, pair_refusal_of}
+use Rattle.pair_laws.specs.Ends.{end_at, there}
+use Rattle.pair_laws.specs.Owners.{AtMostTwice}
+use Rattle.pair_laws.proofs.Order.{two, tf}
+use Rattle.pair_laws.proofs.Ends.{ends_length, ends_at}
+use Rattle.pair_laws.proofs.Refusals.{admitted, at_most_twice, all_finite}
+use Rattle.pair_index.specs.Index.{Finite}
+use Rattle.pair_lending.specs.Lent.{Put}
+use Rattle.pair_lending.proofs.Answers.{matched, put_room}
+use Rattle.pair_calls.specs.declared.Route.{Route}
+use Rattle.pair_calls.specs.Routed.{alone_by, Routed}
 
 -- an absent direction is not a present one
-not-toward : {x y : Float} → Absent ≡ Toward x y → ⊥
+not_toward : {x y : Float} → Absent ≡ Toward x y → ⊥
 unfolding there
-not-toward h = tf (ap there h) refl
+not_toward h = tf (ap there h) refl
 
 -- a direction that is read as present was marked so
-given-toward : (mark : ℕ) (a b x y : Float) → given mark a b ≡ Toward x y → (mark ≡ 1) × (a ≡ x) × (b ≡ y)
+given_toward : (mark : ℕ) (a b x y : Float) → given mark a b ≡ Toward x y → (mark ≡ 1) × (a ≡ x) × (b ≡ y)
 unfolding given
-given-toward mark a b x y = go (eqb mark 1) refl
+given_toward mark a b x y = go (eqb mark 1) refl
   where
-    go : (t : Bool) → eqb mark 1 ≡ t → _≡_ {A = Direction} (elim t [ true ↦ Toward a b | false ↦ Absent ]) (Toward x y) → (mark ≡ 1) × (a ≡ x) × (b ≡ y)
+    go : (t : Bool) → eqb mark 1 ≡ t → ◌≡◌ {A = Direction} (elim t [ true ↦ Toward a b | false ↦ Absent ]) (Toward x y) → (mark ≡ 1) × (a ≡ x) × (b ≡ y)
     go true e h = (eqb-true mark 1 e, cc, cc)
-    go false e h = absurd (not-toward h)
+    go false e h = absurd (not_toward h)
 
-module _ (by : Route) (i : LentEnds) (z : pairRefusalOf (aloneBy by) i ≡ 0) where
+module _ (by : Route) (i : LentEnds) (z : pair_refusal_of (alone_by by) i ≡ 0) where
   lent : List End
-  lent = ends 0 (i .present) (i .directions) (i .pieces)
+  lent = ends 0 i.present i.directions i.pieces
 
-  lent-twice : AtMostTwice (λ e. endAt lent e .piece) (length (i .pieces))
+  lent_twice : AtMostTwice (λ e. (end_at lent e).piece) (length i.pieces)
   unfolding lent
-  lent-twice x y v x<y y<v v<d e f =
-      at-most-twice (i .pieces) (admitted (aloneBy by) i z .twice) x y v x<y y<v v<d
+  lent_twice x y v x<y y<v v<d e f =
+      at_most_twice i.pieces (admitted (alone_by by) i z).twice x y v x<y y<v v<d
       (sym (piece x (omega arith)) ∙ e ∙ piece y (omega arith))
       (sym (piece y (omega arith)) ∙ f ∙ piece v (omega arith))
     where
-      piece : (e : ℕ) → e < length (i .pieces) → endAt (ends 0 (i .present) (i .directions) (i .pieces)) e .piece ≡ getD (i .pieces) e 0
-      piece e h = ap (λ (x : End). x .piece) (ends-at 0 (i .present) (i .directions) (i .pieces) e h)
+      piece : (e : ℕ) → e < length i.pieces → (end_at (ends 0 i.present i.directions i.pieces) e).piece ≡ get_or i.pieces e 0
+      piece e h = ap (λ (x : End). x.piece) (ends_at 0 i.present i.directions i.pieces e h)
 
-  lent-finite : aloneBy by ≡ true → Finite lent
+  lent_finite : alone_by by ≡ true → Finite lent
   unfolding lent
-  lent-finite here-alone e x y h = ⊎-elim here past (two (ltb e (length (i .pieces))))
+  lent_finite here-alone e x y h = ⊎_elim here past (two (ltb e (length i.pieces)))
     where
-      tame : anyWild (i .present) (i .directions) ≡ false
-      tame = ap (λ (t : Bool). t && anyWild (i .present) (i .directions)) (sym here-alone) ∙ admitted (aloneBy by) i z .tame
+      tame : any_wild i.present i.directions ≡ false
+      tame = ap (λ (t : Bool). t && any_wild i.present i.directions) (sym here-alone) ∙ (admitted (alone_by by) i z).tame
 
-      here : ltb e (length (i .pieces)) ≡ true → T (finite x) × T (finite y)
+      here : ltb e (length i.pieces) ≡ true → T (finite x) × T (finite y)
       here l =
-          let k = ltb-true e (length (i .pieces)) l in
-          let g = given-toward (getD (i .present) e 0) _ _ x y (ap (λ (x : End). x .direction) (sym (ends-at 0 (i .present) (i .directions) (i .pieces) e k)) ∙ h) in
-          let f = all-finite (i .present) (i .directions) tame e (omega (arith, k, admitted (aloneBy by) i z .marked)) (omega (arith, k, admitted (aloneBy by) i z .directed)) (g .0) in
-          (subst (λ (v : Float). T (finite v)) (g .1) (f .0), subst (λ (v : Float). T (finite v)) (g .2) (f .1))
+          let k = ltb-true e (length i.pieces) l in
+          let g = given_toward (get_or i.present e 0) _ _ x y (ap (λ (x : End). x.direction) (sym (ends_at 0 i.present i.directions i.pieces e k)) ∙ h) in
+          let f = all_finite i.present i.directions tame e (omega (arith, k, (admitted (alone_by by) i z).marked)) (omega (arith, k, (admitted (alone_by by) i z).directed)) g.0 in
+          (subst (λ (v : Float). T (finite v)) g.1 f.0, subst (λ (v : Float). T (finite v)) g.2 f.1)
 
-      past : ltb e (length (i .pieces)) ≡ false → T (finite x) × T (finite y)
+      past : ltb e (length i.pieces) ≡ false → T (finite x) × T (finite y)
       past l =
-          let o : endAt (ends 0 (i .present) (i .directions) (i .pieces)) e ≡ record { name = 0; piece = 0; direction = Absent } =
-          List·getD-eq-default (ends 0 (i .present) (i .directions) (i .pieces)) (record { name = 0; piece = 0; direction = Absent }) {n = e}
-          (omega (arith, ltb-false e (length (i .pieces)) l, ends-length 0 (i .present) (i .directions) (i .pieces))) in
-          absurd (not-toward (ap (λ (x : End). x .direction) (sym o) ∙ h))
+          let o : end_at (ends 0 i.present i.directions i.pieces) e ≡ record { name = 0; piece = 0; direction = Absent } =
+          get_or-eq_default (ends 0 i.present i.directions i.pieces) (record { name = 0; piece = 0; direction = Absent }) {n = e}
+          (omega (arith, ltb-false e (length i.pieces) l, ends_length 0 i.present i.directions i.pieces)) in
+          absurd (not_toward (ap (λ (x : End). x.direction) (sym o) ∙ h))
 
-  pub routed : {w : List ℕ} → Put w (i .workspace) (i .present) (i .directions) (i .pieces) → Routed by w (length (i .pieces)) (i .limit)
+  pub routed : {w : List ℕ} → Put w i.workspace i.present i.directions i.pieces → Routed by w (length i.pieces) i.limit
   unfolding lent
   routed p = record {
-    room = put-room (matched (aloneBy by) i z) p;
-    limited = admitted (aloneBy by) i z .limited;
-    twice = subst (λ (l : List End). AtMostTwice (λ e. endAt l e .piece) (length (i .pieces))) (sym (p .held)) lent-twice;
-    finite-ends = λ a. subst Finite (sym (p .held)) (lent-finite a);
+    room = put_room (matched (alone_by by) i z) p;
+    limited = (admitted (alone_by by) i z).limited;
+    twice = subst (λ (l : List End). AtMostTwice (λ e. (end_at l e).piece) (length i.pieces)) (sym p.held) lent_twice;
+    finite_ends = λ a. subst Finite (sym p.held) (lent_finite a);
   }

@@ -1,15 +1,17 @@
 // The public pairing calls. The three differ in their route alone, and the indexed one in a refusal of its own.
+#![tactic(auto)]
+
+ghost use Rattle.std.specs.Prelude.{◌≡◌, true, false};
+ghost use Rattle.float_order.specs.Key.{key};
+ghost use Rattle.pair_ends.specs.Ends.{Selected};
+ghost use Rattle.rules.specs.Calls.{Paired};
+ghost use Rattle.pair_calls.specs.Routed.{alone_by, Routed};
+
 use pair_ends::PAIRS;
-use rules::Answer;
-use rules::END_ROOM;
-ghost use mathlib.Core.Path.{_≡_};
-ghost use mathlib.Core.Bool.{true, false};
-ghost use Rattle·float_order.specs.Key.{key};
-ghost use Rattle·pair_ends.specs.Ends.{Selected};
-ghost use Rattle·rules.specs.Calls.{Paired};
-ghost use Rattle·pair_calls·specs.specs.Routed.{aloneBy, Routed};
+use rules::{Answer, END_ROOM};
 
 // The routes: every pair is looked at, or the index is asked, or whichever of the two fits.
+#[derive(Clone, Copy)]
 pub enum Route {
     Plain,
     Indexed,
@@ -18,7 +20,7 @@ pub enum Route {
 
 // Whether the index is asked whatever the directions are, so that a direction that is not finite is refused.
 fn is_alone(by: Route) -> bool
-    ensures { λ r. ⌜ r ≡ aloneBy by ⌝ }
+    ensures { result ≡ alone_by by }
 {
     match by {
         Route::Plain => false,
@@ -29,8 +31,8 @@ fn is_alone(by: Route) -> bool
 
 // The selected pairs of the ends in the workspace, by a route; how many.
 fn selected_by(by: Route, w: &mut [u64], d: usize, limit: f64) -> usize
-    requires { ⌜ Routed by (now w) d limit ⌝ }
-    ensures { λ r. ⌜ Selected (now (w .entry)) d (key limit) r (now (w .exit)) ⌝ }
+    requires { Routed by w.old d limit }
+    ensures { Selected w.old d (key limit) result w.new }
 {
     match by {
         Route::Plain => pair_plain::plain(w, d, limit),
@@ -49,14 +51,14 @@ fn pairs_by(
     pairs: &mut [u32],
     workspace: &mut [u64],
 ) -> Answer
-    ensures { λ r. ⌜ Paired (aloneBy by) (record {
-      present = now (present .entry);
-      directions = now (directions .entry);
-      pieces = now (pieces .entry);
+    ensures { Paired (alone_by by) (record {
+      present = present.entry.now;
+      directions = directions.now;
+      pieces = pieces.now;
       limit = limit;
-      pairs = now (pairs .entry);
-      workspace = now (workspace .entry);
-    }) r (now (pairs .exit)) (now (workspace .exit)) ⌝ }
+      pairs = pairs.old;
+      workspace = workspace.old;
+    }) result pairs.new workspace.new }
 {
     let refused = pair_refusals::pair_refusal(
         is_alone(by),
@@ -87,14 +89,14 @@ pub fn pairs_plain(
     pairs: &mut [u32],
     workspace: &mut [u64],
 ) -> Answer
-    ensures { λ r. ⌜ Paired false (record {
-      present = now (present .entry);
-      directions = now (directions .entry);
-      pieces = now (pieces .entry);
+    ensures { Paired false (record {
+      present = present.entry.now;
+      directions = directions.now;
+      pieces = pieces.now;
       limit = limit;
-      pairs = now (pairs .entry);
-      workspace = now (workspace .entry);
-    }) r (now (pairs .exit)) (now (workspace .exit)) ⌝ }
+      pairs = pairs.old;
+      workspace = workspace.old;
+    }) result pairs.new workspace.new }
 {
     pairs_by(
         Route::Plain,
@@ -116,14 +118,14 @@ pub fn pairs_indexed(
     pairs: &mut [u32],
     workspace: &mut [u64],
 ) -> Answer
-    ensures { λ r. ⌜ Paired true (record {
-      present = now (present .entry);
-      directions = now (directions .entry);
-      pieces = now (pieces .entry);
+    ensures { Paired true (record {
+      present = present.entry.now;
+      directions = directions.now;
+      pieces = pieces.now;
       limit = limit;
-      pairs = now (pairs .entry);
-      workspace = now (workspace .entry);
-    }) r (now (pairs .exit)) (now (workspace .exit)) ⌝ }
+      pairs = pairs.old;
+      workspace = workspace.old;
+    }) result pairs.new workspace.new }
 {
     pairs_by(
         Route::Indexed,
@@ -145,14 +147,14 @@ pub fn pairs_chosen(
     pairs: &mut [u32],
     workspace: &mut [u64],
 ) -> Answer
-    ensures { λ r. ⌜ Paired false (record {
-      present = now (present .entry);
-      directions = now (directions .entry);
-      pieces = now (pieces .entry);
+    ensures { Paired false (record {
+      present = present.entry.now;
+      directions = directions.now;
+      pieces = pieces.now;
       limit = limit;
-      pairs = now (pairs .entry);
-      workspace = now (workspace .entry);
-    }) r (now (pairs .exit)) (now (workspace .exit)) ⌝ }
+      pairs = pairs.old;
+      workspace = workspace.old;
+    }) result pairs.new workspace.new }
 {
     pairs_by(
         Route::Chosen,

@@ -1,40 +1,37 @@
 -- The workspace of a pairing of d ends, 64 words for each: d presence marks, two words for each end's direction, in bits, d piece numbers, and room for
 -- d words of pairs, two for each. The rest is the route's own.
-use Prim.Native.Nat.{ℕ, _+_, _*_, _≤_}
-use mathlib.Core.Path.{_≡_}
-use mathlib.Core.List.{List, map}
-use lib.ListN.{length, getD, take, drop}
-use lib.Seq.{slice}
-use Rattle·rules.specs.declared.Direction.{Direction}
-use Rattle·rules.specs.Plane.{float}
-use Rattle·rules.specs.Selecting.{End}
-use Rattle·rules.specs.Layout.{given, ends}
-use Rattle·rules.specs.Refusals.{mostEnds, endRoom}
-use Rattle·pair_laws.specs.Ranked.{select}
-use Rattle·pair_laws.specs.Taking.{listed}
-use Rattle·pair_laws.specs.Ends.{nodeOf}
-use Rattle·pair_ends·specs.specs.Blocks.{piecesFrom, pairsFrom}
+use Rattle.std.specs.Prelude.{ℕ, ◌+◌, ◌*◌, ◌≤◌, ◌≡◌, List, map, length, get_or, take, drop}
+use Rattle.std.proofs.Math.Seq.{slice}
+use Rattle.rules.specs.declared.Direction.{Direction}
+use Rattle.rules.specs.Plane.{float}
+use Rattle.rules.specs.Selecting.{End}
+use Rattle.rules.specs.Layout.{given, ends}
+use Rattle.rules.specs.Refusals.{most_ends, end_room}
+use Rattle.pair_laws.specs.Ranked.{select}
+use Rattle.pair_laws.specs.Taking.{listed}
+use Rattle.pair_laws.specs.Ends.{node_of}
+use Rattle.pair_ends.specs.Blocks.{pieces_from, pairs_from}
 
 pub record EndsRoom (w : List ℕ) (d : ℕ) : Type 0 where
-  pub few : d ≤ mostEnds
-  pub long : d * endRoom ≤ length w
+  pub few : d ≤ most_ends
+  pub long : d * end_room ≤ length w
 
-unfoldable pub directionAt : List ℕ → ℕ → ℕ → Direction
+unfoldable pub direction_at : List ℕ → ℕ → ℕ → Direction
 unfolding given
-directionAt w d e = given (getD w e 0) (float (getD w (d + e * 2) 0)) (float (getD w (d + e * 2 + 1) 0))
+direction_at w d e = given (get_or w e 0) (float (get_or w (d + e * 2) 0)) (float (get_or w (d + e * 2 + 1) 0))
 
-abbrev pub pieceAt : List ℕ → ℕ → ℕ → ℕ
-pieceAt w d e = getD w (d * piecesFrom + e) 0
+abbrev pub piece_at : List ℕ → ℕ → ℕ → ℕ
+piece_at w d e = get_or w (d * pieces_from + e) 0
 
 -- the ends that a workspace holds, read as those that a call lends
-unfoldable pub endsIn : List ℕ → ℕ → List End
+unfoldable pub ends_in : List ℕ → ℕ → List End
 unfolding ends
-endsIn w d = ends 0 (slice 0 d w) (map float (slice d (d * piecesFrom) w)) (slice (d * piecesFrom) (d * pairsFrom) w)
+ends_in w d = ends 0 (slice 0 d w) (map float (slice d (d * pieces_from) w)) (slice (d * pieces_from) (d * pairs_from) w)
 
 -- What a route leaves of a workspace w, under the key of a limit: r pairs are selected, and listed behind the piece numbers; the ends are as before,
 -- and so is what lies beyond the room.
-pub record Selected (w : List ℕ) (d limit r : ℕ) (w′ : List ℕ) : Type 0 where
-  pub count : r ≡ length (select (nodeOf (endsIn w d)) limit)
-  pub pairs : slice (d * pairsFrom) (d * pairsFrom + r * 2) w′ ≡ listed (select (nodeOf (endsIn w d)) limit)
-  pub kept : take (d * pairsFrom) w′ ≡ take (d * pairsFrom) w
-  pub beyond : drop (d * endRoom) w′ ≡ drop (d * endRoom) w
+pub record Selected (w : List ℕ) (d limit r : ℕ) (w' : List ℕ) : Type 0 where
+  pub count : r ≡ length (select (node_of (ends_in w d)) limit)
+  pub pairs : slice (d * pairs_from) (d * pairs_from + r * 2) w' ≡ listed (select (node_of (ends_in w d)) limit)
+  pub kept : take (d * pairs_from) w' ≡ take (d * pairs_from) w
+  pub beyond : drop (d * end_room) w' ≡ drop (d * end_room) w

@@ -1,9 +1,11 @@
 // The ends of a pairing, read from its workspace, and the map of that workspace.
+#![tactic(auto)]
+
+ghost use Rattle.std.specs.Prelude.{◌≡◌, ◌<◌};
+ghost use Rattle.pair_laws.specs.Ends.{key_of};
+ghost use Rattle.pair_ends.specs.Ends.{EndsRoom, direction_at, piece_at};
+
 use rules::Direction;
-ghost use mathlib.Core.Path.{_≡_};
-ghost use Prim.Native.Nat.{_<_};
-ghost use Rattle·pair_laws.specs.Ends.{keyOf};
-ghost use Rattle·pair_ends·specs.specs.Ends.{EndsRoom, directionAt, pieceAt};
 
 // Where each block of a workspace of d ends begins, counted in ends: block B begins at d * B. At the beginning stand the presence marks, a word for each end, and
 // from d on the directions, two words for each, in bits. Then the piece numbers, the pairs, and the marks, which are 0 for an end that is free.
@@ -47,8 +49,8 @@ const ABSENT: u64 = float_order::GREATEST;
 
 // The direction of end e.
 pub fn direction_at(w: &[u64], d: usize, e: usize) -> Direction
-    requires { ⌜ EndsRoom (now w) d × (e < d) ⌝ }
-    ensures { λ r. ⌜ r ≡ directionAt (now (w .entry)) d e ⌝ }
+    requires { EndsRoom w.now d × (e < d) }
+    ensures { result ≡ direction_at w.now d e }
 {
     if w[e] == 1 {
         return Direction::Toward(
@@ -61,15 +63,15 @@ pub fn direction_at(w: &[u64], d: usize, e: usize) -> Direction
 
 // The piece number of end e.
 pub fn piece_at(w: &[u64], d: usize, e: usize) -> u64
-    requires { ⌜ EndsRoom (now w) d × (e < d) ⌝ }
-    ensures { λ r. ⌜ r ≡ pieceAt (now (w .entry)) d e ⌝ }
+    requires { EndsRoom w.now d × (e < d) }
+    ensures { result ≡ piece_at w.now d e }
 {
     w[d * PIECES + e]
 }
 
 // The key of the measure of two directions; where one is absent the greatest key, which is above every limit's.
 pub fn pair_key(a: Direction, b: Direction) -> u64
-    ensures { λ r. ⌜ r ≡ keyOf a b ⌝ }
+    ensures { result ≡ key_of a b }
 {
     let Direction::Toward(ax, ay) = a else {
         return ABSENT;

@@ -1,29 +1,29 @@
 -- What a walk along a row relies on. A direction of two numbers stands in the workspace as two words that are no NaN's. The key of two directions is that of
 -- their measure. A dot product that is above a measure below 1 stays above it once it is clamped, and no measure is below -1.
-use mathlib.Core.Path.{_≡_, refl, sym, ap, _∙_, subst}
-use mathlib.Core.Bool.{Bool, true, false, not, _&&_, _||_, cond, or-true}
-use mathlib.Core.Logic.{_⊎_, inl, inr}
+use mathlib.Core.Path.{◌≡◌, refl, sym, ap, ◌∙◌, subst}
+use mathlib.Core.Bool.{Bool, true, false, not, ◌&&◌, ◌||◌, cond, or-true}
+use mathlib.Core.Logic.{◌⊎◌, inl, inr}
 use mathlib.Core.List.{List}
-use Prim.Native.Nat.{ℕ, _+_, _*_, _≤_, _<_}
+use Prim.Native.Nat.{ℕ, ◌+◌, ◌*◌, ◌≤◌, ◌<◌}
 use native.Mathlib.Omega.{arith}
 use lib.Dec.{T, eqb}
-use lib.Ieee.{Float, nan, inf, fin, binary64, add, mul, div, ofBits, lt, eq, le, isNan, fits, nanBits}
-use lib.Ieee.Bits.{nanBits-is}
-use lib.ListN.{getD}
-use borrow.Author.Tests.{eqb-true, leb-true, eq-eqb, ne-eqb}
-use Rattle·rules.specs.declared.Direction.{Direction}
-use Rattle·rules.specs.declared.Direction.the-variants.{Absent, Toward}
-use Rattle·rules.specs.Plane.{float, unity, minus-unity, clamp, dot, measure}
-use Rattle·rules.specs.Layout.{given}
-use Rattle·float_order.specs.Key.{key-nan, key}
-use Rattle·float_order.proofs.Order.{lt→le, trans, antisymm, bottom}
-use Rattle·float_order.proofs.Keys.{nan-or-num, key-le-is, key-most}
-use Rattle·float_order.proofs.Dot.{measure-fits, clamp-mono, clamp-num}
-use Rattle·pair_laws.specs.Ends.{keyOf}
-use Rattle·pair_laws.proofs.Order.{two, tf, and-left, and-right}
-use Rattle·pair_ends.specs.Ends.{directionAt}
-use Rattle·pair_first_of_end·specs.specs.Near.{numbered, dotOf, measureOf, reachesTo, closerTo}
-use Rattle·pair_first_of_end·specs.specs.declared.Near.{Near}
+use lib.Ieee.{Float, nan, inf, fin, binary64, add, mul, div, of_bits, lt, eq, le, is_nan, fits, nan_bits}
+use lib.Ieee.Bits.{nan_bits_is}
+use lib.ListN.{get_or}
+use borrow.Author.Tests.{eqb-true, leb-true, eq-eqb, ne_eqb}
+use Rattle.rules.specs.declared.Direction.{Direction}
+use Rattle.rules.specs.declared.Direction.TheVariants.{Absent, Toward}
+use Rattle.rules.specs.Plane.{float, unity, minus_unity, clamp, dot, measure}
+use Rattle.rules.specs.Layout.{given}
+use Rattle.float_order.specs.Key.{key_nan, key}
+use Rattle.float_order.proofs.Order.{lt_to_le, trans, antisymm, bottom}
+use Rattle.float_order.proofs.Keys.{nan_or_num, key_le_is, key_most}
+use Rattle.float_order.proofs.Dot.{measure_fits, clamp_mono, clamp_num}
+use Rattle.pair_laws.specs.Ends.{key_of}
+use Rattle.pair_laws.proofs.Order.{two, tf, and_left, and_right}
+use Rattle.pair_ends.specs.Ends.{direction_at}
+use Rattle.pair_first_of_end.specs.Near.{numbered, dot_of, measure_of, reaches_to, closer_to}
+use Rattle.pair_first_of_end.specs.declared.Near.{Near}
 
 -- a test as a fact, and a fact as a test
 pub holds : (b : Bool) → T b → b ≡ true
@@ -33,170 +33,170 @@ holds false h = absurd h
 pub held : {b : Bool} → b ≡ true → T b
 held e = subst T (sym e) tt
 
-three-true : (a b c : Bool) → (a && (b && c)) ≡ true → (a ≡ true) × (b ≡ true) × (c ≡ true)
-three-true a b c h = (and-left a (b && c) h, and-left b c (and-right a (b && c) h), and-right b c (and-right a (b && c) h))
+three_true : (a b c : Bool) → (a && (b && c)) ≡ true → (a ≡ true) × (b ≡ true) × (c ≡ true)
+three_true a b c h = (and_left a (b && c) h, and_left b c (and_right a (b && c) h), and_right b c (and_right a (b && c) h))
 
 -- ---- directions of two numbers
 
-given-numbered : (mark : ℕ) (x y : Float) → numbered (given mark x y) ≡ (eqb mark 1 && (not (isNan x) && not (isNan y)))
+given_numbered : (mark : ℕ) (x y : Float) → numbered (given mark x y) ≡ (eqb mark 1 && (not (is_nan x) && not (is_nan y)))
 unfolding given numbered
-given-numbered mark x y = go (eqb mark 1)
+given_numbered mark x y = go (eqb mark 1)
   where
-    go : (t : Bool) → numbered (elim t [ true ↦ Toward x y | false ↦ Absent ]) ≡ (t && (not (isNan x) && not (isNan y)))
+    go : (t : Bool) → numbered (elim t [ true ↦ Toward x y | false ↦ Absent ]) ≡ (t && (not (is_nan x) && not (is_nan y)))
     go true = refl
     go false = refl
 
 module _ (w : List ℕ) (d e : ℕ) where
-  pub numbered-is : numbered (directionAt w d e)
-      ≡ (eqb (getD w e 0) 1 && (not (isNan (float (getD w (d + e * 2) 0))) && not (isNan (float (getD w (d + e * 2 + 1) 0)))))
-  unfolding directionAt
-  numbered-is = given-numbered (getD w e 0) (float (getD w (d + e * 2) 0)) (float (getD w (d + e * 2 + 1) 0))
+  pub numbered_is : numbered (direction_at w d e)
+      ≡ (eqb (get_or w e 0) 1 && (not (is_nan (float (get_or w (d + e * 2) 0))) && not (is_nan (float (get_or w (d + e * 2 + 1) 0)))))
+  unfolding direction_at
+  numbered_is = given_numbered (get_or w e 0) (float (get_or w (d + e * 2) 0)) (float (get_or w (d + e * 2 + 1) 0))
 
-  module _ (h : numbered (directionAt w d e) ≡ true) where
-    parts : (eqb (getD w e 0) 1 ≡ true) × (not (isNan (float (getD w (d + e * 2) 0))) ≡ true) × (not (isNan (float (getD w (d + e * 2 + 1) 0))) ≡ true)
-    parts = three-true (eqb (getD w e 0) 1) (not (isNan (float (getD w (d + e * 2) 0)))) (not (isNan (float (getD w (d + e * 2 + 1) 0)))) (sym numbered-is ∙ h)
+  module _ (h : numbered (direction_at w d e) ≡ true) where
+    parts : (eqb (get_or w e 0) 1 ≡ true) × (not (is_nan (float (get_or w (d + e * 2) 0))) ≡ true) × (not (is_nan (float (get_or w (d + e * 2 + 1) 0))) ≡ true)
+    parts = three_true (eqb (get_or w e 0) 1) (not (is_nan (float (get_or w (d + e * 2) 0)))) (not (is_nan (float (get_or w (d + e * 2 + 1) 0)))) (sym numbered_is ∙ h)
 
-    pub numbered-mark : getD w e 0 ≡ 1
-    numbered-mark = eqb-true (getD w e 0) 1 (parts .0)
+    pub numbered_mark : get_or w e 0 ≡ 1
+    numbered_mark = eqb-true (get_or w e 0) 1 parts.0
 
-    pub numbered-x : T (not (nanBits binary64 (getD w (d + e * 2) 0)))
-    numbered-x = held (ap not (nanBits-is binary64 (getD w (d + e * 2) 0)) ∙ parts .1)
+    pub numbered_x : T (not (nan_bits binary64 (get_or w (d + e * 2) 0)))
+    numbered_x = held (ap not (nan_bits_is binary64 (get_or w (d + e * 2) 0)) ∙ parts.1)
 
-    pub numbered-y : T (not (nanBits binary64 (getD w (d + e * 2 + 1) 0)))
-    numbered-y = held (ap not (nanBits-is binary64 (getD w (d + e * 2 + 1) 0)) ∙ parts .2)
+    pub numbered_y : T (not (nan_bits binary64 (get_or w (d + e * 2 + 1) 0)))
+    numbered_y = held (ap not (nan_bits_is binary64 (get_or w (d + e * 2 + 1) 0)) ∙ parts.2)
 
 -- ---- measures
 
-nan-key : key nan ≡ key-nan
-unfolding key isNan
-nan-key = refl
+nan_key : key nan ≡ key_nan
+unfolding key is_nan
+nan_key = refl
 
-pub measure-of-fits : (a b : Direction) → T (fits binary64 (measureOf a b))
-unfolding measureOf measure fits lt
-measure-of-fits Absent b = tt
-measure-of-fits (Toward ax ay) Absent = tt
-measure-of-fits (Toward ax ay) (Toward bx by) = measure-fits ax ay bx by
+pub measure_of_fits : (a b : Direction) → T (fits binary64 (measure_of a b))
+unfolding measure_of measure fits lt
+measure_of_fits Absent b = tt
+measure_of_fits (Toward ax ay) Absent = tt
+measure_of_fits (Toward ax ay) (Toward bx by) = measure_fits ax ay bx by
 
-pub key-of-measure : (a b : Direction) → keyOf a b ≡ key (measureOf a b)
-unfolding keyOf measureOf measure isNan lt
-key-of-measure Absent b = refl
-key-of-measure (Toward ax ay) Absent = refl
-key-of-measure (Toward ax ay) (Toward bx by) = refl
+pub key_of_measure : (a b : Direction) → key_of a b ≡ key (measure_of a b)
+unfolding key_of measure_of measure is_nan lt
+key_of_measure Absent b = refl
+key_of_measure (Toward ax ay) Absent = refl
+key_of_measure (Toward ax ay) (Toward bx by) = refl
 
-pub zero-by-zero : div binary64 (ofBits binary64 0) (ofBits binary64 0) ≡ nan
-unfolding div ofBits
-zero-by-zero = refl
+pub zero_by_zero : div binary64 (of_bits binary64 0) (of_bits binary64 0) ≡ nan
+unfolding div of_bits
+zero_by_zero = refl
 
-pub nan-measure : (b : Direction) → nan ≡ measureOf Absent b
-unfolding measureOf lt
-nan-measure b = refl
+pub nan_measure : (b : Direction) → nan ≡ measure_of Absent b
+unfolding measure_of lt
+nan_measure b = refl
 
-pub nan-measure-too : (ax ay : Float) → nan ≡ measureOf (Toward ax ay) Absent
-unfolding measureOf lt
-nan-measure-too ax ay = refl
+pub nan_measure_too : (ax ay : Float) → nan ≡ measure_of (Toward ax ay) Absent
+unfolding measure_of lt
+nan_measure_too ax ay = refl
 
-pub measure-toward : (ax ay bx by : Float) → measure ax ay bx by ≡ measureOf (Toward ax ay) (Toward bx by)
-unfolding measure measureOf
-measure-toward ax ay bx by = refl
+pub measure_toward : (ax ay bx by : Float) → measure ax ay bx by ≡ measure_of (Toward ax ay) (Toward bx by)
+unfolding measure measure_of
+measure_toward ax ay bx by = refl
 
-not-below : (x y : Float) → le x y ≡ false → lt x y ≡ false
-not-below x y h = go (two (lt x y))
+not_below : (x y : Float) → le x y ≡ false → lt x y ≡ false
+not_below x y h = go (two (lt x y))
   where
     go : (lt x y ≡ true) ⊎ (lt x y ≡ false) → lt x y ≡ false
-    go (inl e) = absurd (tf (holds (le x y) (lt→le x y (held e))) h)
+    go (inl e) = absurd (tf (holds (le x y) (lt_to_le x y (held e))) h)
     go (inr e) = e
 
 -- where a measure isn't above 1, what is at or below it once it is clamped reaches it
-pub reach : (s m : Float) → T (le m unity) → le (clamp s) m ≡ true → reachesTo s m ≡ true
-unfolding clamp reachesTo
-reach s m top h = go (lt s minus-unity) (lt unity s) refl refl h
+pub reach : (s m : Float) → T (le m unity) → le (clamp s) m ≡ true → reaches_to s m ≡ true
+unfolding clamp reaches_to
+reach s m top h = go (lt s minus_unity) (lt unity s) refl refl h
   where
-    by-left : le s m ≡ true → (le s m || eq m unity) ≡ true
-    by-left e = rw e
+    by_left : le s m ≡ true → (le s m || eq m unity) ≡ true
+    by_left e = rw e
 
-    by-right : eq m unity ≡ true → (le s m || eq m unity) ≡ true
-    by-right e = rw e (or-true (le s m))
+    by_right : eq m unity ≡ true → (le s m || eq m unity) ≡ true
+    by_right e = rw e (or-true (le s m))
 
-    go : (p q : Bool) → lt s minus-unity ≡ p → lt unity s ≡ q → le (cond p minus-unity (cond q unity s)) m ≡ true → (le s m || eq m unity) ≡ true
-    go true q e f h = by-left (holds (le s m) (trans s minus-unity m (lt→le s minus-unity (held e)) (held h)))
-    go false true e f h = by-right (holds (eq m unity) (antisymm m unity top (held h)))
-    go false false e f h = by-left h
+    go : (p q : Bool) → lt s minus_unity ≡ p → lt unity s ≡ q → le (cond p minus_unity (cond q unity s)) m ≡ true → (le s m || eq m unity) ≡ true
+    go true q e f h = by_left (holds (le s m) (trans s minus_unity m (lt_to_le s minus_unity (held e)) (held h)))
+    go false true e f h = by_right (holds (eq m unity) (antisymm m unity top (held h)))
+    go false false e f h = by_left h
 
 -- the answers of a test for a nearer direction
 module _ (near : Near) (a b : Direction) where
-  pub out-of-reach : T (le (near .measure) unity) → reachesTo (dotOf a b) (near .measure) ≡ false → false ≡ closerTo near (measureOf a b)
-  unfolding closerTo measureOf
-  out-of-reach top h = go (eqb (near .partner) 0) (two (le (measureOf a b) (near .measure)))
+  pub out_of_reach : T (le near.measure unity) → reaches_to (dot_of a b) near.measure ≡ false → false ≡ closer_to near (measure_of a b)
+  unfolding closer_to measure_of
+  out_of_reach top h = go (eqb near.partner 0) (two (le (measure_of a b) near.measure))
     where
-      go : (t : Bool) → (le (measureOf a b) (near .measure) ≡ true) ⊎ (le (measureOf a b) (near .measure) ≡ false)
-          → false ≡ cond t (le (measureOf a b) (near .measure)) (lt (measureOf a b) (near .measure))
-      go t (inl e) = absurd (tf (reach (dotOf a b) (near .measure) top e) h)
+      go : (t : Bool) → (le (measure_of a b) near.measure ≡ true) ⊎ (le (measure_of a b) near.measure ≡ false)
+          → false ≡ cond t (le (measure_of a b) near.measure) (lt (measure_of a b) near.measure)
+      go t (inl e) = absurd (tf (reach (dot_of a b) near.measure top e) h)
       go true (inr e) = sym e
-      go false (inr e) = sym (not-below (measureOf a b) (near .measure) e)
+      go false (inr e) = sym (not_below (measure_of a b) near.measure e)
 
 module _ (near : Near) (m : Float) where
-  pub closer-first : near .partner ≡ 0 → le m (near .measure) ≡ closerTo near m
-  unfolding closerTo
-  closer-first e = rw (eq-eqb (near .partner) 0 e)
+  pub closer_first : near.partner ≡ 0 → le m near.measure ≡ closer_to near m
+  unfolding closer_to
+  closer_first e = rw (eq-eqb near.partner 0 e)
 
-  pub closer-next : (near .partner ≡ 0 → ⊥) → lt m (near .measure) ≡ closerTo near m
-  unfolding closerTo
-  closer-next e = rw (ne-eqb (near .partner) 0 e)
+  pub closer_next : (near.partner ≡ 0 → ⊥) → lt m near.measure ≡ closer_to near m
+  unfolding closer_to
+  closer_next e = rw (ne_eqb near.partner 0 e)
 
 -- no measure is below -1
-pub least-measure : (m : Float) → T (fits binary64 m) → le m minus-unity ≡ true → (a b : Direction) → key m ≤ key (measureOf a b)
-unfolding measureOf lt
-least-measure m f h a b = go (nan-or-num (measureOf a b))
+pub least_measure : (m : Float) → T (fits binary64 m) → le m minus_unity ≡ true → (a b : Direction) → key m ≤ key (measure_of a b)
+unfolding measure_of lt
+least_measure m f h a b = go (nan_or_num (measure_of a b))
   where
-    low : T (not (isNan (measureOf a b))) → T (le minus-unity (measureOf a b))
-    low n = clamp-mono (inf true) (dotOf a b) (bottom (dotOf a b) (clamp-num (dotOf a b) n))
+    low : T (not (is_nan (measure_of a b))) → T (le minus_unity (measure_of a b))
+    low n = clamp_mono (inf true) (dot_of a b) (bottom (dot_of a b) (clamp_num (dot_of a b) n))
 
-    go : (measureOf a b ≡ nan) ⊎ T (not (isNan (measureOf a b))) → key m ≤ key (measureOf a b)
-    go (inl e) = rw (e, nan-key) (key-most m f)
+    go : (measure_of a b ≡ nan) ⊎ T (not (is_nan (measure_of a b))) → key m ≤ key (measure_of a b)
+    go (inl e) = rw (e, nan_key) (key_most m f)
     go (inr n) =
-        leb-true (key m) (key (measureOf a b))
-        (sym (key-le-is m (measureOf a b) f (measure-of-fits a b) n) ∙ holds (le m (measureOf a b)) (trans m minus-unity (measureOf a b) (held h) (low n)))
+        leb-true (key m) (key (measure_of a b))
+        (sym (key_le_is m (measure_of a b) f (measure_of_fits a b) n) ∙ holds (le m (measure_of a b)) (trans m minus_unity (measure_of a b) (held h) (low n)))
 
 -- ---- a NaN spoils a measure, so that a pair with a key below a NaN's is of two directions of two numbers
 
-add-numbers : (x y : Float) → T (not (isNan (add binary64 x y))) → T (not (isNan x)) × T (not (isNan y))
-unfolding add isNan
-add-numbers nan y h = absurd h
-add-numbers (inf s) nan h = absurd h
-add-numbers (inf s) (inf t) h = (tt, tt)
-add-numbers (inf s) (fin t n f) h = (tt, tt)
-add-numbers (fin s m e) nan h = absurd h
-add-numbers (fin s m e) (inf t) h = (tt, tt)
-add-numbers (fin s m e) (fin t n f) h = (tt, tt)
+add_numbers : (x y : Float) → T (not (is_nan (add binary64 x y))) → T (not (is_nan x)) × T (not (is_nan y))
+unfolding add is_nan
+add_numbers nan y h = absurd h
+add_numbers (inf s) nan h = absurd h
+add_numbers (inf s) (inf t) h = (tt, tt)
+add_numbers (inf s) (fin t n f) h = (tt, tt)
+add_numbers (fin s m e) nan h = absurd h
+add_numbers (fin s m e) (inf t) h = (tt, tt)
+add_numbers (fin s m e) (fin t n f) h = (tt, tt)
 
-mul-numbers : (x y : Float) → T (not (isNan (mul binary64 x y))) → T (not (isNan x)) × T (not (isNan y))
-unfolding mul isNan
-mul-numbers nan y h = absurd h
-mul-numbers (inf s) nan h = absurd h
-mul-numbers (inf s) (inf t) h = (tt, tt)
-mul-numbers (inf s) (fin t n f) h = (tt, tt)
-mul-numbers (fin s m e) nan h = absurd h
-mul-numbers (fin s m e) (inf t) h = (tt, tt)
-mul-numbers (fin s m e) (fin t n f) h = (tt, tt)
+mul_numbers : (x y : Float) → T (not (is_nan (mul binary64 x y))) → T (not (is_nan x)) × T (not (is_nan y))
+unfolding mul is_nan
+mul_numbers nan y h = absurd h
+mul_numbers (inf s) nan h = absurd h
+mul_numbers (inf s) (inf t) h = (tt, tt)
+mul_numbers (inf s) (fin t n f) h = (tt, tt)
+mul_numbers (fin s m e) nan h = absurd h
+mul_numbers (fin s m e) (inf t) h = (tt, tt)
+mul_numbers (fin s m e) (fin t n f) h = (tt, tt)
 
-number-of : (x : Float) → key x < key-nan → T (not (isNan x))
-number-of x h = go (nan-or-num x)
+number_of : (x : Float) → key x < key_nan → T (not (is_nan x))
+number_of x h = go (nan_or_num x)
   where
-    go : (x ≡ nan) ⊎ T (not (isNan x)) → T (not (isNan x))
-    go (inl e) = absurd (omega (arith, ap key e ∙ nan-key))
+    go : (x ≡ nan) ⊎ T (not (is_nan x)) → T (not (is_nan x))
+    go (inl e) = absurd (omega (arith, ap key e ∙ nan_key))
     go (inr n) = n
 
-both-true : (a b : Bool) → T a → T b → (a && b) ≡ true
-both-true true true h k = refl
-both-true true false h k = absurd k
-both-true false b h k = absurd h
+both_true : (a b : Bool) → T a → T b → (a && b) ≡ true
+both_true true true h k = refl
+both_true true false h k = absurd k
+both_true false b h k = absurd h
 
-pub low-numbered : (a b : Direction) → keyOf a b < key-nan → (numbered a ≡ true) × (numbered b ≡ true)
-unfolding keyOf numbered measure dot
-low-numbered Absent b h = absurd (omega arith)
-low-numbered (Toward ax ay) Absent h = absurd (omega arith)
-low-numbered (Toward ax ay) (Toward bx by) h =
-    let s = add-numbers (mul binary64 ax bx) (mul binary64 ay by) (clamp-num (dot ax ay bx by) (number-of (measure ax ay bx by) h)) in
-    let x = mul-numbers ax bx (s .0) in
-    let y = mul-numbers ay by (s .1) in
-    (both-true (not (isNan ax)) (not (isNan ay)) (x .0) (y .0), both-true (not (isNan bx)) (not (isNan by)) (x .1) (y .1))
+pub low_numbered : (a b : Direction) → key_of a b < key_nan → (numbered a ≡ true) × (numbered b ≡ true)
+unfolding key_of numbered measure dot
+low_numbered Absent b h = absurd (omega arith)
+low_numbered (Toward ax ay) Absent h = absurd (omega arith)
+low_numbered (Toward ax ay) (Toward bx by) h =
+    let s = add_numbers (mul binary64 ax bx) (mul binary64 ay by) (clamp_num (dot ax ay bx by) (number_of (measure ax ay bx by) h)) in
+    let x = mul_numbers ax bx s.0 in
+    let y = mul_numbers ay by s.1 in
+    (both_true (not (is_nan ax)) (not (is_nan ay)) x.0 y.0, both_true (not (is_nan bx)) (not (is_nan by)) x.1 y.1)

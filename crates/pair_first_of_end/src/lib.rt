@@ -1,23 +1,25 @@
 // The first free pair of a row of a pairing: row i is the pairs (i, j) with j above i.
+#![tactic(auto)]
+
+ghost use Rattle.std.specs.Prelude.{◌≡◌, true, ◌<◌, T};
+ghost use Rattle.std.specs.Float.Ieee.{le};
+ghost use Rattle.rules.specs.Plane.{unity};
+ghost use Rattle.pair_ends.specs.Ends.{EndsRoom, direction_at};
+ghost use Rattle.pair_first_of_end.specs.Near.{numbered, dot_of, measure_of, reaches_to, closer_to};
+ghost use Rattle.pair_first_of_end.specs.Row.{held_of, RowReady, First};
+
 use pair_ends::MARKS;
 use rules::Direction;
-ghost use mathlib.Core.Path.{_≡_};
-ghost use mathlib.Core.Bool.{true};
-ghost use Prim.Native.Nat.{_<_};
-ghost use lib.Dec.{T};
-ghost use lib.Ieee.{le};
-ghost use Rattle·rules.specs.Plane.{unity};
-ghost use Rattle·pair_ends.specs.Ends.{EndsRoom, directionAt};
-ghost use Rattle·pair_first_of_end·specs.specs.Near.{numbered, dotOf, measureOf, reachesTo, closerTo};
-ghost use Rattle·pair_first_of_end·specs.specs.Row.{heldOf, RowReady, First};
 
 // The least measure seen in a row, and the partner; the limit and 0 where there is none yet.
+#[derive(Clone, Copy)]
 pub struct Near {
     pub measure: f64,
     pub partner: usize,
 }
 
 // What a row holds: the key and the partner of a pair; where it holds none, the greatest key and 0.
+#[derive(Clone, Copy)]
 pub struct Held {
     pub key: u64,
     pub partner: usize,
@@ -25,8 +27,8 @@ pub struct Held {
 
 // Whether end e has a direction of two numbers, so that its pairs may qualify.
 pub fn is_numbered(w: &[u64], d: usize, e: usize) -> bool
-    requires { ⌜ EndsRoom (now w) d × (e < d) ⌝ }
-    ensures { λ r. ⌜ r ≡ numbered (directionAt (now (w .entry)) d e) ⌝ }
+    requires { EndsRoom w.now d × (e < d) }
+    ensures { result ≡ numbered (direction_at w.now d e) }
 {
     if w[e] != 1 {
         return false;
@@ -39,9 +41,9 @@ pub fn is_numbered(w: &[u64], d: usize, e: usize) -> bool
 
 // The direction of an end that has one of two numbers.
 fn toward(w: &[u64], d: usize, e: usize) -> Direction
-    requires { ⌜ EndsRoom (now w) d × (e < d) ⌝ }
-    requires { ⌜ numbered (directionAt (now w) d e) ≡ true ⌝ }
-    ensures { λ r. ⌜ r ≡ directionAt (now (w .entry)) d e ⌝ }
+    requires ends_room { EndsRoom w.now d × (e < d) }
+    requires e_value { numbered (direction_at w.now d e) ≡ true }
+    ensures { result ≡ direction_at w.now d e }
 {
     Direction::Toward(
         f64::from_bits(w[d + e * 2]),
@@ -51,7 +53,7 @@ fn toward(w: &[u64], d: usize, e: usize) -> Direction
 
 // The dot product of two directions, not clamped.
 fn dot(a: Direction, b: Direction) -> f64
-    ensures { λ r. ⌜ r ≡ dotOf a b ⌝ }
+    ensures { result ≡ dot_of a b }
 {
     let Direction::Toward(ax, ay) = a else {
         return 0.0 / 0.0;
@@ -64,7 +66,7 @@ fn dot(a: Direction, b: Direction) -> f64
 
 // The measure of two directions.
 fn measure(a: Direction, b: Direction) -> f64
-    ensures { λ r. ⌜ r ≡ measureOf a b ⌝ }
+    ensures { result ≡ measure_of a b }
 {
     let Direction::Toward(ax, ay) = a else {
         return 0.0 / 0.0;
@@ -77,7 +79,7 @@ fn measure(a: Direction, b: Direction) -> f64
 
 // Whether a dot product may be at or below a measure once it is clamped.
 fn reaches(dot: f64, measure: f64) -> bool
-    ensures { λ r. ⌜ r ≡ reachesTo dot measure ⌝ }
+    ensures { result ≡ reaches_to dot measure }
 {
     if dot <= measure {
         return true;
@@ -87,8 +89,8 @@ fn reaches(dot: f64, measure: f64) -> bool
 
 // Whether the measure of a and b is at or below the limit, where there is no partner yet, and below the least seen, where there is one.
 fn closer(near: Near, a: Direction, b: Direction) -> bool
-    requires { ⌜ T (le (near .measure) unity) ⌝ }
-    ensures { λ r. ⌜ r ≡ closerTo near (measureOf a b) ⌝ }
+    requires { T (le near.measure unity) }
+    ensures { result ≡ closer_to near (measure_of a b) }
 {
     let least = near.measure;
     if !reaches(dot(a, b), least) {
@@ -102,7 +104,7 @@ fn closer(near: Near, a: Direction, b: Direction) -> bool
 
 // The pair of a row as it is held.
 fn hold(near: Near) -> Held
-    ensures { λ r. ⌜ r ≡ heldOf near ⌝ }
+    ensures { result ≡ held_of near }
 {
     if near.partner == 0 {
         return Held {
@@ -118,8 +120,8 @@ fn hold(near: Near) -> Held
 
 // The first free qualifying pair of row i, if there is one.
 pub fn first_of(w: &[u64], d: usize, limit: f64, i: usize) -> Held
-    requires { ⌜ RowReady (now w) d limit i ⌝ }
-    ensures { λ r. ⌜ First (now (w .entry)) d limit i r ⌝ }
+    requires { RowReady w.now d limit i }
+    ensures { First w.now d limit i result }
 {
     let mut near = Near {
         measure: limit,

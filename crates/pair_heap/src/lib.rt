@@ -1,16 +1,18 @@
 // The heap of candidates: a tree in a row of nodes, two words for each from `h` on, with a leaf for each slot, and each node the lesser of its children.
+#![tactic(auto)]
+
+ghost use Rattle.std.specs.Prelude.{◌≡◌, ◌+◌, ◌*◌, ◌<◌, length, get_or};
+ghost use Rattle.rules.specs.Refusals.{most_ends};
+ghost use Rattle.pair_tree.specs.Places.{worth};
+ghost use Rattle.pair_index.specs.Index.{pair_of};
+ghost use Rattle.pair_heap.specs.Heap.{node_at, HeapPut, Renews, HeapRoom, HeapJoined, HeapWhole, Sets, coded as coded_of, Decoded};
+
 use pair_bounds::GONE;
 use pair_index::Best;
 use pair_tree::Place;
-ghost use mathlib.Core.Path.{_≡_};
-ghost use Prim.Native.Nat.{_+_, _*_, _<_};
-ghost use lib.ListN.{length, getD};
-ghost use Rattle·rules.specs.Refusals.{mostEnds};
-ghost use Rattle·pair_tree.specs.Places.{worth};
-ghost use Rattle·pair_index.specs.Index.{pairOf};
-ghost use Rattle·pair_heap·specs.specs.Heap.{node-at, HeapPut, Renews, HeapRoom, HeapJoined, HeapWhole, Sets, coded as coded-of, Decoded};
 
 // A candidate and its owner; none where j is 0.
+#[derive(Clone, Copy)]
 pub struct Entry {
     pub i: usize,
     pub j: usize,
@@ -18,8 +20,8 @@ pub struct Entry {
 }
 
 fn node(w: &[u64], h: usize, n: usize) -> Place
-    requires { ⌜ h + 2 * n + 1 < length (now w) ⌝ }
-    ensures { λ r. ⌜ worth r ≡ node-at (now (w .entry)) h n ⌝ }
+    requires { h + 2 * n + 1 < length w.now }
+    ensures { worth result ≡ node_at w.now h n }
 {
     let k = h + 2 * n;
     Place {
@@ -30,8 +32,8 @@ fn node(w: &[u64], h: usize, n: usize) -> Place
 
 // Node n becomes v.
 pub fn put(w: &mut [u64], h: usize, n: usize, v: Place)
-    requires { ⌜ h + 2 * n + 1 < length (now w) ⌝ }
-    ensures { λ r. ⌜ HeapPut (now (w .entry)) (now (w .exit)) h n (worth v) ⌝ }
+    requires { h + 2 * n + 1 < length w.old }
+    ensures { HeapPut w.old w.new h n (worth v) }
 {
     let k = h + 2 * n;
     w[k] = v.key;
@@ -40,8 +42,8 @@ pub fn put(w: &mut [u64], h: usize, n: usize, v: Place)
 
 // Node n becomes the lesser of its children.
 fn renew(w: &mut [u64], h: usize, n: usize)
-    requires { ⌜ h + 4 * n + 3 < length (now w) ⌝ }
-    ensures { λ r. ⌜ Renews (now (w .entry)) (now (w .exit)) h n ⌝ }
+    requires { h + 4 * n + 3 < length w.old }
+    ensures { Renews w.old w.new h n }
 {
     let a = node(w, h, 2 * n);
     let b = node(w, h, 2 * n + 1);
@@ -50,8 +52,8 @@ fn renew(w: &mut [u64], h: usize, n: usize)
 
 // Every node above the leaves is made of its children.
 pub fn join(w: &mut [u64], h: usize, base: usize)
-    requires { ⌜ HeapRoom (now w) h base ⌝ }
-    ensures { λ r. ⌜ HeapJoined (now (w .entry)) (now (w .exit)) h base ⌝ }
+    requires { HeapRoom w.old h base }
+    ensures { HeapJoined w.old w.new h base }
 {
     let mut n = base;
     while 1 < n {
@@ -62,8 +64,8 @@ pub fn join(w: &mut [u64], h: usize, base: usize)
 
 // The slot s has v: its leaf is v, and each node above it is made anew.
 pub fn set(w: &mut [u64], h: usize, base: usize, s: usize, v: Place)
-    requires { ⌜ HeapWhole (now w) h base s ⌝ }
-    ensures { λ r. ⌜ Sets (now (w .entry)) (now (w .exit)) h base s (worth v) ⌝ }
+    requires { HeapWhole w.old h base s }
+    ensures { Sets w.old w.new h base s (worth v) }
 {
     put(w, h, base + s, v);
     let mut q = (base + s) / 2;
@@ -75,8 +77,8 @@ pub fn set(w: &mut [u64], h: usize, base: usize, s: usize, v: Place)
 
 // The pair b, which o owns, as a place: pairs are in order as their places are.
 pub fn coded(o: usize, b: Best) -> Place
-    requires { ⌜ (b .i < mostEnds) × (b .j < mostEnds) ⌝ }
-    ensures { λ r. ⌜ worth r ≡ coded-of o (pairOf b) ⌝ }
+    requires { (b.i < most_ends) × (b.j < most_ends) }
+    ensures { worth result ≡ coded_of o (pair_of b) }
 {
     let i = b.i;
     let j = b.j;
@@ -98,8 +100,8 @@ pub fn coded(o: usize, b: Best) -> Place
 
 // The first candidate.
 pub fn first(w: &[u64], h: usize) -> Entry
-    requires { ⌜ h + 3 < length (now w) ⌝ }
-    ensures { λ r. ⌜ Decoded (getD (now (w .entry)) (h + 3) 0) r ⌝ }
+    requires { h + 3 < length w.now }
+    ensures { Decoded (get_or w.now (h + 3) 0) result }
 {
     let code = w[h + 3];
     if code == GONE {

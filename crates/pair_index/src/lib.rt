@@ -1,21 +1,22 @@
 // The index of the free ends: a tree of bounds in a row of nodes, five words for each from `t` on, and the search for an end's partner.
-use pair_bounds::Bounds;
-use pair_bounds::GONE;
+#![tactic(auto)]
+
+ghost use Rattle.std.specs.Prelude.{◌≡◌, ◌+◌, ◌*◌, ◌<◌, length};
+ghost use Rattle.pair_bounds.specs.Box.{Sound};
+ghost use Rattle.pair_tree.specs.Places.{worth, gone};
+ghost use Rattle.pair_ends.specs.Blocks.{note_from};
+ghost use Rattle.pair_ends.specs.Ends.{EndsRoom, direction_at, piece_at};
+ghost use Rattle.pair_index.specs.Nodes.{node_at, Has, Children, IndexPut, Renews, Leaves, IndexJoined, IndexWhole, Removes};
+ghost use Rattle.pair_index.specs.Search.{pointed, settled_at, bound_of, round_at, pair_at, Searchable, IsBound, Finds};
+ghost use Rattle.pair_index.specs.Index.{Query, Answers};
+
+use pair_bounds::{Bounds, GONE};
 use pair_ends::NOTE;
 use pair_tree::Place;
 use rules::Direction;
-ghost use mathlib.Core.Path.{_≡_};
-ghost use Prim.Native.Nat.{_+_, _*_, _<_};
-ghost use lib.ListN.{length};
-ghost use Rattle·pair_bounds.specs.Box.{Sound};
-ghost use Rattle·pair_tree.specs.Places.{worth, gone};
-ghost use Rattle·pair_ends.specs.Blocks.{noteFrom};
-ghost use Rattle·pair_ends.specs.Ends.{EndsRoom, directionAt, pieceAt};
-ghost use Rattle·pair_index·specs.specs.Nodes.{node-at, Has, Children, IndexPut, Renews, Leaves, IndexJoined, IndexWhole, Removes};
-ghost use Rattle·pair_index·specs.specs.Search.{pointed, settled-at, bound-of, round-at, pair-at, Searchable, IsBound, Finds};
-ghost use Rattle·pair_index·specs.specs.Index.{Query, Answers};
 
 // A pair of ends with its key; none where j is 0.
+#[derive(Clone, Copy)]
 pub struct Best {
     pub key: u64,
     pub i: usize,
@@ -24,8 +25,8 @@ pub struct Best {
 
 // Node n's bounds.
 fn node(w: &[u64], t: usize, n: usize) -> Bounds
-    requires { ⌜ Has (now w) t n ⌝ }
-    ensures { λ r. ⌜ r ≡ node-at (now (w .entry)) t n ⌝ }
+    requires { Has w.now t n }
+    ensures { result ≡ node_at w.now t n }
 {
     let k = t + 5 * n;
     Bounds {
@@ -39,8 +40,8 @@ fn node(w: &[u64], t: usize, n: usize) -> Bounds
 
 // Node n becomes b.
 pub fn put(w: &mut [u64], t: usize, n: usize, b: Bounds)
-    requires { ⌜ (t + 5 * n + 4 < length (now w)) × Sound b ⌝ }
-    ensures { λ r. ⌜ IndexPut (now (w .entry)) (now (w .exit)) t n b ⌝ }
+    requires { (t + 5 * n + 4 < length w.old) × Sound b }
+    ensures { IndexPut w.old w.new t n b }
 {
     let k = t + 5 * n;
     w[k] = f64::to_bits(b.low_x);
@@ -52,8 +53,8 @@ pub fn put(w: &mut [u64], t: usize, n: usize, b: Bounds)
 
 // Node n becomes the union of its children.
 fn renew(w: &mut [u64], t: usize, n: usize)
-    requires { ⌜ Children (now w) t n ⌝ }
-    ensures { λ r. ⌜ Renews (now (w .entry)) (now (w .exit)) t n ⌝ }
+    requires { Children w.old t n }
+    ensures { Renews w.old w.new t n }
 {
     let a = node(w, t, 2 * n);
     let b = node(w, t, 2 * n + 1);
@@ -62,8 +63,8 @@ fn renew(w: &mut [u64], t: usize, n: usize)
 
 // Every node above the leaves is made of its children.
 pub fn join(w: &mut [u64], t: usize, base: usize)
-    requires { ⌜ Leaves (now w) t base ⌝ }
-    ensures { λ r. ⌜ IndexJoined (now (w .entry)) (now (w .exit)) t base ⌝ }
+    requires { Leaves w.old t base }
+    ensures { IndexJoined w.old w.new t base }
 {
     let mut n = base;
     while 1 < n {
@@ -74,8 +75,8 @@ pub fn join(w: &mut [u64], t: usize, base: usize)
 
 // The leaf p is emptied, and each node above it is made anew.
 pub fn remove(w: &mut [u64], t: usize, base: usize, p: usize)
-    requires { ⌜ IndexWhole (now w) t base p ⌝ }
-    ensures { λ r. ⌜ Removes (now (w .entry)) (now (w .exit)) t base p ⌝ }
+    requires { IndexWhole w.old t base p }
+    ensures { Removes w.old w.new t base p }
 {
     put(w, t, base + p, Bounds::empty());
     let mut q = (base + p) / 2;
@@ -87,8 +88,8 @@ pub fn remove(w: &mut [u64], t: usize, base: usize, p: usize)
 
 // At or before the pair of (ax, ay) with each end below node n; the place after all others where there is none.
 fn reach(w: &[u64], d: usize, t: usize, n: usize, ax: f64, ay: f64) -> Place
-    requires { ⌜ Has (now w) t n × (d * noteFrom < length (now w)) ⌝ }
-    ensures { λ r. ⌜ worth r ≡ bound-of (round-at (now (w .entry)) d) ax ay (node-at (now (w .entry)) t n) ⌝ }
+    requires { Has w.now t n × (d * note_from < length w.now) }
+    ensures { worth result ≡ bound_of (round_at w.now d) ax ay (node_at w.now t n) }
 {
     let b = node(w, t, n);
     let first = b.first;
@@ -104,8 +105,8 @@ fn reach(w: &[u64], d: usize, t: usize, n: usize, ax: f64, ay: f64) -> Place
 
 // Whether all directions below node n are one, bit for bit, but for a zero's sign.
 fn is_point(w: &[u64], t: usize, n: usize) -> bool
-    requires { ⌜ t + 5 * n + 4 < length (now w) ⌝ }
-    ensures { λ r. ⌜ r ≡ pointed (now (w .entry)) t n ⌝ }
+    requires { t + 5 * n + 4 < length w.now }
+    ensures { result ≡ pointed w.now t n }
 {
     let k = t + 5 * n;
     if w[k] != w[k + 2] {
@@ -116,8 +117,8 @@ fn is_point(w: &[u64], t: usize, n: usize) -> bool
 
 // The place of the pair of (ax, ay), which is of the piece `own`, with end e.
 fn pair_with(w: &[u64], d: usize, ax: f64, ay: f64, own: u64, e: u64) -> Place
-    requires { ⌜ EndsRoom (now w) d × (e < d) ⌝ }
-    ensures { λ r. ⌜ worth r ≡ pair-at (directionAt (now (w .entry)) d) (pieceAt (now (w .entry)) d) ax ay own e ⌝ }
+    requires { EndsRoom w.now d × (e < d) }
+    ensures { worth result ≡ pair_at (direction_at w.now d) (piece_at w.now d) ax ay own e }
 {
     let x = e as usize;
     if pair_ends::piece_at(w, d, x) == own {
@@ -131,8 +132,8 @@ fn pair_with(w: &[u64], d: usize, ax: f64, ay: f64, own: u64, e: u64) -> Place
 
 // The pair with the first end below node n, where all directions there are one, so that it may be the first of all.
 fn settled(w: &[u64], d: usize, t: usize, ax: f64, ay: f64, own: u64, n: usize, e: u64) -> Place
-    requires { ⌜ EndsRoom (now w) d × (e < d) × (t + 5 * n + 4 < length (now w)) ⌝ }
-    ensures { λ r. ⌜ worth r ≡ settled-at (now (w .entry)) d t ax ay own n e ⌝ }
+    requires { EndsRoom w.now d × (e < d) × (t + 5 * n + 4 < length w.now) }
+    ensures { worth result ≡ settled_at w.now d t ax ay own n e }
 {
     if is_point(w, t, n) {
         return pair_with(w, d, ax, ay, own, e);
@@ -141,6 +142,7 @@ fn settled(w: &[u64], d: usize, t: usize, ax: f64, ay: f64, own: u64, n: usize, 
 }
 
 // The first of the best so far and the pairs with the ends below node n, `height` steps above the leaves. None of these is before `at`, which is before the best.
+#[cycle(search_visit)]
 fn search(
     w: &[u64],
     d: usize,
@@ -153,8 +155,8 @@ fn search(
     at: Place,
     best: Place,
 ) -> Place
-    requires { ⌜ Searchable (now w) d t ax ay height n × IsBound (now w) d t ax ay n at × (worth at < worth best) ⌝ }
-    ensures { λ r. ⌜ Finds (now (w .entry)) d t ax ay own height n best r ⌝ }
+    requires { Searchable w.now d t ax ay height n × IsBound w.now d t ax ay n at × (worth at < worth best) }
+    ensures { Finds w.now d t ax ay own height n best result }
 {
     if height == 0 {
         return pair_tree::lesser(best, pair_with(w, d, ax, ay, own, at.tie));
@@ -177,6 +179,7 @@ fn search(
 }
 
 // The same; a node whose pairs are not before the best so far is passed over.
+#[cycle(search_visit)]
 fn visit(
     w: &[u64],
     d: usize,
@@ -189,8 +192,8 @@ fn visit(
     at: Place,
     best: Place,
 ) -> Place
-    requires { ⌜ Searchable (now w) d t ax ay height n × IsBound (now w) d t ax ay n at ⌝ }
-    ensures { λ r. ⌜ Finds (now (w .entry)) d t ax ay own height n best r ⌝ }
+    requires { Searchable w.now d t ax ay height n × IsBound w.now d t ax ay n at }
+    ensures { Finds w.now d t ax ay own height n best result }
 {
     if pair_tree::sooner(at, best) {
         return search(w, d, t, ax, ay, own, n, height, at, best);
@@ -209,8 +212,8 @@ fn partner(
     height: u64,
     limit: u64,
 ) -> Place
-    requires { ⌜ Searchable (now w) d t ax ay height 1 ⌝ }
-    ensures { λ r. ⌜ Finds (now (w .entry)) d t ax ay own height 1 (record { key = limit; tie = gone }) r ⌝ }
+    requires { Searchable w.now d t ax ay height 1 }
+    ensures { Finds w.now d t ax ay own height 1 (record { key = limit; tie = gone }) result }
 {
     let at = reach(w, d, t, 1, ax, ay);
     let best = Place {
@@ -225,8 +228,8 @@ fn partner(
 
 // The first pair, in the order, that the free end o can be in; none where j is 0.
 pub fn first_pair(w: &[u64], d: usize, t: usize, height: u64, limit: u64, o: usize) -> Best
-    requires { ⌜ Query (now w) d t height limit o ⌝ }
-    ensures { λ r. ⌜ Answers (now (w .entry)) d t height limit o r ⌝ }
+    requires { Query w.now d t height limit o }
+    ensures { Answers w.now d t height limit o result }
 {
     let Direction::Toward(ax, ay) = pair_ends::direction_at(w, d, o) else {
         return Best { key: 0, i: 0, j: 0 };

@@ -1,106 +1,106 @@
 -- The leaves of the index and of the heap, written one after another: of an end with a direction its point, and for each slot no pair.
-use Prim.Native.Nat.{ℕ, _+_, _*_, _≤_, _<_}
-use mathlib.Core.Path.{_≡_, refl, sym, _∙_, ap, subst}
+use Prim.Native.Nat.{ℕ, ◌+◌, ◌*◌, ◌≤◌, ◌<◌}
+use mathlib.Core.Path.{◌≡◌, refl, sym, ◌∙◌, ap, subst}
 use mathlib.Core.Bool.{true, false, cond}
 use mathlib.Core.List.{List}
-use mathlib.Core.Logic.{_⊎_, ⊎-elim}
+use mathlib.Core.Logic.{◌⊎◌, ⊎_elim}
 use native.Mathlib.Omega.{arith}
 use lib.Dec.{ltb}
 use lib.ListN.{length}
-use Rattle·rules.specs.declared.Direction.{Direction}
-use Rattle·rules.specs.declared.Direction.the-variants.{Absent, Toward}
-use Rattle·rules.specs.Selecting.{End}
-use Rattle·pair_bounds.specs.declared.Bounds.{Bounds}
-use Rattle·pair_bounds.specs.Box.{empty-of, union-of, Sound}
-use Rattle·pair_bounds.proofs.Union.{empty-sound, point-sound}
-use Rattle·pair_laws.specs.Ends.{endAt, there}
-use Rattle·pair_laws.specs.Ranked.{none as nobody}
-use Rattle·pair_laws.proofs.Order.{two, tf}
-use Rattle·pair_ends.specs.Blocks.{orderFrom, heapFrom, indexFrom, noteFrom}
-use Rattle·rules.specs.Refusals.{endRoom}
-use Rattle·pair_ends.specs.Ends.{EndsRoom, directionAt, endsIn}
-use Rattle·pair_tree.specs.Flat.{own}
-use Rattle·pair_tree.specs.Places.{none}
-use Rattle·pair_tree.specs.Words.{Changes}
-use Rattle·pair_tree.proofs.Flat.{same-or, kept-same}
-use Rattle·pair_tree.proofs.Words.{changes-none, changes-then, changes-wider}
-use Rattle·pair_index.specs.Nodes.{node-at, IndexPut, Leaves, IndexJoined}
-use Rattle·pair_index.specs.Index.{box-of, leaf-of, Finite}
-use Rattle·pair_index.proofs.Leaves.{direction-is, there-below}
-use Rattle·pair_heap.specs.Heap as heap
-use Rattle·pair_owners.specs.Tables.{order-at, TablesSorted}
-use Rattle·pair_owners.proofs.Seats.{seated, seated-in, seated-out}
-use Rattle·pair_owners.proofs.Turns.{ends-kept, sorted-kept}
-use Rattle·pair_indexed·specs.specs.Start.{Plants, Planted, Clears, Cleared}
+use Rattle.rules.specs.declared.Direction.{Direction}
+use Rattle.rules.specs.declared.Direction.TheVariants.{Absent, Toward}
+use Rattle.rules.specs.Selecting.{End}
+use Rattle.pair_bounds.specs.declared.Bounds.{Bounds}
+use Rattle.pair_bounds.specs.Box.{empty_of, union_of, Sound}
+use Rattle.pair_bounds.proofs.Union.{empty_sound, point_sound}
+use Rattle.pair_laws.specs.Ends.{end_at, there}
+use Rattle.pair_laws.specs.Ranked.{none as nobody}
+use Rattle.pair_laws.proofs.Order.{two, tf}
+use Rattle.pair_ends.specs.Blocks.{order_from, heap_from, index_from, note_from}
+use Rattle.rules.specs.Refusals.{end_room}
+use Rattle.pair_ends.specs.Ends.{EndsRoom, direction_at, ends_in}
+use Rattle.pair_tree.specs.Flat.{own}
+use Rattle.pair_tree.specs.Places.{none}
+use Rattle.pair_tree.specs.Words.{Changes}
+use Rattle.pair_tree.proofs.Flat.{same_or, kept_same}
+use Rattle.pair_tree.proofs.Words.{changes_none, changes_then, changes_wider}
+use Rattle.pair_index.specs.Nodes.{node_at, IndexPut, Leaves, IndexJoined}
+use Rattle.pair_index.specs.Index.{box_of, leaf_of, Finite}
+use Rattle.pair_index.proofs.Leaves.{direction_is, there_below}
+use Rattle.pair_heap.specs.Heap as heap
+use Rattle.pair_owners.specs.Tables.{order_at, TablesSorted}
+use Rattle.pair_owners.proofs.Seats.{seated, seated_in, seated_out}
+use Rattle.pair_owners.proofs.Turns.{ends_kept, sorted_kept}
+use Rattle.pair_indexed.specs.Start.{Plants, Planted, Clears, Cleared}
 
 -- ---- one leaf
 
-absent-box : (a : Direction) (e : ℕ) → there a ≡ false → box-of a e ≡ empty-of
+absent_box : (a : Direction) (e : ℕ) → there a ≡ false → box_of a e ≡ empty_of
 unfolding there
-absent-box Absent e h = refl
-absent-box (Toward x y) e h = absurd (tf refl h)
+absent_box Absent e h = refl
+absent_box (Toward x y) e h = absurd (tf refl h)
 
-leaf-box : (l : List End) (e : ℕ) → leaf-of l nobody e ≡ box-of (endAt l e .direction) e
+leaf_box : (l : List End) (e : ℕ) → leaf_of l nobody e ≡ box_of (end_at l e).direction e
 unfolding nobody
-leaf-box l e = refl
+leaf_box l e = refl
 
 module _ {w : List ℕ} {d : ℕ} (room : EndsRoom w d) (order : ℕ → ℕ) (p : ℕ) where
-  pub leaf-out : d ≤ p → empty-of ≡ leaf-of (endsIn w d) nobody (seated order d p)
-  leaf-out h =
-      sym (leaf-box (endsIn w d) (seated order d p)
-      ∙ absent-box (endAt (endsIn w d) (seated order d p) .direction) (seated order d p)
-      (⊎-elim
-      (λ (y : there (endAt (endsIn w d) (seated order d p) .direction) ≡ true). absurd (omega (arith, there-below room (seated order d p) y, seated-out order d p h)))
-      (λ (y : there (endAt (endsIn w d) (seated order d p) .direction) ≡ false). y)
-      (two (there (endAt (endsIn w d) (seated order d p) .direction)))))
+  pub leaf_out : d ≤ p → empty_of ≡ leaf_of (ends_in w d) nobody (seated order d p)
+  leaf_out h =
+      sym (leaf_box (ends_in w d) (seated order d p)
+      ∙ absent_box (end_at (ends_in w d) (seated order d p)).direction (seated order d p)
+      (⊎_elim
+      (λ (y : there (end_at (ends_in w d) (seated order d p)).direction ≡ true). absurd (omega (arith, there_below room (seated order d p) y, seated_out order d p h)))
+      (λ (y : there (end_at (ends_in w d) (seated order d p)).direction ≡ false). y)
+      (two (there (end_at (ends_in w d) (seated order d p)).direction))))
 
-  pub leaf-in : p < d → order p < d → (a : Direction) → a ≡ directionAt w d (order p) → box-of a (order p) ≡ leaf-of (endsIn w d) nobody (seated order d p)
-  leaf-in h k a e =
-      ap (λ (b : Direction). box-of b (order p)) (e ∙ sym (direction-is room (order p) k))
-      ∙ sym (ap (leaf-of (endsIn w d) nobody) (seated-in order d p h) ∙ leaf-box (endsIn w d) (order p))
+  pub leaf_in : p < d → order p < d → (a : Direction) → a ≡ direction_at w d (order p) → box_of a (order p) ≡ leaf_of (ends_in w d) nobody (seated order d p)
+  leaf_in h k a e =
+      ap (λ (b : Direction). box_of b (order p)) (e ∙ sym (direction_is room (order p) k))
+      ∙ sym (ap (leaf_of (ends_in w d) nobody) (seated_in order d p h) ∙ leaf_box (ends_in w d) (order p))
 
-leaf-sound : (l : List End) → Finite l → (e : ℕ) → Sound (leaf-of l nobody e)
-leaf-sound l f e = subst (λ (b : Bounds). Sound b) (sym (leaf-box l e)) (go (endAt l e .direction) refl)
+leaf_sound : (l : List End) → Finite l → (e : ℕ) → Sound (leaf_of l nobody e)
+leaf_sound l f e = subst (λ (b : Bounds). Sound b) (sym (leaf_box l e)) (go (end_at l e).direction refl)
   where
-    go : (a : Direction) → endAt l e .direction ≡ a → Sound (box-of a e)
-    go Absent q = empty-sound
-    go (Toward x y) q = let t = f e x y q in point-sound x y e (t .0) (t .1)
+    go : (a : Direction) → (end_at l e).direction ≡ a → Sound (box_of a e)
+    go Absent q = empty_sound
+    go (Toward x y) q = let t = f e x y q in point_sound x y e t.0 t.1
 
 -- ---- the leaves of the index
 
 pub record Planting (w₀ w : List ℕ) (d base p : ℕ) : Type 0 where
-  pub done : (q : ℕ) → q < p → node-at w (d * indexFrom) (base + q) ≡ leaf-of (endsIn w₀ d) nobody (seated (order-at w₀ d) d q)
-  pub kept : Changes w₀ w (d * indexFrom) (d * noteFrom)
+  pub done : (q : ℕ) → q < p → node_at w (d * index_from) (base + q) ≡ leaf_of (ends_in w₀ d) nobody (seated (order_at w₀ d) d q)
+  pub kept : Changes w₀ w (d * index_from) (d * note_from)
 
-pub planting-start : (w : List ℕ) (d base : ℕ) → Planting w w d base 0
-planting-start w d base = record { done = λ q h. absurd (omega arith); kept = changes-none w (d * indexFrom) (d * noteFrom) }
+pub planting_start : (w : List ℕ) (d base : ℕ) → Planting w w d base 0
+planting_start w d base = record { done = λ q h. absurd (omega arith); kept = changes_none w (d * index_from) (d * note_from) }
 
 module _ {w₀ w : List ℕ} {d base p : ℕ} (z : Plants w₀ d base) (s : Planting w₀ w d base p) where
-  pub planting-sorted : TablesSorted w d
-  planting-sorted = sorted-kept (s .kept) (omega arith) (z .sorted)
+  pub planting_sorted : TablesSorted w d
+  planting_sorted = sorted_kept s.kept (omega arith) z.sorted
 
-  pub planting-room : (d * indexFrom + 10 * base ≤ d * noteFrom) × (d * endRoom ≤ length w)
-  planting-room = (omega (arith, z .most), omega (arith, z .sorted .room .long, s .kept .long))
+  pub planting_room : (d * index_from + 10 * base ≤ d * note_from) × (d * end_room ≤ length w)
+  planting_room = (omega (arith, z.most), omega (arith, z.sorted.room.long, s.kept.long))
 
-  module _ (h : p < base) {b : Bounds} (e : b ≡ leaf-of (endsIn w d) nobody (seated (order-at w d) d p)) where
-    here : b ≡ leaf-of (endsIn w₀ d) nobody (seated (order-at w₀ d) d p)
+  module _ (h : p < base) {b : Bounds} (e : b ≡ leaf_of (ends_in w d) nobody (seated (order_at w d) d p)) where
+    here : b ≡ leaf_of (ends_in w₀ d) nobody (seated (order_at w₀ d) d p)
     here =
         e
-        ∙ ap (λ (l : List End). leaf-of l nobody (seated (order-at w d) d p)) (ends-kept (s .kept) (omega arith) (z .sorted .room))
-        ∙ ap (λ (k : ℕ). leaf-of (endsIn w₀ d) nobody (cond (ltb p d) k d)) (s .kept .below (d * orderFrom + p) (omega (arith, z .most)))
+        ∙ ap (λ (l : List End). leaf_of l nobody (seated (order_at w d) d p)) (ends_kept s.kept (omega arith) z.sorted.room)
+        ∙ ap (λ (k : ℕ). leaf_of (ends_in w₀ d) nobody (cond (ltb p d) k d)) (s.kept.below (d * order_from + p) (omega (arith, z.most)))
 
-    pub planting-sound : Sound b
-    planting-sound = subst (λ (y : Bounds). Sound y) (sym here) (leaf-sound (endsIn w₀ d) (z .finite-ends) (seated (order-at w₀ d) d p))
+    pub planting_sound : Sound b
+    planting_sound = subst (λ (y : Bounds). Sound y) (sym here) (leaf_sound (ends_in w₀ d) z.finite_ends (seated (order_at w₀ d) d p))
 
-    pub planting-next : {w′ : List ℕ} → IndexPut w w′ (d * indexFrom) (base + p) b → Planting w₀ w′ d base (p + 1)
-    planting-next {w′} k =
+    pub planting_next : {w' : List ℕ} → IndexPut w w' (d * index_from) (base + p) b → Planting w₀ w' d base (p + 1)
+    planting_next {w'} k =
         record {
           done =
-              λ q i. ⊎-elim
-              (λ (c : q ≡ p). ap (λ (y : ℕ). node-at w′ (d * indexFrom) (base + y)) c ∙ k .stored .same ∙ here ∙ ap (λ (y : ℕ). leaf-of (endsIn w₀ d) nobody (seated (order-at w₀ d) d y)) (sym c))
-              (λ (c : q ≡ p → ⊥). k .stored .other (base + q) (λ y. c (other y)) ∙ s .done q (below c i))
-              (same-or q p);
-          kept = changes-then (s .kept) (changes-wider (d * indexFrom) (d * noteFrom) (omega arith) (omega (arith, z .most)) (k .kept));
+              λ q i. ⊎_elim
+              (λ (c : q ≡ p). ap (λ (y : ℕ). node_at w' (d * index_from) (base + y)) c ∙ k.stored.same ∙ here ∙ ap (λ (y : ℕ). leaf_of (ends_in w₀ d) nobody (seated (order_at w₀ d) d y)) (sym c))
+              (λ (c : q ≡ p → ⊥). k.stored.other (base + q) (λ y. c (other y)) ∙ s.done q (below c i))
+              (same_or q p);
+          kept = changes_then s.kept (changes_wider (d * index_from) (d * note_from) (omega arith) (omega (arith, z.most)) k.kept);
         }
       where
         other : {q : ℕ} → base + q ≡ base + p → q ≡ p
@@ -111,44 +111,44 @@ module _ {w₀ w : List ℕ} {d base p : ℕ} (z : Plants w₀ d base) (s : Plan
 
   -- all of them
   module _ (h : base ≤ p) where
-    pub planting-leaves : Leaves w (d * indexFrom) base
-    planting-leaves =
+    pub planting_leaves : Leaves w (d * index_from) base
+    planting_leaves =
         record {
-          wide = record { some = z .some; inside = omega (arith, planting-room .0, planting-room .1) };
-          sound = λ x i. subst (λ (y : Bounds). Sound y) (sym (s .done x (omega arith))) (leaf-sound (endsIn w₀ d) (z .finite-ends) (seated (order-at w₀ d) d x));
+          wide = record { some = z.some; inside = omega (arith, planting_room.0, planting_room.1) };
+          sound = λ x i. subst (λ (y : Bounds). Sound y) (sym (s.done x (omega arith))) (leaf_sound (ends_in w₀ d) z.finite_ends (seated (order_at w₀ d) d x));
         }
 
-    pub planting-stop : {w′ : List ℕ} → IndexJoined w w′ (d * indexFrom) base → Planted w₀ w′ d base
-    planting-stop {w′} k =
+    pub planting_stop : {w' : List ℕ} → IndexJoined w w' (d * index_from) base → Planted w₀ w' d base
+    planting_stop {w'} k =
         record {
           indexed =
-              kept-same union-of Sound (node-at w′ (d * indexFrom)) base 1 0 (own (node-at w (d * indexFrom)) base) (λ q. leaf-of (endsIn w₀ d) nobody (seated (order-at w₀ d) d q))
-              (λ x i. s .done x (omega arith)) (k .whole);
-          kept = changes-then (s .kept) (changes-wider (d * indexFrom) (d * noteFrom) (omega arith) (planting-room .0) (k .kept));
+              kept_same union_of Sound (node_at w' (d * index_from)) base 1 0 (own (node_at w (d * index_from)) base) (λ q. leaf_of (ends_in w₀ d) nobody (seated (order_at w₀ d) d q))
+              (λ x i. s.done x (omega arith)) k.whole;
+          kept = changes_then s.kept (changes_wider (d * index_from) (d * note_from) (omega arith) planting_room.0 k.kept);
         }
 
 -- ---- the leaves of the heap
 
 pub record Clearing (w₀ w : List ℕ) (d slots s : ℕ) : Type 0 where
-  pub done : (q : ℕ) → q < s → heap.node-at w (d * heapFrom) (slots + q) ≡ none
-  pub kept : Changes w₀ w (d * heapFrom) (d * indexFrom)
+  pub done : (q : ℕ) → q < s → heap.node_at w (d * heap_from) (slots + q) ≡ none
+  pub kept : Changes w₀ w (d * heap_from) (d * index_from)
 
-pub clearing-start : (w : List ℕ) (d slots : ℕ) → Clearing w w d slots 0
-clearing-start w d slots = record { done = λ q h. absurd (omega arith); kept = changes-none w (d * heapFrom) (d * indexFrom) }
+pub clearing_start : (w : List ℕ) (d slots : ℕ) → Clearing w w d slots 0
+clearing_start w d slots = record { done = λ q h. absurd (omega arith); kept = changes_none w (d * heap_from) (d * index_from) }
 
 module _ {w₀ w : List ℕ} {d slots s : ℕ} (z : Clears w₀ d slots) (k : Clearing w₀ w d slots s) where
-  pub clearing-room : (d * heapFrom + 4 * slots ≤ d * indexFrom) × (d * endRoom ≤ length w)
-  clearing-room = (omega (arith, z .narrow), omega (arith, z .room .long, k .kept .long))
+  pub clearing_room : (d * heap_from + 4 * slots ≤ d * index_from) × (d * end_room ≤ length w)
+  clearing_room = (omega (arith, z.narrow), omega (arith, z.room.long, k.kept.long))
 
-  pub clearing-next : s < slots → {w′ : List ℕ} {v : ℕ} → v ≡ none → heap.HeapPut w w′ (d * heapFrom) (slots + s) v → Clearing w₀ w′ d slots (s + 1)
-  clearing-next h {w′} e r =
+  pub clearing_next : s < slots → {w' : List ℕ} {v : ℕ} → v ≡ none → heap.HeapPut w w' (d * heap_from) (slots + s) v → Clearing w₀ w' d slots (s + 1)
+  clearing_next h {w'} e r =
       record {
         done =
-            λ q i. ⊎-elim
-            (λ (c : q ≡ s). ap (λ (y : ℕ). heap.node-at w′ (d * heapFrom) (slots + y)) c ∙ r .stored .same ∙ e)
-            (λ (c : q ≡ s → ⊥). r .stored .other (slots + q) (λ y. c (other y)) ∙ k .done q (below c i))
-            (same-or q s);
-        kept = changes-then (k .kept) (changes-wider (d * heapFrom) (d * indexFrom) (omega arith) (omega (arith, z .narrow)) (r .kept));
+            λ q i. ⊎_elim
+            (λ (c : q ≡ s). ap (λ (y : ℕ). heap.node_at w' (d * heap_from) (slots + y)) c ∙ r.stored.same ∙ e)
+            (λ (c : q ≡ s → ⊥). r.stored.other (slots + q) (λ y. c (other y)) ∙ k.done q (below c i))
+            (same_or q s);
+        kept = changes_then k.kept (changes_wider (d * heap_from) (d * index_from) (omega arith) (omega (arith, z.narrow)) r.kept);
       }
     where
       other : {q : ℕ} → slots + q ≡ slots + s → q ≡ s
@@ -157,5 +157,5 @@ module _ {w₀ w : List ℕ} {d slots s : ℕ} (z : Clears w₀ d slots) (k : Cl
       below : {q : ℕ} → (q ≡ s → ⊥) → q < s + 1 → q < s
       below c i = omega arith
 
-pub clearing-stop : {w₀ w : List ℕ} {d slots s : ℕ} → Clearing w₀ w d slots s → slots ≤ s → Cleared w₀ w d slots
-clearing-stop k h = record { empty = λ q i. k .done q (omega arith); kept = k .kept }
+pub clearing_stop : {w₀ w : List ℕ} {d slots s : ℕ} → Clearing w₀ w d slots s → slots ≤ s → Cleared w₀ w d slots
+clearing_stop k h = record { empty = λ q i. k.done q (omega arith); kept = k.kept }

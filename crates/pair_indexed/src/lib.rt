@@ -1,34 +1,27 @@
 // The indexed route: each owner's first pair among the free ends comes from the index and stands in the heap; the first of these is taken, or made anew where
 // one of its ends is taken.
+#![tactic(auto)]
+
+ghost use Rattle.std.specs.Prelude.{◌≡◌, not, ◌||◌, ◌+◌, ◌*◌, ◌^◌, ◌≤◌, ◌<◌};
+ghost use Rattle.rules.specs.Refusals.{most_ends};
+ghost use Rattle.pair_ends.specs.Blocks.{order_from, heap_from, index_from, note_from};
+ghost use Rattle.pair_ends.specs.Ends.{EndsRoom, Selected, ends_in};
+ghost use Rattle.pair_laws.specs.Ranked.{none as nobody};
+ghost use Rattle.pair_tree.specs.Words.{Changes};
+ghost use Rattle.pair_index.specs.Index.{leaf_of, Query};
+ghost use Rattle.pair_index.specs.Nodes.{Removes};
+ghost use Rattle.pair_owners.specs.Tables.{order_at, position_at, TablesSorted};
+ghost use Rattle.pair_owners.proofs.Seats.{seated};
+ghost use Rattle.pair_indexed.specs.Route.{taken_in, Offers, Stale, Refreshed, Retires, marked, Replaces, Replaced, Takes, Takings, RouteReady};
+ghost use Rattle.pair_indexed.specs.Start.{Notes, Fits, Arranged, Plants, Planted, Clears, Cleared, Startable, Fills, Asks};
+
 use pair_bounds::Bounds;
-use pair_ends::CURSORS;
-use pair_ends::GROUPS;
-use pair_ends::HEAP;
-use pair_ends::INDEX;
-use pair_ends::MARKS;
-use pair_ends::NOTE;
-use pair_ends::ORDER;
-use pair_ends::PAIRS;
-use pair_ends::POSITIONS;
-use pair_ends::SLOTS;
+use pair_ends::{CURSORS, GROUPS, HEAP, INDEX, MARKS, NOTE, ORDER, PAIRS, POSITIONS, SLOTS};
 use pair_tree::Place;
 use rules::Direction;
-ghost use mathlib.Core.Path.{_≡_};
-ghost use mathlib.Core.Bool.{not, _||_};
-ghost use Prim.Native.Nat.{_+_, _*_, _^_, _≤_, _<_};
-ghost use Rattle·rules.specs.Refusals.{mostEnds};
-ghost use Rattle·pair_ends.specs.Blocks.{orderFrom, heapFrom, indexFrom, noteFrom};
-ghost use Rattle·pair_ends.specs.Ends.{EndsRoom, Selected, endsIn};
-ghost use Rattle·pair_laws.specs.Ranked.{none as nobody};
-ghost use Rattle·pair_tree.specs.Words.{Changes};
-ghost use Rattle·pair_index.specs.Index.{leaf-of, Query};
-ghost use Rattle·pair_index.specs.Nodes.{Removes};
-ghost use Rattle·pair_owners.specs.Tables.{order-at, position-at, TablesSorted};
-ghost use Rattle·pair_owners.proofs.Seats.{seated};
-ghost use Rattle·pair_indexed·specs.specs.Route.{taken-in, Offers, Stale, Refreshed, Retires, marked, Replaces, Replaced, Takes, Takings, RouteReady};
-ghost use Rattle·pair_indexed·specs.specs.Start.{Notes, Fits, Arranged, Plants, Planted, Clears, Cleared, Startable, Fills, Asks};
 
 // A tree with a leaf for each of some number of things: how many leaves, and how high.
+#[derive(Clone, Copy)]
 pub struct Size {
     pub base: usize,
     pub height: u64,
@@ -36,8 +29,8 @@ pub struct Size {
 
 // The least tree with a leaf for each of n.
 fn tree_for(n: usize) -> Size
-    requires { ⌜ n ≤ mostEnds ⌝ }
-    ensures { λ r. ⌜ Fits n r ⌝ }
+    requires { n ≤ most_ends }
+    ensures { Fits n result }
 {
     let mut base = 1;
     let mut height = 0;
@@ -53,8 +46,8 @@ const NOTED: usize = 48;
 
 // It is noted whether all directions are in the disk, for which the index has a better bound; among few ends it is not looked at.
 fn note(w: &mut [u64], d: usize)
-    requires { ⌜ EndsRoom (now w) d × (d ≡ 0 → ⊥) ⌝ }
-    ensures { λ _. ⌜ Notes (now (w .entry)) (now (w .exit)) d ⌝ }
+    requires { EndsRoom w.old d × (d ≡ 0 → ⊥) }
+    ensures { Notes w.old w.new d }
 {
     if d < NOTED {
         w[d * NOTE] = 0;
@@ -66,8 +59,8 @@ fn note(w: &mut [u64], d: usize)
 
 // The ends in order and in groups; how many are owners.
 fn arrange(w: &mut [u64], d: usize) -> usize
-    requires { ⌜ EndsRoom (now w) d ⌝ }
-    ensures { λ r. ⌜ (Arranged (now (w .exit)) d r) × Changes (now (w .entry)) (now (w .exit)) (d * orderFrom) (d * heapFrom) ⌝ }
+    requires { EndsRoom w.old d }
+    ensures { (Arranged w.new d result) × Changes w.old w.new (d * order_from) (d * heap_from) }
 {
     let at = d * ORDER;
     pair_owners::keys(w, d);
@@ -78,8 +71,8 @@ fn arrange(w: &mut [u64], d: usize) -> usize
 
 // The leaf of position p.
 fn leaf(w: &[u64], d: usize, p: usize) -> Bounds
-    requires { ⌜ TablesSorted (now w) d ⌝ }
-    ensures { λ r. ⌜ r ≡ leaf-of (endsIn (now (w .entry)) d) nobody (seated (order-at (now (w .entry)) d) d p) ⌝ }
+    requires { TablesSorted w.now d }
+    ensures { result ≡ leaf_of (ends_in w.now d) nobody (seated (order_at w.now d) d p) }
 {
     if d <= p {
         return Bounds::empty();
@@ -99,8 +92,8 @@ fn leaf(w: &[u64], d: usize, p: usize) -> Bounds
 
 // The index of all ends with a direction, by their positions.
 fn plant(w: &mut [u64], d: usize, base: usize)
-    requires { ⌜ Plants (now w) d base ⌝ }
-    ensures { λ r. ⌜ Planted (now (w .entry)) (now (w .exit)) d base ⌝ }
+    requires { Plants w.old d base }
+    ensures { Planted w.old w.new d base }
 {
     let t = d * INDEX;
     let mut p = 0;
@@ -114,16 +107,16 @@ fn plant(w: &mut [u64], d: usize, base: usize)
 
 // The owner o's first pair among the free ends, as the heap holds it.
 fn first_of(w: &[u64], d: usize, height: u64, limit: u64, o: usize) -> Place
-    requires { ⌜ Query (now w) d (d * indexFrom) height limit o ⌝ }
-    ensures { λ r. ⌜ Offers (now (w .entry)) d height limit o r ⌝ }
+    requires { Query w.now d (d * index_from) height limit o }
+    ensures { Offers w.now d height limit o result }
 {
     pair_heap::coded(o, pair_index::first_pair(w, d, d * INDEX, height, limit, o))
 }
 
 // The owner o's pair anew.
 fn refresh(w: &mut [u64], d: usize, slots: usize, height: u64, limit: u64, o: usize)
-    requires { ⌜ Stale (now w) d slots height limit o ⌝ }
-    ensures { λ r. ⌜ Refreshed (now (w .entry)) (now (w .exit)) d slots height limit o ⌝ }
+    requires { Stale w.old d slots height limit o }
+    ensures { Refreshed w.old w.new d slots height limit o }
 {
     let s = w[d * SLOTS + o] as usize;
     let v = first_of(w, d, height, limit, o);
@@ -132,8 +125,8 @@ fn refresh(w: &mut [u64], d: usize, slots: usize, height: u64, limit: u64, o: us
 
 // No slot has a pair.
 fn clear(w: &mut [u64], d: usize, slots: usize)
-    requires { ⌜ Clears (now w) d slots ⌝ }
-    ensures { λ r. ⌜ Cleared (now (w .entry)) (now (w .exit)) d slots ⌝ }
+    requires { Clears w.old d slots }
+    ensures { Cleared w.old w.new d slots }
 {
     let mut s = 0;
     while s < slots {
@@ -144,8 +137,8 @@ fn clear(w: &mut [u64], d: usize, slots: usize)
 
 // Each first owner's pair.
 fn fill(w: &mut [u64], d: usize, slots: usize, height: u64, limit: u64)
-    requires { ⌜ Fills (now w) d height slots limit ⌝ }
-    ensures { λ r. ⌜ (RouteReady (now (w .exit)) d height slots limit) × Changes (now (w .entry)) (now (w .exit)) (d * heapFrom) (d * indexFrom) ⌝ }
+    requires { Fills w.old d height slots limit }
+    ensures { (RouteReady w.new d height slots limit) × Changes w.old w.new (d * heap_from) (d * index_from) }
 {
     let mut p = 0;
     while p < d {
@@ -163,8 +156,8 @@ fn fill(w: &mut [u64], d: usize, slots: usize, height: u64, limit: u64)
 
 // The index and the heap, while no end is taken.
 fn begin(w: &mut [u64], d: usize, base: usize, slots: usize, height: u64, limit: u64)
-    requires { ⌜ (base ≡ 2 ^ height) × Startable (now w) d height slots limit ⌝ }
-    ensures { λ r. ⌜ (RouteReady (now (w .exit)) d height slots limit) × Changes (now (w .entry)) (now (w .exit)) (d * heapFrom) (d * noteFrom) ⌝ }
+    requires { (base ≡ 2 ^ height) × Startable w.old d height slots limit }
+    ensures { (RouteReady w.new d height slots limit) × Changes w.old w.new (d * heap_from) (d * note_from) }
 {
     plant(w, d, base);
     clear(w, d, slots);
@@ -173,8 +166,8 @@ fn begin(w: &mut [u64], d: usize, base: usize, slots: usize, height: u64, limit:
 
 // The end x is taken: it is marked, and leaves the index.
 fn retire(w: &mut [u64], d: usize, base: usize, x: usize)
-    requires { ⌜ Retires (now w) d base x ⌝ }
-    ensures { λ r. ⌜ Removes (marked (now (w .entry)) d x) (now (w .exit)) (d * indexFrom) base (position-at (now (w .entry)) d x) ⌝ }
+    requires { Retires w.old d base x }
+    ensures { Removes (marked w.old d x) w.new (d * index_from) base (position_at w.old d x) }
 {
     let p = w[d * POSITIONS + x] as usize;
     w[d * MARKS + x] = 1;
@@ -183,8 +176,8 @@ fn retire(w: &mut [u64], d: usize, base: usize, x: usize)
 
 // The slot of the taken end x, if it has one, goes to the next free end of its direction.
 fn replace(w: &mut [u64], d: usize, slots: usize, height: u64, limit: u64, x: usize)
-    requires { ⌜ Replaces (now w) d slots height limit x ⌝ }
-    ensures { λ r. ⌜ Replaced (now (w .entry)) (now (w .exit)) d slots height limit x ⌝ }
+    requires { Replaces w.old d slots height limit x }
+    ensures { Replaced w.old w.new d slots height limit x }
 {
     let s = w[d * SLOTS + x] as usize;
     if d <= s {
@@ -206,8 +199,8 @@ fn replace(w: &mut [u64], d: usize, slots: usize, height: u64, limit: u64, x: us
 
 // Whether neither end is taken.
 fn live(w: &[u64], d: usize, i: usize, j: usize) -> bool
-    requires { ⌜ EndsRoom (now w) d × (i < d) × (j < d) ⌝ }
-    ensures { λ r. ⌜ r ≡ not (taken-in (now (w .entry)) d i || taken-in (now (w .entry)) d j) ⌝ }
+    requires { EndsRoom w.now d × (i < d) × (j < d) }
+    ensures { result ≡ not (taken_in w.now d i || taken_in w.now d j) }
 {
     if w[d * MARKS + i] != 0 {
         return false;
@@ -227,8 +220,8 @@ fn take(
     i: usize,
     j: usize,
 )
-    requires { ⌜ (base ≡ 2 ^ height) × Takes (now w) d height slots limit n i j ⌝ }
-    ensures { λ r. ⌜ Takings (now (w .entry)) (now (w .exit)) d height slots limit n i j ⌝ }
+    requires { (base ≡ 2 ^ height) × Takes w.old d height slots limit n i j }
+    ensures { Takings w.old w.new d height slots limit n i j }
 {
     w[d * PAIRS + n * 2] = i as u64;
     w[d * PAIRS + n * 2 + 1] = j as u64;
@@ -240,8 +233,8 @@ fn take(
 
 // The selected pairs, one after another; how many.
 fn choose(w: &mut [u64], d: usize, base: usize, slots: usize, height: u64, limit: u64) -> usize
-    requires { ⌜ (base ≡ 2 ^ height) × RouteReady (now w) d height slots limit ⌝ }
-    ensures { λ r. ⌜ Selected (now (w .entry)) d limit r (now (w .exit)) ⌝ }
+    requires { (base ≡ 2 ^ height) × RouteReady w.old d height slots limit }
+    ensures { Selected w.old d limit result w.new }
 {
     let mut n = 0;
     loop {
@@ -263,8 +256,8 @@ fn choose(w: &mut [u64], d: usize, base: usize, slots: usize, height: u64, limit
 
 // The selected pairs of the d ends in the workspace, under the limit's key: how many, and two words for each behind the piece numbers.
 pub fn indexed(w: &mut [u64], d: usize, limit: u64) -> usize
-    requires { ⌜ Asks (now w) d limit ⌝ }
-    ensures { λ r. ⌜ Selected (now (w .entry)) d limit r (now (w .exit)) ⌝ }
+    requires { Asks w.old d limit }
+    ensures { Selected w.old d limit result w.new }
 {
     if pair_all_directions::apart(w, d, limit) {
         return 0;

@@ -1,8 +1,6 @@
 -- Owners: the ends whose pairs a route keeps in view. An end that is none is led by two owners of its direction.
 -- `There e` says that the end e has a direction, `Alike a e` that a and e have the same.
-use Prim.Native.Nat.{ℕ, _<_}
-use mathlib.Core.Path.{_≡_}
-use mathlib.Core.Bool.{Bool, true, false}
+use Rattle.std.specs.Prelude.{ℕ, ◌<◌, ◌≡◌, Bool, true, false}
 
 module _ (There : ℕ → Type 0) (Alike : ℕ → ℕ → Type 0) (used active : ℕ → Bool) where
   -- a is an owner, still free, below e, and of e's direction

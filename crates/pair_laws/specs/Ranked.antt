@@ -1,10 +1,8 @@
 -- The book's selection with each measure replaced by its key, a whole number that ranks it: this is what the routes compare.
 -- The qualifying pairs in order of key, then i, then j; a pair is taken if neither end is taken.
-use Prim.Native.Nat.{ℕ, zero, suc}
-use mathlib.Core.Bool.{Bool, true, false, _&&_, _||_}
-use mathlib.Core.List.{List, [], _∷_, _++_}
-use lib.Dec.{ltb, leb, eqb}
-use Rattle·rules.specs.Lists.{keep}
+use Rattle.std.specs.Prelude.{ℕ, zero, suc, Bool, true, false, ◌&&◌, ◌||◌, ltb, leb, eqb}
+use mathlib.Core.List.{List, [], ◌∷◌, ◌++◌}
+use Rattle.rules.specs.Lists.{keep}
 
 -- a pair of ends, i below j, with its key
 pub record RankedPair : Type 0 where
@@ -30,16 +28,16 @@ pairs key (suc n) = column key n n ++ pairs key n
 
 -- p may be paired, and its key is at or below the limit
 unfoldable pub qualifies : Node → ℕ → RankedPair → Bool
-qualifies n limit p = n .may (p .i) (p .j) && leb (p .key) limit
+qualifies n limit p = n.may p.i p.j && leb p.key limit
 
 unfoldable pub candidates : Node → ℕ → List RankedPair
-candidates n limit = keep (qualifies n limit) (pairs (n .key) (n .d))
+candidates n limit = keep (qualifies n limit) (pairs n.key n.d)
 
 -- the order: by key, then i, then j
 unfoldable pub before : RankedPair → RankedPair → Bool
 before p q =
-    ltb (p .key) (q .key)
-    || eqb (p .key) (q .key) && (ltb (p .i) (q .i) || eqb (p .i) (q .i) && ltb (p .j) (q .j))
+    ltb p.key q.key
+    || eqb p.key q.key && (ltb p.i q.i || eqb p.i q.i && ltb p.j q.j)
 
 -- in an order, each after those that are not after it
 module _ {A : Type 0} (first : A → A → Bool) where
@@ -54,10 +52,10 @@ module _ {A : Type 0} (first : A → A → Bool) where
 
 -- the ends taken once p is taken
 unfoldable pub mark : RankedPair → (ℕ → Bool) → ℕ → Bool
-mark p used e = eqb e (p .i) || eqb e (p .j) || used e
+mark p used e = eqb e p.i || eqb e p.j || used e
 
 unfoldable pub busy : (ℕ → Bool) → RankedPair → Bool
-busy used p = used (p .i) || used (p .j)
+busy used p = used p.i || used p.j
 
 -- from left to right: a pair with a taken end is skipped, any other is taken
 unfoldable pub greedy : (ℕ → Bool) → List RankedPair → List RankedPair
@@ -68,8 +66,8 @@ unfoldable pub none : ℕ → Bool
 none e = false
 
 -- what is selected where some ends are taken already
-unfoldable pub selectFrom : Node → ℕ → (ℕ → Bool) → List RankedPair
-selectFrom n limit used = greedy used (sort before (candidates n limit))
+unfoldable pub select_from : Node → ℕ → (ℕ → Bool) → List RankedPair
+select_from n limit used = greedy used (sort before (candidates n limit))
 
 unfoldable pub select : Node → ℕ → List RankedPair
-select n limit = selectFrom n limit none
+select n limit = select_from n limit none

@@ -1,17 +1,12 @@
 -- What the laws of selection speak of: a pair in a list, a list in order, pairs that share an end.
-use Prim.Native.Nat.{ℕ, _<_}
-use mathlib.Core.Path.{_≡_}
-use mathlib.Core.Bool.{Bool, true, false, _||_}
-use mathlib.Core.Logic.{_⊎_}
-use mathlib.Core.List.{List, [], _∷_}
-use lib.Dec.{eqb}
-use Rattle·pair_laws·specs.specs.Ranked.{RankedPair, before, busy}
+use Rattle.std.specs.Prelude.{ℕ, ◌<◌, ◌≡◌, Bool, true, false, ◌||◌, ◌⊎◌, List, [], ◌∷◌, eqb}
+use Rattle.pair_laws.specs.Ranked.{RankedPair, before, busy}
 
 -- q is a pair of ends below d, the lower first, with its key
 pub record PairEnds (key : ℕ → ℕ → ℕ) (d : ℕ) (q : RankedPair) : Type 0 where
-  pub lower : q .i < q .j
-  pub below : q .j < d
-  pub keyed : q .key ≡ key (q .i) (q .j)
+  pub lower : q.i < q.j
+  pub below : q.j < d
+  pub keyed : q.key ≡ key q.i q.j
 
 -- p is one of the list's
 abbrev pub In : {A : Type 0} → A → List A → Type 0
@@ -42,7 +37,7 @@ module _ {A : Type 0} (before : A → A → Bool) where
 
 -- p and q share an end
 unfoldable pub shares : RankedPair → RankedPair → Bool
-shares p q = eqb (q .i) (p .i) || eqb (q .i) (p .j) || eqb (q .j) (p .i) || eqb (q .j) (p .j)
+shares p q = eqb q.i p.i || eqb q.i p.j || eqb q.j p.i || eqb q.j p.j
 
 -- p is a free pair of l, and no free pair of l is before it
 pub record Least (used : ℕ → Bool) (l : List RankedPair) (p : RankedPair) : Type 0 where
@@ -56,13 +51,13 @@ pub record Entry : Type 0 where
   pub best : RankedPair
 
 abbrev pub EndOf : ℕ → RankedPair → Type 0
-EndOf o p = (o ≡ p .i) ⊎ (o ≡ p .j)
+EndOf o p = (o ≡ p.i) ⊎ (o ≡ p.j)
 
 -- each free pair of an active owner is at or after an entry of that owner; `h e` says that e is in the heap
 abbrev pub Covers : (ℕ → Bool) → List RankedPair → (ℕ → Bool) → (Entry → Type 0) → Type 0
 Covers used l active h =
     (q : RankedPair) (o : ℕ) → In q l → busy used q ≡ false → active o ≡ true → EndOf o q
-    → (e : Entry) × h e × (e .owner ≡ o) × (before q (e .best) ≡ false)
+    → (e : Entry) × h e × (e.owner ≡ o) × (before q e.best ≡ false)
 
 -- each free pair is at or after a free pair with an active end
 abbrev pub Enough : (ℕ → Bool) → List RankedPair → (ℕ → Bool) → Type 0
@@ -72,4 +67,4 @@ Enough used l active =
 
 -- each free pair (i, j) is at or after one that row i holds; `h i p` says that row i holds p
 abbrev pub HeldRows : (ℕ → Bool) → List RankedPair → (ℕ → RankedPair → Type 0) → Type 0
-HeldRows used l h = (q : RankedPair) → In q l → busy used q ≡ false → (p : RankedPair) × h (q .i) p × (before q p ≡ false)
+HeldRows used l h = (q : RankedPair) → In q l → busy used q ≡ false → (p : RankedPair) × h q.i p × (before q p ≡ false)

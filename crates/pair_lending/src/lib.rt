@@ -1,16 +1,15 @@
 // What a pairing call lends, put into its workspace, and the pairs taken out of it.
-ghost use mathlib.Core.Path.{_≡_};
-ghost use mathlib.Core.List.{_++_};
-ghost use Prim.Native.Nat.{_+_, _≤_};
-ghost use lib.ListN.{length, drop};
-ghost use lib.Seq.{slice};
-ghost use Rattle·point_slices.specs.Holds.{HoldsFrom};
-ghost use Rattle·pair_lending·specs.specs.Lent.{Matched, DirectionsKept, Put, Takeable};
+#![tactic(auto)]
+
+ghost use Rattle.std.specs.Prelude.{◌≡◌, ◌++◌, ◌+◌, ◌≤◌, length, drop};
+ghost use Rattle.std.proofs.Math.Seq.{slice};
+ghost use Rattle.point_slices.specs.Holds.{HoldsFrom};
+ghost use Rattle.pair_lending.specs.Lent.{Matched, DirectionsKept, Put, Takeable};
 
 // The marks into w from `at` on.
 fn put_marks(w: &mut [u64], at: usize, marks: &[u8])
-    requires { ⌜ at + length (now marks) ≤ length (now w) ⌝ }
-    ensures { λ _. ⌜ HoldsFrom (now (w .exit)) (now (w .entry)) at (length (now (marks .entry))) (now (marks .entry)) ⌝ }
+    requires { at + length marks.now ≤ length w.old }
+    ensures { HoldsFrom w.new w.old at (length marks.now) marks.now }
 {
     let mut i = 0;
     while i < marks.len() {
@@ -21,8 +20,8 @@ fn put_marks(w: &mut [u64], at: usize, marks: &[u8])
 
 // The bits of the directions' numbers into w from `at` on.
 fn put_directions(w: &mut [u64], at: usize, directions: &[f64])
-    requires { ⌜ at + length (now directions) ≤ length (now w) ⌝ }
-    ensures { λ _. ⌜ DirectionsKept (now (w .exit)) (now (w .entry)) at (now (directions .entry)) ⌝ }
+    requires { at + length directions.now ≤ length w.old }
+    ensures { DirectionsKept w.new w.old at directions.now }
 {
     let mut i = 0;
     while i < directions.len() {
@@ -33,8 +32,8 @@ fn put_directions(w: &mut [u64], at: usize, directions: &[f64])
 
 // The piece numbers into w from `at` on.
 fn put_pieces(w: &mut [u64], at: usize, pieces: &[u32])
-    requires { ⌜ at + length (now pieces) ≤ length (now w) ⌝ }
-    ensures { λ _. ⌜ HoldsFrom (now (w .exit)) (now (w .entry)) at (length (now (pieces .entry))) (now (pieces .entry)) ⌝ }
+    requires { at + length pieces.now ≤ length w.old }
+    ensures { HoldsFrom w.new w.old at (length pieces.now) pieces.now }
 {
     let mut i = 0;
     while i < pieces.len() {
@@ -45,8 +44,8 @@ fn put_pieces(w: &mut [u64], at: usize, pieces: &[u32])
 
 // The lent ends into the workspace, where a route reads them.
 pub fn put_ends(w: &mut [u64], present: &[u8], directions: &[f64], pieces: &[u32])
-    requires { ⌜ Matched (now w) (now present) (now directions) (now pieces) ⌝ }
-    ensures { λ _. ⌜ Put (now (w .exit)) (now (w .entry)) (now (present .entry)) (now (directions .entry)) (now (pieces .entry)) ⌝ }
+    requires { Matched w.old present.now directions.now pieces.now }
+    ensures { Put w.new w.old present.now directions.now pieces.now }
 {
     let d = pieces.len();
     put_marks(w, 0, present);
@@ -56,8 +55,8 @@ pub fn put_ends(w: &mut [u64], present: &[u8], directions: &[f64], pieces: &[u32
 
 // The n words of w from `at` on to the beginning of the pairs.
 pub fn take_pairs(w: &[u64], at: usize, n: usize, pairs: &mut [u32])
-    requires { ⌜ Takeable (now w) at n (now pairs) ⌝ }
-    ensures { λ _. ⌜ now (pairs .exit) ≡ slice at (at + n) (now (w .entry)) ++ drop n (now (pairs .entry)) ⌝ }
+    requires { Takeable w.now at n pairs.old }
+    ensures { pairs.new ≡ slice at (at + n) w.now ++ drop n pairs.old }
 {
     let mut i = 0;
     while i < n {

@@ -1,86 +1,86 @@
 -- The angle of a direction by the cases of the code, and the turns of writing the keys: the three words of one end more are written, and those of the ends
 -- before it stay, since each end has three words of its own behind all that is read.
-use Prim.Native.Nat.{ℕ, _+_, _-_, _*_, _/_, _^_, _≤_, _<_}
-use mathlib.Core.Path.{_≡_, sym, _∙_, ap, ap₂}
+use Prim.Native.Nat.{ℕ, ◌+◌, ◌-◌, ◌*◌, ◌/◌, ◌^◌, ◌≤◌, ◌<◌}
+use mathlib.Core.Path.{◌≡◌, sym, ◌∙◌, ap, ap₂}
 use mathlib.Core.Bool.{true, false}
 use mathlib.Core.List.{List}
-use mathlib.Core.Logic.{⊎-elim}
+use mathlib.Core.Logic.{⊎_elim}
 use native.Mathlib.Omega.{arith}
 use lib.Ieee.{Float, binary64, add, sub, div, lt}
-use lib.ListN.{length, getD, set}
-use lib.Seq.{getD-set-same, getD-set-other}
-use Rattle·rules.specs.declared.Direction.{Direction}
-use Rattle·rules.specs.declared.Direction.the-variants.{Absent, Toward}
-use Rattle·rules.specs.Plane.{float, nought, unity}
-use Rattle·rules.specs.Layout.{given}
-use Rattle·float_order.specs.Key.{key}
-use Rattle·float_order.proofs.Pick.{chosen, other}
-use Rattle·pair_ends.specs.Blocks.{sortKeysFrom, groupsFrom}
-use Rattle·pair_ends.specs.Ends.{EndsRoom, directionAt}
-use Rattle·pair_tree.specs.Words.{Changes}
-use Rattle·pair_tree.proofs.Flat.{same-or}
-use Rattle·pair_tree.proofs.Words.{changes-none, changes-then, changes-wider, changes-set}
-use Rattle·pair_owners·specs.specs.Angles.{three, size-of, share-of, angle-toward, angle-along, angle-at, AngleKeyed, Keys}
+use lib.ListN.{length, get_or, set}
+use lib.Seq.{get_or-set_same, get_or-set_other}
+use Rattle.rules.specs.declared.Direction.{Direction}
+use Rattle.rules.specs.declared.Direction.TheVariants.{Absent, Toward}
+use Rattle.rules.specs.Plane.{float, nought, unity}
+use Rattle.rules.specs.Layout.{given}
+use Rattle.float_order.specs.Key.{key}
+use Rattle.float_order.proofs.Pick.{chosen, other}
+use Rattle.pair_ends.specs.Blocks.{sort_keys_from, groups_from}
+use Rattle.pair_ends.specs.Ends.{EndsRoom, direction_at}
+use Rattle.pair_tree.specs.Words.{Changes}
+use Rattle.pair_tree.proofs.Flat.{same_or}
+use Rattle.pair_tree.proofs.Words.{changes_none, changes_then, changes_wider, changes_set}
+use Rattle.pair_owners.specs.Angles.{three, size_of, share_of, angle_toward, angle_along, angle_at, AngleKeyed, Keys}
 
 -- ---- one direction
 
-module _ (x y : Float) {a b : Float} (p : a ≡ size-of x) (q : b ≡ size-of y) where
-  share : div binary64 x (add binary64 a b) ≡ share-of x y
-  unfolding share-of
+module _ (x y : Float) {a b : Float} (p : a ≡ size_of x) (q : b ≡ size_of y) where
+  share : div binary64 x (add binary64 a b) ≡ share_of x y
+  unfolding share_of
   share = ap₂ (λ (u v : Float). div binary64 x (add binary64 u v)) p q
 
-  pub angle-lower : {r : ℕ} → lt y nought ≡ true → r ≡ key (add binary64 three (div binary64 x (add binary64 a b))) / 2 → r ≡ angle-toward x y
-  unfolding angle-toward
-  angle-lower h e = e ∙ ap (λ (t : Float). key (add binary64 three t) / 2) share ∙ chosen (lt y nought) _ _ h
+  pub angle_lower : {r : ℕ} → lt y nought ≡ true → r ≡ key (add binary64 three (div binary64 x (add binary64 a b))) / 2 → r ≡ angle_toward x y
+  unfolding angle_toward
+  angle_lower h e = e ∙ ap (λ (t : Float). key (add binary64 three t) / 2) share ∙ chosen (lt y nought) _ _ h
 
-  pub angle-upper : {r : ℕ} → lt y nought ≡ false → r ≡ key (sub binary64 unity (div binary64 x (add binary64 a b))) / 2 → r ≡ angle-toward x y
-  unfolding angle-toward
-  angle-upper h e = e ∙ ap (λ (t : Float). key (sub binary64 unity t) / 2) share ∙ other (lt y nought) _ _ h
+  pub angle_upper : {r : ℕ} → lt y nought ≡ false → r ≡ key (sub binary64 unity (div binary64 x (add binary64 a b))) / 2 → r ≡ angle_toward x y
+  unfolding angle_toward
+  angle_upper h e = e ∙ ap (λ (t : Float). key (sub binary64 unity t) / 2) share ∙ other (lt y nought) _ _ h
 
-pub angle-none : {a b : Direction} → a ≡ b → a ≡ Absent → 2 ^ 64 - 1 ≡ angle-along b
-unfolding angle-along
-angle-none p q = ap angle-along (sym q ∙ p)
+pub angle_none : {a b : Direction} → a ≡ b → a ≡ Absent → 2 ^ 64 - 1 ≡ angle_along b
+unfolding angle_along
+angle_none p q = ap angle_along (sym q ∙ p)
 
-pub angle-some : {a b : Direction} {x y : Float} {r : ℕ} → a ≡ b → a ≡ Toward x y → r ≡ angle-toward x y → r ≡ angle-along b
-unfolding angle-along
-angle-some p q e = e ∙ ap angle-along (sym q ∙ p)
+pub angle_some : {a b : Direction} {x y : Float} {r : ℕ} → a ≡ b → a ≡ Toward x y → r ≡ angle_toward x y → r ≡ angle_along b
+unfolding angle_along
+angle_some p q e = e ∙ ap angle_along (sym q ∙ p)
 
 -- ---- the turns of writing the keys
 
 pub record Keying (w₀ w : List ℕ) (d e : ℕ) : Type 0 where
   pub within : e ≤ d
   pub each : (q : ℕ) → q < e → AngleKeyed w₀ w d q
-  pub kept : Changes w₀ w (d * sortKeysFrom) (d * groupsFrom)
+  pub kept : Changes w₀ w (d * sort_keys_from) (d * groups_from)
 
-pub keying-start : (w : List ℕ) (d : ℕ) → Keying w w d 0
-keying-start w d = record { within = omega arith; each = λ q h. absurd (omega arith); kept = changes-none w (d * sortKeysFrom) (d * groupsFrom) }
+pub keying_start : (w : List ℕ) (d : ℕ) → Keying w w d 0
+keying_start w d = record { within = omega arith; each = λ q h. absurd (omega arith); kept = changes_none w (d * sort_keys_from) (d * groups_from) }
 
-pub keying-stop : {w₀ w : List ℕ} {d e : ℕ} → Keying w₀ w d e → d ≤ e → Keys w₀ w d
-keying-stop s h = record { each = λ q k. s .each q (omega arith); kept = s .kept }
+pub keying_stop : {w₀ w : List ℕ} {d e : ℕ} → Keying w₀ w d e → d ≤ e → Keys w₀ w d
+keying_stop s h = record { each = λ q k. s.each q (omega arith); kept = s.kept }
 
 -- an end's direction is read before the keys
-direction-kept : {w₀ w : List ℕ} {d e : ℕ} → Changes w₀ w (d * sortKeysFrom) (d * groupsFrom) → e < d → directionAt w d e ≡ directionAt w₀ d e
-unfolding directionAt
-direction-kept {w₀} {w} {d} {e} c h = λ t. given (mark t) (float (x t)) (float (y t))
+direction_kept : {w₀ w : List ℕ} {d e : ℕ} → Changes w₀ w (d * sort_keys_from) (d * groups_from) → e < d → direction_at w d e ≡ direction_at w₀ d e
+unfolding direction_at
+direction_kept {w₀} {w} {d} {e} c h = λ t. given (mark t) (float (x t)) (float (y t))
   where
-    mark : getD w e 0 ≡ getD w₀ e 0
-    mark = c .below e (omega arith)
+    mark : get_or w e 0 ≡ get_or w₀ e 0
+    mark = c.below e (omega arith)
 
-    x : getD w (d + e * 2) 0 ≡ getD w₀ (d + e * 2) 0
-    x = c .below (d + e * 2) (omega arith)
+    x : get_or w (d + e * 2) 0 ≡ get_or w₀ (d + e * 2) 0
+    x = c.below (d + e * 2) (omega arith)
 
-    y : getD w (d + e * 2 + 1) 0 ≡ getD w₀ (d + e * 2 + 1) 0
-    y = c .below (d + e * 2 + 1) (omega arith)
+    y : get_or w (d + e * 2 + 1) 0 ≡ get_or w₀ (d + e * 2 + 1) 0
+    y = c.below (d + e * 2 + 1) (omega arith)
 
-module _ {w₀ w : List ℕ} {d e : ℕ} (room : EndsRoom w₀ d) (s : Keying w₀ w d e) (h : e < d) {r : ℕ} (told : r ≡ angle-at w d e) where
+module _ {w₀ w : List ℕ} {d e : ℕ} (room : EndsRoom w₀ d) (s : Keying w₀ w d e) (h : e < d) {r : ℕ} (told : r ≡ angle_at w d e) where
   abbrev k : ℕ
-  k = d * sortKeysFrom + e * 3
+  k = d * sort_keys_from + e * 3
 
   abbrev x : ℕ
-  x = getD w (d + e * 2) 0
+  x = get_or w (d + e * 2) 0
 
   abbrev y : ℕ
-  y = getD w (d + e * 2 + 1) 0
+  y = get_or w (d + e * 2 + 1) 0
 
   -- the three words that are written
   abbrev w₁ : List ℕ
@@ -93,46 +93,46 @@ module _ {w₀ w : List ℕ} {d e : ℕ} (room : EndsRoom w₀ d) (s : Keying w�
   w₃ = set w₂ (k + 2) y
 
   c₁ : Changes w w₁ k (k + 3)
-  c₁ = changes-set w k r k (k + 3) (omega arith) (omega arith)
+  c₁ = changes_set w k r k (k + 3) (omega arith) (omega arith)
 
   c₂ : Changes w₁ w₂ k (k + 3)
-  c₂ = changes-set w₁ (k + 1) x k (k + 3) (omega arith) (omega arith)
+  c₂ = changes_set w₁ (k + 1) x k (k + 3) (omega arith) (omega arith)
 
   written : Changes w w₃ k (k + 3)
-  written = changes-then c₁ (changes-then c₂ (changes-set w₂ (k + 2) y k (k + 3) (omega arith) (omega arith)))
+  written = changes_then c₁ (changes_then c₂ (changes_set w₂ (k + 2) y k (k + 3) (omega arith) (omega arith)))
 
   long : k + 3 ≤ length w
-  long = omega (arith, room .long, s .kept .long)
+  long = omega (arith, room.long, s.kept.long)
 
   here : AngleKeyed w₀ w₃ d e
   here =
       record {
         angle =
-            getD-set-other w₂ (k + 2) k y 0 (λ z. omega arith)
-            ∙ getD-set-other w₁ (k + 1) k x 0 (λ z. omega arith)
-            ∙ getD-set-same w k r 0 (omega (arith, long))
+            get_or-set_other w₂ (k + 2) k y 0 (λ z. omega arith)
+            ∙ get_or-set_other w₁ (k + 1) k x 0 (λ z. omega arith)
+            ∙ get_or-set_same w k r 0 (omega (arith, long))
             ∙ told
-            ∙ ap angle-along (direction-kept (s .kept) h);
+            ∙ ap angle_along (direction_kept s.kept h);
         first =
-            getD-set-other w₂ (k + 2) (k + 1) y 0 (λ z. omega arith)
-            ∙ getD-set-same w₁ (k + 1) x 0 (omega (arith, long, c₁ .long))
-            ∙ s .kept .below (d + e * 2) (omega arith);
-        second = getD-set-same w₂ (k + 2) y 0 (omega (arith, long, c₁ .long, c₂ .long)) ∙ s .kept .below (d + e * 2 + 1) (omega arith);
+            get_or-set_other w₂ (k + 2) (k + 1) y 0 (λ z. omega arith)
+            ∙ get_or-set_same w₁ (k + 1) x 0 (omega (arith, long, c₁.long))
+            ∙ s.kept.below (d + e * 2) (omega arith);
+        second = get_or-set_same w₂ (k + 2) y 0 (omega (arith, long, c₁.long, c₂.long)) ∙ s.kept.below (d + e * 2 + 1) (omega arith);
       }
 
   past : (q : ℕ) → q < e → AngleKeyed w₀ w₃ d q
   past q i =
-      let t = s .each q i in
+      let t = s.each q i in
       record {
-        angle = written .below (d * sortKeysFrom + q * 3) (omega arith) ∙ t .angle;
-        first = written .below (d * sortKeysFrom + q * 3 + 1) (omega arith) ∙ t .first;
-        second = written .below (d * sortKeysFrom + q * 3 + 2) (omega arith) ∙ t .second;
+        angle = written.below (d * sort_keys_from + q * 3) (omega arith) ∙ t.angle;
+        first = written.below (d * sort_keys_from + q * 3 + 1) (omega arith) ∙ t.first;
+        second = written.below (d * sort_keys_from + q * 3 + 2) (omega arith) ∙ t.second;
       }
 
-  pub keying-next : Keying w₀ w₃ d (e + 1)
-  keying-next =
+  pub keying_next : Keying w₀ w₃ d (e + 1)
+  keying_next =
       record {
         within = omega arith;
-        each = λ q i. ⊎-elim (λ (z : q ≡ e). rw z here) (λ (z : q ≡ e → ⊥). past q (omega arith)) (same-or q e);
-        kept = changes-then (s .kept) (changes-wider (d * sortKeysFrom) (d * groupsFrom) (omega arith) (omega arith) written);
+        each = λ q i. ⊎_elim (λ (z : q ≡ e). rw z here) (λ (z : q ≡ e → ⊥). past q (omega arith)) (same_or q e);
+        kept = changes_then s.kept (changes_wider (d * sort_keys_from) (d * groups_from) (omega arith) (omega arith) written);
       }

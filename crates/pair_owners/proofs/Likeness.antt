@@ -1,86 +1,86 @@
--- Two ends are alike where all tests of `alike-at` pass, and then they are `Like`. The first test that fails decides, and where the words agree the numbers do.
-use Prim.Native.Nat.{ℕ, _+_, _-_, _*_, _<_}
-use mathlib.Core.Path.{_≡_, sym, ap, _∙_}
-use mathlib.Core.Bool.{Bool, true, false, cond, _&&_}
+-- Two ends are alike where all tests of `alike_at` pass, and then they are `Like`. The first test that fails decides, and where the words agree the numbers do.
+use Prim.Native.Nat.{ℕ, ◌+◌, ◌-◌, ◌*◌, ◌<◌}
+use mathlib.Core.Path.{◌≡◌, sym, ap, ◌∙◌}
+use mathlib.Core.Bool.{Bool, true, false, cond, ◌&&◌}
 use mathlib.Core.List.{List}
-use native.Mathlib.Nat.{pos-of-ne-zero}
+use native.Mathlib.Nat.{pos_of_ne-zero}
 use native.Mathlib.Omega.{arith}
 use lib.Dec.{eqb, ltb}
-use lib.ListN.{getD}
-use borrow.Author.Tests.{eq-eqb, ne-eqb, eqb-true, ltb-true, lt-ltb, le-ltb}
-use Rattle·pair_laws.proofs.Order.{and-left, and-right}
-use Rattle·pair_ends.specs.Ends.{EndsRoom, endsIn}
-use Rattle·pair_owners·specs.specs.Tables.{order-at, group-at, Like, alike-at, group-of}
-use Rattle·pair_owners·proofs.proofs.Turns.{like}
+use lib.ListN.{get_or}
+use borrow.Author.Tests.{eq-eqb, ne_eqb, eqb-true, ltb-true, lt-ltb, le-ltb}
+use Rattle.pair_laws.proofs.Order.{and_left, and_right}
+use Rattle.pair_ends.specs.Ends.{EndsRoom, ends_in}
+use Rattle.pair_owners.specs.Tables.{order_at, group_at, Like, alike_at, group_of}
+use Rattle.pair_owners.proofs.Turns.{like}
 
 module _ (w : List ℕ) (d a e : ℕ) where
-  pub first-absent : (getD w a 0 ≡ 1 → ⊥) → false ≡ alike-at w d a e
-  unfolding alike-at
-  first-absent p = rw (ne-eqb (getD w a 0) 1 p)
+  pub first_absent : (get_or w a 0 ≡ 1 → ⊥) → false ≡ alike_at w d a e
+  unfolding alike_at
+  first_absent p = rw (ne_eqb (get_or w a 0) 1 p)
 
-  module _ (p : getD w a 0 ≡ 1) where
-    pub second-absent : (getD w e 0 ≡ 1 → ⊥) → false ≡ alike-at w d a e
-    unfolding alike-at
-    second-absent q = rw (eq-eqb (getD w a 0) 1 p, ne-eqb (getD w e 0) 1 q)
+  module _ (p : get_or w a 0 ≡ 1) where
+    pub second_absent : (get_or w e 0 ≡ 1 → ⊥) → false ≡ alike_at w d a e
+    unfolding alike_at
+    second_absent q = rw (eq-eqb (get_or w a 0) 1 p, ne_eqb (get_or w e 0) 1 q)
 
-    module _ (q : getD w e 0 ≡ 1) where
-      pub first-differs : (getD w (d + a * 2) 0 ≡ getD w (d + e * 2) 0 → ⊥) → false ≡ alike-at w d a e
-      unfolding alike-at
-      first-differs x = rw (eq-eqb (getD w a 0) 1 p, eq-eqb (getD w e 0) 1 q, ne-eqb (getD w (d + a * 2) 0) (getD w (d + e * 2) 0) x)
+    module _ (q : get_or w e 0 ≡ 1) where
+      pub first_differs : (get_or w (d + a * 2) 0 ≡ get_or w (d + e * 2) 0 → ⊥) → false ≡ alike_at w d a e
+      unfolding alike_at
+      first_differs x = rw (eq-eqb (get_or w a 0) 1 p, eq-eqb (get_or w e 0) 1 q, ne_eqb (get_or w (d + a * 2) 0) (get_or w (d + e * 2) 0) x)
 
-      module _ (x : getD w (d + a * 2) 0 ≡ getD w (d + e * 2) 0) where
-        pub second-differs : (getD w (d + a * 2 + 1) 0 ≡ getD w (d + e * 2 + 1) 0 → ⊥) → false ≡ alike-at w d a e
-        unfolding alike-at
-        second-differs y =
+      module _ (x : get_or w (d + a * 2) 0 ≡ get_or w (d + e * 2) 0) where
+        pub second_differs : (get_or w (d + a * 2 + 1) 0 ≡ get_or w (d + e * 2 + 1) 0 → ⊥) → false ≡ alike_at w d a e
+        unfolding alike_at
+        second_differs y =
             rw (
-              eq-eqb (getD w a 0) 1 p,
-              eq-eqb (getD w e 0) 1 q,
-              eq-eqb (getD w (d + a * 2) 0) (getD w (d + e * 2) 0) x,
-              ne-eqb (getD w (d + a * 2 + 1) 0) (getD w (d + e * 2 + 1) 0) y,
+              eq-eqb (get_or w a 0) 1 p,
+              eq-eqb (get_or w e 0) 1 q,
+              eq-eqb (get_or w (d + a * 2) 0) (get_or w (d + e * 2) 0) x,
+              ne_eqb (get_or w (d + a * 2 + 1) 0) (get_or w (d + e * 2 + 1) 0) y,
             )
 
-        pub lower-decides : getD w (d + a * 2 + 1) 0 ≡ getD w (d + e * 2 + 1) 0 → ltb a e ≡ alike-at w d a e
-        unfolding alike-at
-        lower-decides y =
+        pub lower_decides : get_or w (d + a * 2 + 1) 0 ≡ get_or w (d + e * 2 + 1) 0 → ltb a e ≡ alike_at w d a e
+        unfolding alike_at
+        lower_decides y =
             rw (
-              eq-eqb (getD w a 0) 1 p,
-              eq-eqb (getD w e 0) 1 q,
-              eq-eqb (getD w (d + a * 2) 0) (getD w (d + e * 2) 0) x,
-              eq-eqb (getD w (d + a * 2 + 1) 0) (getD w (d + e * 2 + 1) 0) y,
+              eq-eqb (get_or w a 0) 1 p,
+              eq-eqb (get_or w e 0) 1 q,
+              eq-eqb (get_or w (d + a * 2) 0) (get_or w (d + e * 2) 0) x,
+              eq-eqb (get_or w (d + a * 2 + 1) 0) (get_or w (d + e * 2 + 1) 0) y,
             )
 
-  pub alike-like : EndsRoom w d → a < d → e < d → alike-at w d a e ≡ true → Like (endsIn w d) a e
-  unfolding alike-at
-  alike-like room i j t =
-      let first = eqb (getD w a 0) 1 in
-      let second = eqb (getD w e 0) 1 in
-      let x = eqb (getD w (d + a * 2) 0) (getD w (d + e * 2) 0) in
-      let y = eqb (getD w (d + a * 2 + 1) 0) (getD w (d + e * 2 + 1) 0) in
-      let past-first = and-right first (second && (x && (y && ltb a e))) t in
-      let past-second = and-right second (x && (y && ltb a e)) past-first in
-      let past-x = and-right x (y && ltb a e) past-second in
-      like w d room a e i j (eqb-true (getD w a 0) 1 (and-left first (second && (x && (y && ltb a e))) t))
-      (eqb-true (getD w e 0) 1 (and-left second (x && (y && ltb a e)) past-first))
-      (eqb-true (getD w (d + a * 2) 0) (getD w (d + e * 2) 0) (and-left x (y && ltb a e) past-second))
-      (eqb-true (getD w (d + a * 2 + 1) 0) (getD w (d + e * 2 + 1) 0) (and-left y (ltb a e) past-x))
-      (ltb-true a e (and-right y (ltb a e) past-x))
+  pub alike_like : EndsRoom w d → a < d → e < d → alike_at w d a e ≡ true → Like (ends_in w d) a e
+  unfolding alike_at
+  alike_like room i j t =
+      let first = eqb (get_or w a 0) 1 in
+      let second = eqb (get_or w e 0) 1 in
+      let x = eqb (get_or w (d + a * 2) 0) (get_or w (d + e * 2) 0) in
+      let y = eqb (get_or w (d + a * 2 + 1) 0) (get_or w (d + e * 2 + 1) 0) in
+      let past_first = and_right first (second && (x && (y && ltb a e))) t in
+      let past-second = and_right second (x && (y && ltb a e)) past_first in
+      let past_x = and_right x (y && ltb a e) past-second in
+      like w d room a e i j (eqb-true (get_or w a 0) 1 (and_left first (second && (x && (y && ltb a e))) t))
+      (eqb-true (get_or w e 0) 1 (and_left second (x && (y && ltb a e)) past_first))
+      (eqb-true (get_or w (d + a * 2) 0) (get_or w (d + e * 2) 0) (and_left x (y && ltb a e) past-second))
+      (eqb-true (get_or w (d + a * 2 + 1) 0) (get_or w (d + e * 2 + 1) 0) (and_left y (ltb a e) past_x))
+      (ltb-true a e (and_right y (ltb a e) past_x))
 
 -- ---- the group at a position
 
 module _ (w : List ℕ) (d p : ℕ) where
-  chosen : {b : Bool} → (ltb 0 p && alike-at w d (order-at w d (p - 1)) (order-at w d p)) ≡ b → cond b (group-at w d (order-at w d (p - 1))) p ≡ group-of w d p
-  unfolding group-of
-  chosen e = ap (λ (t : Bool). cond t (group-at w d (order-at w d (p - 1))) p) (sym e)
+  chosen : {b : Bool} → (ltb 0 p && alike_at w d (order_at w d (p - 1)) (order_at w d p)) ≡ b → cond b (group_at w d (order_at w d (p - 1))) p ≡ group_of w d p
+  unfolding group_of
+  chosen e = ap (λ (t : Bool). cond t (group_at w d (order_at w d (p - 1))) p) (sym e)
 
-  pub group-first : p ≡ 0 → 0 ≡ group-of w d p
-  group-first e = sym e ∙ chosen {b = false} (ap (λ (t : Bool). t && alike-at w d (order-at w d (p - 1)) (order-at w d p)) (le-ltb 0 p (omega arith)))
+  pub group_first : p ≡ 0 → 0 ≡ group_of w d p
+  group_first e = sym e ∙ chosen {b = false} (ap (λ (t : Bool). t && alike_at w d (order_at w d (p - 1)) (order_at w d p)) (le-ltb 0 p (omega arith)))
 
   module _ (some : p ≡ 0 → ⊥) where
-    positive : {b : Bool} → alike-at w d (order-at w d (p - 1)) (order-at w d p) ≡ b → (ltb 0 p && alike-at w d (order-at w d (p - 1)) (order-at w d p)) ≡ b
-    positive e = ap (λ (t : Bool). t && alike-at w d (order-at w d (p - 1)) (order-at w d p)) (lt-ltb 0 p (pos-of-ne-zero some)) ∙ e
+    positive : {b : Bool} → alike_at w d (order_at w d (p - 1)) (order_at w d p) ≡ b → (ltb 0 p && alike_at w d (order_at w d (p - 1)) (order_at w d p)) ≡ b
+    positive e = ap (λ (t : Bool). t && alike_at w d (order_at w d (p - 1)) (order_at w d p)) (lt-ltb 0 p (pos_of_ne-zero some)) ∙ e
 
-    pub group-alike : {t : Bool} → t ≡ alike-at w d (order-at w d (p - 1)) (order-at w d p) → t ≡ true → group-at w d (order-at w d (p - 1)) ≡ group-of w d p
-    group-alike q e = chosen {b = true} (positive (sym q ∙ e))
+    pub group_alike : {t : Bool} → t ≡ alike_at w d (order_at w d (p - 1)) (order_at w d p) → t ≡ true → group_at w d (order_at w d (p - 1)) ≡ group_of w d p
+    group_alike q e = chosen {b = true} (positive (sym q ∙ e))
 
-    pub group-own : {t : Bool} → t ≡ alike-at w d (order-at w d (p - 1)) (order-at w d p) → t ≡ false → p ≡ group-of w d p
-    group-own q e = chosen {b = false} (positive (sym q ∙ e))
+    pub group_own : {t : Bool} → t ≡ alike_at w d (order_at w d (p - 1)) (order_at w d p) → t ≡ false → p ≡ group_of w d p
+    group_own q e = chosen {b = false} (positive (sym q ∙ e))

@@ -1,14 +1,10 @@
 -- Which ends are owners, why they are enough, and how many there are: each free end that is none comes, in its group, after two owners, and no group has a third.
 -- `used` says which ends are taken, `gone` which of these have handed on their slots.
-use Prim.Native.Nat.{ℕ, zero, suc, _+_, _≤_, _<_}
-use mathlib.Core.Path.{_≡_}
-use mathlib.Core.Bool.{Bool, true, false, not, _&&_, _||_}
-use mathlib.Core.List.{List}
-use lib.Dec.{eqb, ltb}
-use Rattle·rules.specs.Lists.{one}
-use Rattle·rules.specs.Selecting.{End}
-use Rattle·pair_laws.proofs.Owners.{There}
-use Rattle·pair_owners·specs.specs.Tables.{owners}
+use Rattle.std.specs.Prelude.{ℕ, zero, suc, ◌+◌, ◌≤◌, ◌<◌, ◌≡◌, Bool, true, false, not, ◌&&◌, ◌||◌, List, eqb, ltb}
+use Rattle.rules.specs.Lists.{one}
+use Rattle.rules.specs.Selecting.{End}
+use Rattle.pair_laws.proofs.Owners.{There}
+use Rattle.pair_owners.specs.Tables.{owners}
 
 -- how many of the numbers below n pass
 unfoldable pub tally : (ℕ → Bool) → ℕ → ℕ

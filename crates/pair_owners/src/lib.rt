@@ -1,34 +1,29 @@
 // The owners: of the free ends of one direction the first two have a slot in the heap each. Ends are ordered by angle, so that those of one direction stand
 // together, and near directions near each other.
-use pair_ends::CURSORS;
-use pair_ends::GROUPS;
-use pair_ends::MARKS;
-use pair_ends::ORDER;
-use pair_ends::SLOTS;
-use pair_ends::SORT_KEYS;
+#![tactic(auto)]
+
+ghost use Rattle.std.specs.Prelude.{◌≡◌, cond, ◌+◌, ◌*◌, ◌<◌, ◌≤◌, eqb};
+ghost use Rattle.rules.specs.Refusals.{most_ends};
+ghost use Rattle.pair_ends.specs.Ends.{EndsRoom};
+ghost use Rattle.pair_owners.specs.Tables.{order_at, alike_at, group_of, Together, TablesSorted, Grouped, Slotted, Groups, Due};
+ghost use Rattle.pair_owners.specs.Angles.{size_of, angle_toward, angle_at, Keys};
+
+use pair_ends::{CURSORS, GROUPS, MARKS, ORDER, SLOTS, SORT_KEYS};
 use rules::Direction;
-ghost use mathlib.Core.Path.{_≡_};
-ghost use mathlib.Core.Bool.{cond};
-ghost use Prim.Native.Nat.{_+_, _*_, _<_, _≤_};
-ghost use lib.Dec.{eqb};
-ghost use Rattle·rules.specs.Refusals.{mostEnds};
-ghost use Rattle·pair_ends.specs.Ends.{EndsRoom};
-ghost use Rattle·pair_owners·specs.specs.Tables.{order-at, alike-at, group-of, Together, TablesSorted, Grouped, Slotted, Groups, Due};
-ghost use Rattle·pair_owners·specs.specs.Angles.{size-of, angle-toward, angle-at, Keys};
 
 // How many ends of one direction are owners.
 const OWNERS: usize = 2;
 
 // The greater of x and -x.
 fn size(x: f64) -> f64
-    ensures { λ r. ⌜ r ≡ size-of x ⌝ }
+    ensures { result ≡ size_of x }
 {
     if x < 0.0 { 0.0 - x } else { x }
 }
 
 // Where a direction stands on the way round: half a key, so that it is below that of an absent one.
 fn angle(x: f64, y: f64) -> u64
-    ensures { λ r. ⌜ r ≡ angle-toward x y ⌝ }
+    ensures { result ≡ angle_toward x y }
 {
     let t = x / (size(x) + size(y));
     if y < 0.0 {
@@ -39,8 +34,8 @@ fn angle(x: f64, y: f64) -> u64
 
 // The angle of end e; where it has no direction, one behind all others.
 fn angle_of(w: &[u64], d: usize, e: usize) -> u64
-    requires { ⌜ EndsRoom (now w) d × (e < d) ⌝ }
-    ensures { λ r. ⌜ r ≡ angle-at (now (w .entry)) d e ⌝ }
+    requires { EndsRoom w.now d × (e < d) }
+    ensures { result ≡ angle_at w.now d e }
 {
     let Direction::Toward(x, y) = pair_ends::direction_at(w, d, e) else {
         return float_order::GREATEST;
@@ -50,8 +45,8 @@ fn angle_of(w: &[u64], d: usize, e: usize) -> u64
 
 // The keys that the ends are sorted by: the angle, and then the direction's bits.
 pub fn keys(w: &mut [u64], d: usize)
-    requires { ⌜ EndsRoom (now w) d ⌝ }
-    ensures { λ r. ⌜ Keys (now (w .entry)) (now (w .exit)) d ⌝ }
+    requires { EndsRoom w.old d }
+    ensures { Keys w.old w.new d }
 {
     let mut e = 0;
     while e < d {
@@ -67,8 +62,8 @@ pub fn keys(w: &mut [u64], d: usize)
 
 // Whether the ends a and e, the lower first, have one direction, bit for bit.
 fn alike(w: &[u64], d: usize, a: usize, e: usize) -> bool
-    requires { ⌜ EndsRoom (now w) d × (a < d) × (e < d) ⌝ }
-    ensures { λ r. ⌜ r ≡ alike-at (now (w .entry)) d a e ⌝ }
+    requires { EndsRoom w.now d × (a < d) × (e < d) }
+    ensures { result ≡ alike_at w.now d a e }
 {
     if w[a] != 1 {
         return false;
@@ -87,8 +82,8 @@ fn alike(w: &[u64], d: usize, a: usize, e: usize) -> bool
 
 // The group of the end at position p, which is the position of the group's first end.
 fn group(w: &[u64], d: usize, p: usize) -> u64
-    requires { ⌜ TablesSorted (now w) d × (p < d) ⌝ }
-    ensures { λ r. ⌜ (r ≡ group-of (now (w .entry)) d p) × Grouped (now (w .entry)) d p r ⌝ }
+    requires { TablesSorted w.now d × (p < d) }
+    ensures { (result ≡ group_of w.now d p) × Grouped w.now d p result }
 {
     if p == 0 {
         return 0;
@@ -104,8 +99,8 @@ fn group(w: &[u64], d: usize, p: usize) -> u64
 
 // The slot m for the end at position p, of group g, if it is one of the first owners; d for none.
 fn slot(w: &[u64], d: usize, p: usize, g: u64, m: usize) -> usize
-    requires { ⌜ TablesSorted (now w) d × (p < d) × (g ≤ p) ⌝ }
-    ensures { λ r. ⌜ Slotted (now (w .entry)) d p g m r ⌝ }
+    requires { TablesSorted w.now d × (p < d) × (g ≤ p) }
+    ensures { Slotted w.now d p g m result }
 {
     let e = w[d * ORDER + p] as usize;
     if w[e] != 1 {
@@ -119,8 +114,8 @@ fn slot(w: &[u64], d: usize, p: usize, g: u64, m: usize) -> usize
 
 // One more than m, if that is the slot s.
 fn counted(m: usize, s: usize) -> usize
-    requires { ⌜ m < mostEnds ⌝ }
-    ensures { λ r. ⌜ r ≡ cond (eqb m s) (m + 1) m ⌝ }
+    requires { m < most_ends }
+    ensures { result ≡ cond (eqb m s) (m + 1) m }
 {
     if m == s {
         return m + 1;
@@ -130,8 +125,8 @@ fn counted(m: usize, s: usize) -> usize
 
 // The groups, their cursors, and the slots of the first owners; how many these are.
 pub fn groups(w: &mut [u64], d: usize) -> usize
-    requires { ⌜ TablesSorted (now w) d × Together (now w) d (order-at (now w) d) ⌝ }
-    ensures { λ r. ⌜ Groups (now (w .entry)) (now (w .exit)) d r ⌝ }
+    requires { TablesSorted w.old d × Together w.old d (order_at w.old d) }
+    ensures { Groups w.old w.new d result }
 {
     let mut m = 0;
     let mut p = 0;
@@ -150,8 +145,8 @@ pub fn groups(w: &mut [u64], d: usize) -> usize
 
 // The first position from `from` on with a free end of group g, where only taken ends stand before it; d where there is none.
 pub fn due(w: &[u64], d: usize, g: u64, from: usize) -> usize
-    requires { ⌜ TablesSorted (now w) d ⌝ }
-    ensures { λ r. ⌜ Due (now (w .entry)) d g from r ⌝ }
+    requires { TablesSorted w.now d }
+    ensures { Due w.now d g from result }
 {
     let mut c = from;
     while c < d {

@@ -1,29 +1,25 @@
 // The plain route. Each row, the pairs (i, j) of an end i with the ends j above it, holds the first free qualifying pair that was last found there. The least pair
 // held is taken; if its partner has gone meanwhile, its row is gone through again. Rows stand in blocks, and the least key of each block is kept beside them, so
 // that the least pair is found without asking every row; where one block would do there is none.
+#![tactic(auto)]
+
+ghost use Rattle.std.specs.Prelude.{◌≡◌, false, ◌+◌, ◌*◌, ◌/◌, ◌<◌, ◌≤◌, length};
+ghost use Rattle.rules.specs.Refusals.{most_ends, limit_bad};
+ghost use Rattle.float_order.specs.Key.{key};
+ghost use Rattle.pair_ends.specs.Blocks.{row_keys_from};
+ghost use Rattle.pair_ends.specs.Ends.{EndsRoom, Selected};
+ghost use Rattle.pair_first_of_end.specs.Row.{RowReady};
+ghost use Rattle.pair_plain.specs.Lows.{lesser_of, IsLow, upper_of, blocks_of, LowsSettled, Lows, all};
+ghost use Rattle.pair_plain.specs.Steps.{mark_of, Marked, Playable, Renewed, Rows, Levelled, taken_from};
+
 use float_order::GREATEST;
-use pair_ends::LOWS;
-use pair_ends::MARKS;
-use pair_ends::PAIRS;
-use pair_ends::PARTNERS;
-use pair_ends::ROW_KEYS;
-use pair_ends::TOPS;
-ghost use mathlib.Core.Path.{_≡_};
-ghost use mathlib.Core.Bool.{false};
-ghost use Prim.Native.Nat.{_+_, _*_, _/_, _<_, _≤_};
-ghost use lib.ListN.{length};
-ghost use Rattle·rules.specs.Refusals.{mostEnds, limitBad};
-ghost use Rattle·float_order.specs.Key.{key};
-ghost use Rattle·pair_ends.specs.Blocks.{rowKeysFrom};
-ghost use Rattle·pair_ends.specs.Ends.{EndsRoom, Selected};
-ghost use Rattle·pair_first_of_end.specs.Row.{RowReady};
-ghost use Rattle·pair_plain·specs.specs.Lows.{lesserOf, IsLow, upperOf, blocksOf, LowsSettled, Lows, all};
-ghost use Rattle·pair_plain·specs.specs.Steps.{markOf, Marked, Playable, Renewed, Rows, Levelled, takenFrom};
+use pair_ends::{LOWS, MARKS, PAIRS, PARTNERS, ROW_KEYS, TOPS};
 
 // How many rows a block has.
 const BLOCK: usize = 16;
 
 // The least of some keys, and where it stands.
+#[derive(Clone, Copy)]
 pub struct Low {
     pub key: u64,
     pub place: usize,
@@ -31,7 +27,7 @@ pub struct Low {
 
 // The lesser of a least key and a key that stands after it.
 fn lesser(low: Low, key: u64, place: usize) -> Low
-    ensures { λ r. ⌜ r ≡ lesserOf low key place ⌝ }
+    ensures { result ≡ lesser_of low key place }
 {
     if key < low.key {
         return Low { key, place };
@@ -41,8 +37,8 @@ fn lesser(low: Low, key: u64, place: usize) -> Low
 
 // The least of the keys from `from` to `to` in the region that begins at `at`, and of equals the first.
 fn least(w: &[u64], at: usize, from: usize, to: usize) -> Low
-    requires { ⌜ (from ≤ to) × (at + to ≤ length (now w)) ⌝ }
-    ensures { λ r. ⌜ IsLow (now (w .entry)) at from to r ⌝ }
+    requires { (from ≤ to) × (at + to ≤ length w.now) }
+    ensures { IsLow w.now at from to result }
 {
     let mut low = Low {
         key: GREATEST,
@@ -58,16 +54,16 @@ fn least(w: &[u64], at: usize, from: usize, to: usize) -> Low
 
 // How many blocks d rows make.
 fn blocks(d: usize) -> usize
-    requires { ⌜ d ≤ mostEnds ⌝ }
-    ensures { λ r. ⌜ r ≡ blocksOf d ⌝ }
+    requires { d ≤ most_ends }
+    ensures { result ≡ blocks_of d }
 {
     (d + 15) / BLOCK
 }
 
 // Where block b of d rows ends.
 fn upper(d: usize, b: usize) -> usize
-    requires { ⌜ b < mostEnds ⌝ }
-    ensures { λ r. ⌜ r ≡ upperOf d b ⌝ }
+    requires { b < most_ends }
+    ensures { result ≡ upper_of d b }
 {
     let end = b * BLOCK + BLOCK;
     if end < d {
@@ -78,8 +74,8 @@ fn upper(d: usize, b: usize) -> usize
 
 // The least key of block b, found anew.
 fn settle(w: &mut [u64], d: usize, b: usize)
-    requires { ⌜ EndsRoom (now w) d × (b < blocksOf d) ⌝ }
-    ensures { λ _. ⌜ LowsSettled (now (w .entry)) d b (now (w .exit)) ⌝ }
+    requires { EndsRoom w.old d × (b < blocks_of d) }
+    ensures { LowsSettled w.old d b w.new }
 {
     let low = least(w, d * ROW_KEYS, b * BLOCK, upper(d, b));
     w[d * LOWS + b] = low.key;
@@ -88,8 +84,8 @@ fn settle(w: &mut [u64], d: usize, b: usize)
 
 // The least key of all rows, and its row.
 fn top(w: &[u64], d: usize) -> Low
-    requires { ⌜ EndsRoom (now w) d × Lows (now w) d all ⌝ }
-    ensures { λ r. ⌜ IsLow (now (w .entry)) (d * rowKeysFrom) 0 d r ⌝ }
+    requires { EndsRoom w.now d × Lows w.now d all }
+    ensures { IsLow w.now (d * row_keys_from) 0 d result }
 {
     let low = least(w, d * LOWS, 0, blocks(d));
     if low.key == GREATEST {
@@ -104,8 +100,8 @@ fn top(w: &[u64], d: usize) -> Low
 
 // The mark of end e before any is taken.
 fn mark(w: &[u64], d: usize, e: usize) -> u64
-    requires { ⌜ EndsRoom (now w) d × (e < d) ⌝ }
-    ensures { λ r. ⌜ r ≡ markOf (now (w .entry)) d e ⌝ }
+    requires { EndsRoom w.now d × (e < d) }
+    ensures { result ≡ mark_of w.now d e }
 {
     if pair_first_of_end::is_numbered(w, d, e) {
         return 0;
@@ -115,8 +111,8 @@ fn mark(w: &[u64], d: usize, e: usize) -> u64
 
 // The marks before any end is taken.
 fn mark_all(w: &mut [u64], d: usize)
-    requires { ⌜ EndsRoom (now w) d ⌝ }
-    ensures { λ _. ⌜ Marked (now (w .entry)) d (now (w .exit)) ⌝ }
+    requires { EndsRoom w.old d }
+    ensures { Marked w.old d w.new }
 {
     let mut e = 0;
     while e < d {
@@ -127,8 +123,8 @@ fn mark_all(w: &mut [u64], d: usize)
 
 // What row i holds, found anew.
 fn renew(w: &mut [u64], d: usize, limit: f64, i: usize)
-    requires { ⌜ RowReady (now w) d limit i ⌝ }
-    ensures { λ _. ⌜ Renewed (now (w .entry)) d limit i (now (w .exit)) ⌝ }
+    requires { RowReady w.old d limit i }
+    ensures { Renewed w.old d limit i w.new }
 {
     let held = pair_first_of_end::first_of(w, d, limit, i);
     w[d * ROW_KEYS + i] = held.key;
@@ -137,8 +133,8 @@ fn renew(w: &mut [u64], d: usize, limit: f64, i: usize)
 
 // What each row holds.
 fn renew_all(w: &mut [u64], d: usize, limit: f64)
-    requires { ⌜ Playable (now w) d limit ⌝ }
-    ensures { λ _. ⌜ Rows (now (w .entry)) d limit d (now (w .exit)) ⌝ }
+    requires { Playable w.old d limit }
+    ensures { Rows w.old d limit d w.new }
 {
     let mut i = 0;
     while i < d {
@@ -149,8 +145,8 @@ fn renew_all(w: &mut [u64], d: usize, limit: f64)
 
 // The least key of each block.
 fn settle_all(w: &mut [u64], d: usize)
-    requires { ⌜ EndsRoom (now w) d ⌝ }
-    ensures { λ _. ⌜ Levelled (now (w .entry)) d (now (w .exit)) ⌝ }
+    requires { EndsRoom w.old d }
+    ensures { Levelled w.old d w.new }
 {
     let n = blocks(d);
     let mut b = 0;
@@ -162,8 +158,8 @@ fn settle_all(w: &mut [u64], d: usize)
 
 // Pair n is (i, j), and its two ends are taken.
 fn take(w: &mut [u64], d: usize, n: usize, i: usize, j: usize)
-    requires { ⌜ EndsRoom (now w) d × (n * 2 + 2 ≤ d) × (i < d) × (j < d) ⌝ }
-    ensures { λ _. ⌜ now (w .exit) ≡ takenFrom (now (w .entry)) d n i j ⌝ }
+    requires { EndsRoom w.old d × (n * 2 + 2 ≤ d) × (i < d) × (j < d) }
+    ensures { w.new ≡ taken_from w.old d n i j }
 {
     w[d * PAIRS + n * 2] = i as u64;
     w[d * PAIRS + n * 2 + 1] = j as u64;
@@ -175,8 +171,8 @@ fn take(w: &mut [u64], d: usize, n: usize, i: usize, j: usize)
 
 // The selected pairs of d ends whose rows are few: the least key is found by asking every row.
 fn few(w: &mut [u64], d: usize, limit: f64) -> usize
-    requires { ⌜ EndsRoom (now w) d × (limitBad limit ≡ false) ⌝ }
-    ensures { λ r. ⌜ Selected (now (w .entry)) d (key limit) r (now (w .exit)) ⌝ }
+    requires { EndsRoom w.old d × (limit_bad limit ≡ false) }
+    ensures { Selected w.old d (key limit) result w.new }
 {
     mark_all(w, d);
     renew_all(w, d, limit);
@@ -201,8 +197,8 @@ fn few(w: &mut [u64], d: usize, limit: f64) -> usize
 
 // The selected pairs of d ends whose rows stand in blocks.
 fn many(w: &mut [u64], d: usize, limit: f64) -> usize
-    requires { ⌜ EndsRoom (now w) d × (limitBad limit ≡ false) ⌝ }
-    ensures { λ r. ⌜ Selected (now (w .entry)) d (key limit) r (now (w .exit)) ⌝ }
+    requires { EndsRoom w.old d × (limit_bad limit ≡ false) }
+    ensures { Selected w.old d (key limit) result w.new }
 {
     mark_all(w, d);
     renew_all(w, d, limit);
@@ -230,8 +226,8 @@ fn many(w: &mut [u64], d: usize, limit: f64) -> usize
 
 // The selected pairs of the d ends in the workspace, listed behind the piece numbers. Returns how many there are.
 pub fn plain(w: &mut [u64], d: usize, limit: f64) -> usize
-    requires { ⌜ EndsRoom (now w) d × (limitBad limit ≡ false) ⌝ }
-    ensures { λ r. ⌜ Selected (now (w .entry)) d (key limit) r (now (w .exit)) ⌝ }
+    requires { EndsRoom w.old d × (limit_bad limit ≡ false) }
+    ensures { Selected w.old d (key limit) result w.new }
 {
     if d <= BLOCK {
         return few(w, d, limit);

@@ -1,24 +1,22 @@
 // The refusals of pairing, in the order of checking.
-use rules::END_ROOM;
-use rules::MOST_ENDS;
-ghost use mathlib.Core.Path.{_≡_};
-ghost use mathlib.Core.Bool.{not, _&&_, _||_};
-ghost use Prim.Native.Nat.{_*_, _≤_, _<_};
-ghost use lib.Dec.{eqb, ltb};
-ghost use lib.Ieee.Scale.{finite};
-ghost use lib.ListN.{length, take};
-ghost use Rattle·rules.specs.Lists.{count};
-ghost use Rattle·rules.specs.Refusals.{mostEnds, endRoom, moreThanTwice, anyWild};
-ghost use Rattle·pair_refusals·specs.specs.Linked.{bucketOf, LinkedChain};
-ghost use Rattle·pair_refusals·specs.specs.Ladder.{pairRefusalBy};
+#![tactic(auto)]
+
+ghost use Rattle.std.specs.Prelude.{◌≡◌, not, ◌&&◌, ◌||◌, ◌*◌, ◌≤◌, ◌<◌, eqb, ltb, length, take};
+ghost use Rattle.std.specs.Float.Ieee.Scale.{finite};
+ghost use Rattle.rules.specs.Lists.{count};
+ghost use Rattle.rules.specs.Refusals.{most_ends, end_room, more_than_twice, any_wild};
+ghost use Rattle.pair_refusals.specs.Linked.{bucket_of, LinkedChain};
+ghost use Rattle.pair_refusals.specs.Ladder.{pair_refusal_by};
+
+use rules::{END_ROOM, MOST_ENDS};
 
 // Below so many pieces each is compared with all before it.
 const FEW: usize = 80;
 
 // Whether the marks are not as many as the ends, or the directions' numbers not twice as many.
 fn tables_differ(d: usize, present: usize, directions: usize) -> bool
-    requires { ⌜ d ≤ mostEnds ⌝ }
-    ensures { λ r. ⌜ r ≡ not (eqb present d) || not (eqb directions (d * 2)) ⌝ }
+    requires { d ≤ most_ends }
+    ensures { result ≡ not (eqb present d) || not (eqb directions (d * 2)) }
 {
     if present != d {
         return true;
@@ -28,8 +26,8 @@ fn tables_differ(d: usize, present: usize, directions: usize) -> bool
 
 // Whether a room is shorter than d ends ask for.
 fn room_short(d: usize, pairs: usize, workspace: usize) -> bool
-    requires { ⌜ d ≤ mostEnds ⌝ }
-    ensures { λ r. ⌜ r ≡ ltb pairs d || ltb workspace (d * endRoom) ⌝ }
+    requires { d ≤ most_ends }
+    ensures { result ≡ ltb pairs d || ltb workspace (d * end_room) }
 {
     if pairs < d {
         return true;
@@ -39,8 +37,8 @@ fn room_short(d: usize, pairs: usize, workspace: usize) -> bool
 
 // How often p stands among the first n pieces.
 fn times_before(pieces: &[u32], n: usize, p: u32) -> usize
-    requires { ⌜ n ≤ length (now pieces) ⌝ }
-    ensures { λ r. ⌜ r ≡ count p (take n (now (pieces .entry))) ⌝ }
+    requires { n ≤ length pieces.now }
+    ensures { result ≡ count p (take n pieces.now) }
 {
     let mut c: usize = 0;
     let mut k = 0;
@@ -55,7 +53,7 @@ fn times_before(pieces: &[u32], n: usize, p: u32) -> usize
 
 // Whether a piece stands more than twice, by comparing each with all before it.
 fn thrice_few(pieces: &[u32]) -> bool
-    ensures { λ r. ⌜ r ≡ moreThanTwice (now (pieces .entry)) (now (pieces .entry)) ⌝ }
+    ensures { result ≡ more_than_twice pieces.now pieces.now }
 {
     let mut i = 0;
     while i < pieces.len() {
@@ -69,7 +67,7 @@ fn thrice_few(pieces: &[u32]) -> bool
 
 // The bucket of a piece, one of 8,192.
 fn bucket(p: u32) -> usize
-    ensures { λ r. ⌜ (r ≡ bucketOf p) × (r < 8192) ⌝ }
+    ensures { (result ≡ bucket_of p) × (result < 8192) }
 {
     let m = p as u64 * 2654435769;
     (m % 4294967296 / 524288) as usize
@@ -77,8 +75,8 @@ fn bucket(p: u32) -> usize
 
 // How often p stands among the first `from` pieces, of which the last is in p's bucket: those of the bucket are gone through.
 fn times_linked(pieces: &[u32], next: &[u16; 8192], from: u16, p: u32) -> usize
-    requires { ⌜ LinkedChain (now pieces) (now next) from p ⌝ }
-    ensures { λ r. ⌜ r ≡ count p (take from (now (pieces .entry))) ⌝ }
+    requires { LinkedChain pieces.now next.now from p }
+    ensures { result ≡ count p (take from pieces.now) }
 {
     let mut c: usize = 0;
     let mut k = from as usize;
@@ -93,8 +91,8 @@ fn times_linked(pieces: &[u32], next: &[u16; 8192], from: u16, p: u32) -> usize
 
 // Whether a piece stands more than twice, by comparing each with those before it in its bucket.
 fn thrice_many(pieces: &[u32]) -> bool
-    requires { ⌜ length (now pieces) ≤ mostEnds ⌝ }
-    ensures { λ r. ⌜ r ≡ moreThanTwice (now (pieces .entry)) (now (pieces .entry)) ⌝ }
+    requires { length pieces.now ≤ most_ends }
+    ensures { result ≡ more_than_twice pieces.now pieces.now }
 {
     let mut last = [0u16; 8192];
     let mut next = [0u16; 8192];
@@ -115,8 +113,8 @@ fn thrice_many(pieces: &[u32]) -> bool
 
 // Whether a piece stands more than twice.
 fn more_than_twice(pieces: &[u32]) -> bool
-    requires { ⌜ length (now pieces) ≤ mostEnds ⌝ }
-    ensures { λ r. ⌜ r ≡ moreThanTwice (now (pieces .entry)) (now (pieces .entry)) ⌝ }
+    requires { length pieces.now ≤ most_ends }
+    ensures { result ≡ more_than_twice pieces.now pieces.now }
 {
     if pieces.len() < FEW {
         return thrice_few(pieces);
@@ -126,7 +124,7 @@ fn more_than_twice(pieces: &[u32]) -> bool
 
 // Whether an end is present with a direction that isn't finite.
 fn wild(mark: u8, x: f64, y: f64) -> bool
-    ensures { λ r. ⌜ r ≡ eqb mark 1 && not (finite x && finite y) ⌝ }
+    ensures { result ≡ eqb mark 1 && not (finite x && finite y) }
 {
     if mark != 1 {
         return false;
@@ -139,8 +137,8 @@ fn wild(mark: u8, x: f64, y: f64) -> bool
 
 // Whether a present direction isn't finite.
 fn any_wild(present: &[u8], directions: &[f64]) -> bool
-    requires { ⌜ (length (now present) ≤ mostEnds) × (length (now directions) ≡ length (now present) * 2) ⌝ }
-    ensures { λ r. ⌜ r ≡ anyWild (now (present .entry)) (now (directions .entry)) ⌝ }
+    requires { (length present.now ≤ most_ends) × (length directions.now ≡ length present.now * 2) }
+    ensures { result ≡ any_wild present.now directions.now }
 {
     let mut e = 0;
     while e < present.len() {
@@ -162,7 +160,7 @@ pub fn pair_refusal(
     pairs: usize,
     workspace: usize,
 ) -> u64
-    ensures { λ r. ⌜ r ≡ pairRefusalBy alone (now (present .entry)) (now (directions .entry)) (now (pieces .entry)) limit pairs workspace ⌝ }
+    ensures { result ≡ pair_refusal_by alone present.now directions.now pieces.now limit pairs workspace }
 {
     let d = pieces.len();
     if MOST_ENDS < d {

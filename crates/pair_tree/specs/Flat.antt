@@ -1,13 +1,10 @@
 -- A tree kept in a row of nodes, node n above 2 n and 2 n + 1, its leaves from `base` on: each inner node is the join of its children.
-use Prim.Native.Nat.{ℕ, _+_, _*_, _≤_, _<_}
-use mathlib.Core.Path.{_≡_}
-use mathlib.Core.Bool.{cond}
-use lib.Dec.{eqb}
+use Rattle.std.specs.Prelude.{ℕ, ◌+◌, ◌*◌, ◌≤◌, ◌<◌, ◌≡◌, cond, eqb}
 
 -- the row after a store at n
-pub record Stored {A : Type 0} (N N′ : ℕ → A) (n : ℕ) (v : A) : Type 0 where
-  pub same : N′ n ≡ v
-  pub other : (m : ℕ) → (m ≡ n → ⊥) → N′ m ≡ N m
+pub record Stored {A : Type 0} (N N' : ℕ → A) (n : ℕ) (v : A) : Type 0 where
+  pub same : N' n ≡ v
+  pub other : (m : ℕ) → (m ≡ n → ⊥) → N' m ≡ N m
 
 -- what stands at e replaced
 abbrev pub changed : {A : Type 0} → (ℕ → A) → ℕ → A → ℕ → A

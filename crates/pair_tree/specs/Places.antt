@@ -1,10 +1,10 @@
 -- A place as one number: places are in order as these are.
-use Prim.Native.Nat.{ℕ}
-use Rattle·pair_bounds.specs.Search.{place}
-use Rattle·pair_tree·specs.specs.declared.Place.{Place}
+use Rattle.std.specs.Prelude.{ℕ}
+use Rattle.pair_bounds.specs.Search.{place}
+use Rattle.pair_tree.specs.declared.Place.{Place}
 
 abbrev pub worth : Place → ℕ
-worth p = place (p .key) (p .tie)
+worth p = place p.key p.tie
 
 -- the greatest number of a word: the index of no end
 abbrev pub gone : ℕ

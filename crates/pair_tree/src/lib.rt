@@ -1,11 +1,13 @@
 // Places in an order by key, which a tree in a row of nodes keeps: the index by its bounds, the heap by its candidates.
+#![tactic(auto)]
+
+ghost use Rattle.std.specs.Prelude.{◌≡◌, min, ltb, eqb};
+ghost use Rattle.pair_tree.specs.Places.{worth, none as none_of};
+
 use pair_bounds::GONE;
-ghost use mathlib.Core.Path.{_≡_};
-ghost use Prim.Native.Nat.{min};
-ghost use lib.Dec.{ltb, eqb};
-ghost use Rattle·pair_tree·specs.specs.Places.{worth, none as none-of};
 
 // A key, and the number that decides between equal keys.
+#[derive(Clone, Copy)]
 pub struct Place {
     pub key: u64,
     pub tie: u64,
@@ -19,7 +21,7 @@ impl Place {
     };
 
     pub fn none() -> Place
-        ensures { λ r. ⌜ worth r ≡ none-of ⌝ }
+        ensures { worth result ≡ none_of }
     {
         Place::NONE
     }
@@ -27,7 +29,7 @@ impl Place {
 
 // Whether a comes before b.
 pub fn sooner(a: Place, b: Place) -> bool
-    ensures { λ r. ⌜ r ≡ ltb (worth a) (worth b) ⌝ }
+    ensures { result ≡ ltb (worth a) (worth b) }
 {
     let k = a.key;
     let l = b.key;
@@ -42,7 +44,7 @@ pub fn sooner(a: Place, b: Place) -> bool
 
 // Whether a and b are one place.
 pub fn same(a: Place, b: Place) -> bool
-    ensures { λ r. ⌜ r ≡ eqb (worth a) (worth b) ⌝ }
+    ensures { result ≡ eqb (worth a) (worth b) }
 {
     let k = a.key;
     let l = b.key;
@@ -54,7 +56,7 @@ pub fn same(a: Place, b: Place) -> bool
 
 // The one that comes first.
 pub fn lesser(a: Place, b: Place) -> Place
-    ensures { λ r. ⌜ worth r ≡ min (worth a) (worth b) ⌝ }
+    ensures { worth result ≡ min (worth a) (worth b) }
 {
     if sooner(b, a) {
         return b;

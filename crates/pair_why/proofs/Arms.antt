@@ -1,31 +1,31 @@
 -- The reason, arm by arm, in what the code reads: the listed pairs stand for the selected ones, and each end is read from the slices.
-use Prim.Native.Nat.{ℕ, _≤_}
-use mathlib.Core.Path.{_≡_, refl, sym, ap, ap₂, _∙_}
-use mathlib.Core.Bool.{Bool, true, false, _||_}
-use mathlib.Core.Logic.{_⊎_, inl, inr}
+use Prim.Native.Nat.{ℕ, ◌≤◌}
+use mathlib.Core.Path.{◌≡◌, refl, sym, ap, ap₂, ◌∙◌}
+use mathlib.Core.Bool.{Bool, true, false, ◌||◌}
+use mathlib.Core.Logic.{◌⊎◌, inl, inr}
 use mathlib.Core.List.{List}
 use native.Mathlib.Omega.{arith}
 use lib.Dec.{eqb}
 use lib.Ieee.{Float, le}
-use lib.ListN.{length, getD}
-use borrow.Author.Tests.{eq-eqb, ne-eqb}
-use Rattle·rules.specs.declared.Direction.{Direction}
-use Rattle·rules.specs.declared.Direction.the-variants.{Absent, Toward}
-use Rattle·rules.specs.Plane.{measure}
-use Rattle·rules.specs.Selecting.{End, Pair, select}
-use Rattle·rules.specs.Layout.{ends}
-use Rattle·rules.specs.declared.Reason.{Reason}
-use Rattle·rules.specs.declared.Reason.the-variants.{Selected, SamePiece, AbsentDirection, NotQualifying, Blocked}
-use Rattle·rules.specs.Lists.{anyOf, firstPlace}
-use Rattle·rules.specs.Reasons.{joins, touches, absent, unfit, endOf}
-use Rattle·pair_laws.proofs.Order.{two, tf}
-use Rattle·pair_laws.proofs.Ends.{ends-length, ends-at, ends-placed}
-use Rattle·pair_laws.proofs.Settled.{select-settled}
-use Rattle·pair_laws.proofs.Calls.{length-listed}
-use Rattle·pair_reasons.proofs.Places.{place-rises, place-most}
-use Rattle·pair_reasons.proofs.Tests.{is-present, cases-absent, unfit-high, high-unfit, reason-selected, reason-same, reason-absent, reason-high, reason-blocked}
-use Rattle·pair_why·specs.specs.Looking.{way-at, first-meeting, joins-at, Questioned, reasonHere}
-use Rattle·pair_why·proofs.proofs.Looking.{meeting-listed, selected-listed}
+use lib.ListN.{length, get_or}
+use borrow.Author.Tests.{eq-eqb, ne_eqb}
+use Rattle.rules.specs.declared.Direction.{Direction}
+use Rattle.rules.specs.declared.Direction.TheVariants.{Absent, Toward}
+use Rattle.rules.specs.Plane.{measure}
+use Rattle.rules.specs.Selecting.{End, Pair, select}
+use Rattle.rules.specs.Layout.{ends}
+use Rattle.rules.specs.declared.Reason.{Reason}
+use Rattle.rules.specs.declared.Reason.TheVariants.{Selected, SamePiece, AbsentDirection, NotQualifying, Blocked}
+use Rattle.rules.specs.Lists.{any_of, first_place}
+use Rattle.rules.specs.Reasons.{joins, touches, absent, unfit, end_of}
+use Rattle.pair_laws.proofs.Order.{two, tf}
+use Rattle.pair_laws.proofs.Ends.{ends_length, ends_at, ends_placed}
+use Rattle.pair_laws.proofs.Settled.{select_settled}
+use Rattle.pair_laws.proofs.Calls.{length_listed}
+use Rattle.pair_reasons.proofs.Places.{place_rises, place_most}
+use Rattle.pair_reasons.proofs.Tests.{is_present, cases_absent, unfit_high, high_unfit, reason_selected, reason_same, reason_absent, reason_high, reason_blocked}
+use Rattle.pair_why.specs.Looking.{way_at, first_meeting, joins_at, Questioned, reason_here}
+use Rattle.pair_why.proofs.Looking.{meeting_listed, selected_listed}
 
 module _ {present : List ℕ} {directions : List Float} {pieces : List ℕ} {limit : Float} {words : List ℕ} {a b : ℕ} (k : Questioned present directions pieces limit words a b) where
   abbrev all : List End
@@ -35,112 +35,112 @@ module _ {present : List ℕ} {directions : List Float} {pieces : List ℕ} {lim
   chosen = select limit (ends 0 present directions pieces)
 
   abbrev x : End
-  x = endOf (ends 0 present directions pieces) a
+  x = end_of (ends 0 present directions pieces) a
 
   abbrev y : End
-  y = endOf (ends 0 present directions pieces) b
+  y = end_of (ends 0 present directions pieces) b
 
   -- ---- the two ends
 
   long : length (ends 0 present directions pieces) ≡ length pieces
-  long = ends-length 0 present directions pieces
+  long = ends_length 0 present directions pieces
 
-  name-x : x .name ≡ a
-  name-x = ends-placed present directions pieces .placed a (omega (arith, k .first, long))
+  name_x : x.name ≡ a
+  name_x = (ends_placed present directions pieces).placed a (omega (arith, k.first, long))
 
-  name-y : y .name ≡ b
-  name-y = ends-placed present directions pieces .placed b (omega (arith, k .second, long))
+  name_y : y.name ≡ b
+  name_y = (ends_placed present directions pieces).placed b (omega (arith, k.second, long))
 
-  piece-x : x .piece ≡ getD pieces a 0
-  piece-x = ap (λ (e : End). e .piece) (ends-at 0 present directions pieces a (k .first))
+  piece_x : x.piece ≡ get_or pieces a 0
+  piece_x = ap (λ (e : End). e.piece) (ends_at 0 present directions pieces a k.first)
 
-  piece-y : y .piece ≡ getD pieces b 0
-  piece-y = ap (λ (e : End). e .piece) (ends-at 0 present directions pieces b (k .second))
+  piece_y : y.piece ≡ get_or pieces b 0
+  piece_y = ap (λ (e : End). e.piece) (ends_at 0 present directions pieces b k.second)
 
-  way-x : x .direction ≡ way-at present directions a
-  way-x = ap (λ (e : End). e .direction) (ends-at 0 present directions pieces a (k .first))
+  way_x : x.direction ≡ way_at present directions a
+  way_x = ap (λ (e : End). e.direction) (ends_at 0 present directions pieces a k.first)
 
-  way-y : y .direction ≡ way-at present directions b
-  way-y = ap (λ (e : End). e .direction) (ends-at 0 present directions pieces b (k .second))
+  way_y : y.direction ≡ way_at present directions b
+  way_y = ap (λ (e : End). e.direction) (ends_at 0 present directions pieces b k.second)
 
   -- ---- the selected pairs
 
-  pub place-here : first-meeting a b words ≡ firstPlace (touches (x .name) (y .name)) chosen
-  place-here =
-      ap (first-meeting a b) (k .words-are)
-      ∙ meeting-listed a b chosen
-      ∙ ap₂ (λ (m n : ℕ). firstPlace (touches m n) chosen) (sym name-x) (sym name-y)
+  pub place_here : first_meeting a b words ≡ first_place (touches x.name y.name) chosen
+  place_here =
+      ap (first_meeting a b) k.words_are
+      ∙ meeting_listed a b chosen
+      ∙ ap₂ (λ (m n : ℕ). first_place (touches m n) chosen) (sym name_x) (sym name_y)
 
   -- at most as many places as there are ends
-  pub few-places : first-meeting a b words ≤ length pieces
-  few-places = omega (arith, place-here, place-most (touches (x .name) (y .name)) chosen, k .short, ap length (k .words-are), length-listed chosen)
+  pub few_places : first_meeting a b words ≤ length pieces
+  few_places = omega (arith, place_here, place_most (touches x.name y.name) chosen, k.short, ap length k.words_are, length_listed chosen)
 
-  selected-here : joins-at a b (first-meeting a b words) words ≡ anyOf (joins (x .name) (y .name)) chosen
-  selected-here =
-      ap (λ (w : List ℕ). joins-at a b (first-meeting a b w) w) (k .words-are)
-      ∙ selected-listed chosen (select-settled limit all (place-rises all (ends-placed present directions pieces)) .apart) a b
-      ∙ ap₂ (λ (m n : ℕ). anyOf (joins m n) chosen) (sym name-x) (sym name-y)
+  selected_here : joins_at a b (first_meeting a b words) words ≡ any_of (joins x.name y.name) chosen
+  selected_here =
+      ap (λ (w : List ℕ). joins_at a b (first_meeting a b w) w) k.words_are
+      ∙ selected_listed chosen (select_settled limit all (place_rises all (ends_placed present directions pieces))).apart a b
+      ∙ ap₂ (λ (m n : ℕ). any_of (joins m n) chosen) (sym name_x) (sym name_y)
 
-  pub looked : (p : ℕ) (t : Bool) → p ≡ first-meeting a b words → t ≡ joins-at a b p words → t ≡ anyOf (joins (x .name) (y .name)) chosen
-  looked p t e f = f ∙ ap (λ (q : ℕ). joins-at a b q words) e ∙ selected-here
+  pub looked : (p : ℕ) (t : Bool) → p ≡ first_meeting a b words → t ≡ joins_at a b p words → t ≡ any_of (joins x.name y.name) chosen
+  looked p t e f = f ∙ ap (λ (q : ℕ). joins_at a b q words) e ∙ selected_here
 
   -- no selected pair is that of the two
   abbrev pub Unpicked : Type 0
-  Unpicked = anyOf (joins (x .name) (y .name)) chosen ≡ false
+  Unpicked = any_of (joins x.name y.name) chosen ≡ false
 
   -- ---- the arms
 
   abbrev here : Reason
-  here = reasonHere present directions pieces limit a b
+  here = reason_here present directions pieces limit a b
 
-  pub here-selected : anyOf (joins (x .name) (y .name)) chosen ≡ true → Selected ≡ here
-  unfolding reasonHere
-  here-selected e = sym (reason-selected limit chosen x y e)
+  pub here_selected : any_of (joins x.name y.name) chosen ≡ true → Selected ≡ here
+  unfolding reason_here
+  here_selected e = sym (reason_selected limit chosen x y e)
 
   module _ (n : Unpicked) where
-    pub here-same : getD pieces a 0 ≡ getD pieces b 0 → SamePiece ≡ here
-    unfolding reasonHere
-    here-same e = sym (reason-same limit chosen x y n (eq-eqb (x .piece) (y .piece) (piece-x ∙ e ∙ sym piece-y)))
+    pub here_same : get_or pieces a 0 ≡ get_or pieces b 0 → SamePiece ≡ here
+    unfolding reason_here
+    here_same e = sym (reason_same limit chosen x y n (eq-eqb x.piece y.piece (piece_x ∙ e ∙ sym piece_y)))
 
-    module _ (d : getD pieces a 0 ≡ getD pieces b 0 → ⊥) where
-      differ : eqb (x .piece) (y .piece) ≡ false
-      differ = ne-eqb (x .piece) (y .piece) (λ e. d (sym piece-x ∙ e ∙ piece-y))
+    module _ (d : get_or pieces a 0 ≡ get_or pieces b 0 → ⊥) where
+      differ : eqb x.piece y.piece ≡ false
+      differ = ne_eqb x.piece y.piece (λ e. d (sym piece_x ∙ e ∙ piece_y))
 
-      pub here-absent : (r : Direction) → r ≡ way-at present directions a → r ≡ Absent → AbsentDirection ≡ here
-      unfolding reasonHere
-      here-absent r e f = sym (reason-absent limit chosen x y n differ (cases-absent (x .direction) (y .direction) (inl (way-x ∙ sym e ∙ f))))
+      pub here_absent : (r : Direction) → r ≡ way_at present directions a → r ≡ Absent → AbsentDirection ≡ here
+      unfolding reason_here
+      here_absent r e f = sym (reason_absent limit chosen x y n differ (cases_absent x.direction y.direction (inl (way_x ∙ sym e ∙ f))))
 
-      pub there-absent : (r : Direction) → r ≡ way-at present directions b → r ≡ Absent → AbsentDirection ≡ here
-      unfolding reasonHere
-      there-absent r e f = sym (reason-absent limit chosen x y n differ (cases-absent (x .direction) (y .direction) (inr (way-y ∙ sym e ∙ f))))
+      pub there_absent : (r : Direction) → r ≡ way_at present directions b → r ≡ Absent → AbsentDirection ≡ here
+      unfolding reason_here
+      there_absent r e f = sym (reason_absent limit chosen x y n differ (cases_absent x.direction y.direction (inr (way_y ∙ sym e ∙ f))))
 
       module _
           (q r : Direction)
           (ax ay bx by m : Float)
-          (from : q ≡ way-at present directions a)
-          (from-is : q ≡ Toward ax ay)
-          (to : r ≡ way-at present directions b)
-          (to-is : r ≡ Toward bx by)
+          (from : q ≡ way_at present directions a)
+          (from_is : q ≡ Toward ax ay)
+          (to : r ≡ way_at present directions b)
+          (to_is : r ≡ Toward bx by)
           (size : m ≡ measure ax ay bx by) where
-        toward-x : x .direction ≡ Toward ax ay
-        toward-x = way-x ∙ sym from ∙ from-is
+        toward_x : x.direction ≡ Toward ax ay
+        toward_x = way_x ∙ sym from ∙ from_is
 
-        toward-y : y .direction ≡ Toward bx by
-        toward-y = way-y ∙ sym to ∙ to-is
+        toward_y : y.direction ≡ Toward bx by
+        toward_y = way_y ∙ sym to ∙ to_is
 
-        present-both : (absent (x .direction) || absent (y .direction)) ≡ false
-        present-both = rw (is-present (x .direction) ax ay toward-x, is-present (y .direction) bx by toward-y) refl
+        present_both : (absent x.direction || absent y.direction) ≡ false
+        present_both = rw (is_present x.direction ax ay toward_x, is_present y.direction bx by toward_y) refl
 
-        pub here-blocked : (p : ℕ) → p ≡ first-meeting a b words → le m limit ≡ true → Blocked p ≡ here
-        unfolding reasonHere
-        here-blocked p e f = ap Blocked (e ∙ place-here) ∙ sym (reason-blocked limit chosen x y n differ present-both (go (two (unfit limit x y))))
+        pub here_blocked : (p : ℕ) → p ≡ first_meeting a b words → le m limit ≡ true → Blocked p ≡ here
+        unfolding reason_here
+        here_blocked p e f = ap Blocked (e ∙ place_here) ∙ sym (reason_blocked limit chosen x y n differ present_both (go (two (unfit limit x y))))
           where
             go : (unfit limit x y ≡ true) ⊎ (unfit limit x y ≡ false) → unfit limit x y ≡ false
-            go (inl u) = absurd (tf (ap (λ (z : Float). le z limit) (sym size) ∙ f) (unfit-high limit x y ax ay bx by differ toward-x toward-y u))
+            go (inl u) = absurd (tf (ap (λ (z : Float). le z limit) (sym size) ∙ f) (unfit_high limit x y ax ay bx by differ toward_x toward_y u))
             go (inr u) = u
 
-        pub here-high : le m limit ≡ false → NotQualifying ≡ here
-        unfolding reasonHere
-        here-high f =
-            sym (reason-high limit chosen x y n differ present-both
-            (high-unfit limit x y ax ay bx by toward-x toward-y (ap (λ (z : Float). le z limit) (sym size) ∙ f)))
+        pub here_high : le m limit ≡ false → NotQualifying ≡ here
+        unfolding reason_here
+        here_high f =
+            sym (reason_high limit chosen x y n differ present_both
+            (high_unfit limit x y ax ay bx by toward_x toward_y (ap (λ (z : Float). le z limit) (sym size) ∙ f)))

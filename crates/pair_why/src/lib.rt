@@ -1,19 +1,18 @@
 // Why wasn't this bend joined? The pairs are selected by the chosen route, which has the plain one's contract, and looked at where they were written.
-use rules::Answer;
-use rules::Direction;
-use rules::Reason;
-ghost use mathlib.Core.Path.{_≡_};
-ghost use mathlib.Core.Bool.{_&&_};
-ghost use lib.Dec.{eqb};
-ghost use Rattle·rules.specs.Reasons.{noEnds, reasonNumber, Why};
-ghost use Rattle·pair_why·specs.specs.Looking.{way-at, meets-at, first-meeting, joins-at, MarkedEnd, Questioned, reasonHere};
+#![tactic(auto)]
+
+ghost use Rattle.std.specs.Prelude.{◌≡◌, ◌&&◌, eqb};
+ghost use Rattle.rules.specs.Reasons.{no_ends, reason_number, Why};
+ghost use Rattle.pair_why.specs.Looking.{way_at, meets_at, first_meeting, joins_at, MarkedEnd, Questioned, reason_here};
+
+use rules::{Answer, Direction, Reason};
 
 // The refusal of an end number not below d, and of two that are equal.
 const NO_ENDS: u64 = 26;
 
 // Whether i or j isn't below d, or they are equal.
 fn no_ends(d: usize, i: u32, j: u32) -> bool
-    ensures { λ r. ⌜ r ≡ noEnds d i j ⌝ }
+    ensures { result ≡ no_ends d i j }
 {
     if d <= i as usize {
         return true;
@@ -26,7 +25,7 @@ fn no_ends(d: usize, i: u32, j: u32) -> bool
 
 // Whether one of the ends x and y is i or j.
 fn meets(x: u32, y: u32, i: u32, j: u32) -> bool
-    ensures { λ r. ⌜ r ≡ meets-at i j x y ⌝ }
+    ensures { result ≡ meets_at i j x y }
 {
     if x == i {
         return true;
@@ -42,7 +41,7 @@ fn meets(x: u32, y: u32, i: u32, j: u32) -> bool
 
 // The place of the first of the listed pairs that has end i or end j; how many pairs there are where none has.
 fn meeting(listed: &[u32], i: u32, j: u32) -> usize
-    ensures { λ r. ⌜ r ≡ first-meeting i j (now (listed .entry)) ⌝ }
+    ensures { result ≡ first_meeting i j listed.now }
 {
     let mut p = 0;
     while p < listed.len() / 2 {
@@ -56,7 +55,7 @@ fn meeting(listed: &[u32], i: u32, j: u32) -> usize
 
 // Whether x is i and y is j.
 fn both(x: u32, y: u32, i: u32, j: u32) -> bool
-    ensures { λ r. ⌜ r ≡ eqb x i && eqb y j ⌝ }
+    ensures { result ≡ eqb x i && eqb y j }
 {
     if x != i {
         return false;
@@ -66,7 +65,7 @@ fn both(x: u32, y: u32, i: u32, j: u32) -> bool
 
 // Whether there is a pair p, and it is that of i and j.
 fn joins(listed: &[u32], p: usize, i: u32, j: u32) -> bool
-    ensures { λ r. ⌜ r ≡ joins-at i j p (now (listed .entry)) ⌝ }
+    ensures { result ≡ joins_at i j p listed.now }
 {
     if listed.len() / 2 <= p {
         return false;
@@ -81,8 +80,8 @@ fn joins(listed: &[u32], p: usize, i: u32, j: u32) -> bool
 
 // The direction of end e.
 fn direction_of(present: &[u8], directions: &[f64], e: usize) -> Direction
-    requires { ⌜ MarkedEnd (now present) (now directions) e ⌝ }
-    ensures { λ r. ⌜ r ≡ way-at (now (present .entry)) (now (directions .entry)) e ⌝ }
+    requires { MarkedEnd present.now directions.now e }
+    ensures { result ≡ way_at present.now directions.now e }
 {
     if present[e] == 1 {
         return Direction::Toward(directions[e * 2], directions[e * 2 + 1]);
@@ -100,8 +99,8 @@ fn reason(
     i: u32,
     j: u32,
 ) -> Reason
-    requires { ⌜ Questioned (now present) (now directions) (now pieces) limit (now listed) i j ⌝ }
-    ensures { λ r. ⌜ r ≡ reasonHere (now (present .entry)) (now (directions .entry)) (now (pieces .entry)) limit i j ⌝ }
+    requires { Questioned present.now directions.now pieces.now limit listed.now i j }
+    ensures { result ≡ reason_here present.now directions.now pieces.now limit i j }
 {
     let p = meeting(listed, i, j);
     if joins(listed, p, i, j) {
@@ -124,7 +123,7 @@ fn reason(
 
 // The number of a reason.
 fn number(reason: Reason) -> u64
-    ensures { λ r. ⌜ r ≡ reasonNumber reason ⌝ }
+    ensures { result ≡ reason_number reason }
 {
     match reason {
         Reason::Selected => 0,
@@ -146,14 +145,14 @@ pub fn why(
     pairs: &mut [u32],
     workspace: &mut [u64],
 ) -> Answer
-    ensures { λ r. ⌜ Why (record {
-      present = now (present .entry);
-      directions = now (directions .entry);
-      pieces = now (pieces .entry);
+    ensures { Why (record {
+      present = present.entry.now;
+      directions = directions.now;
+      pieces = pieces.now;
       limit = limit;
-      pairs = now (pairs .entry);
-      workspace = now (workspace .entry);
-    }) i j r (now (pairs .exit)) (now (workspace .exit)) ⌝ }
+      pairs = pairs.old;
+      workspace = workspace.old;
+    }) i j result pairs.new workspace.new }
 {
     if no_ends(pieces.len(), i, j) {
         let refused = pair_refusals::pair_refusal(

@@ -1,19 +1,19 @@
 -- The search for the nearest point that differs, one point at a time, from either end of numbers that are points: a point that differs ends it, and
 -- one that does not leaves the rest to search. x and y are all that it looks at.
-use mathlib.Core.Path.{_≡_, refl, sym, ap, ap₂, _∙_}
+use mathlib.Core.Path.{◌≡◌, refl, sym, ap, ap₂, ◌∙◌}
 use mathlib.Core.Bool.{Bool, true, false, not, true≢false}
-use mathlib.Core.List.{List, _∷_, reverse}
+use mathlib.Core.List.{List, ◌∷◌, reverse}
 use mathlib.Core.Option.{some}
-use Prim.Native.Nat.{ℕ, _+_, _-_, _≤_, _<_}
+use Prim.Native.Nat.{ℕ, ◌+◌, ◌-◌, ◌≤◌, ◌<◌}
 use native.Mathlib.Omega.{arith}
-use lib.ListN.{length, take, drop, getD}
-use Rattle·rules.specs.declared.Direction.{Direction}
-use Rattle·rules.specs.declared.Direction.the-variants.{Absent}
-use Rattle·rules.specs.Lists.{first}
-use Rattle·rules.specs.Plane.{Point, point, points, equal, straight, directionOf}
-use Rattle·point_numbers.specs.Width.{pointAt, Multiple, Whole}
-use Rattle·point_numbers.proofs.Points.{at-x, at-y, points-few, points-next, points-from, points-past, turned-one, turned-none, turned-all}
-use Rattle·point_direction·specs.specs.Seen.{aim}
+use lib.ListN.{length, take, drop, get_or}
+use Rattle.rules.specs.declared.Direction.{Direction}
+use Rattle.rules.specs.declared.Direction.TheVariants.{Absent}
+use Rattle.rules.specs.Lists.{first}
+use Rattle.rules.specs.Plane.{Point, point, points, equal, straight, direction_of}
+use Rattle.point_numbers.specs.Width.{point_at, Multiple, Whole}
+use Rattle.point_numbers.proofs.Points.{at_x, at_y, points_few, points_next, points_from, points_past, turned_one, turned_none, turned_all}
+use Rattle.point_direction.specs.Seen.{aim}
 
 -- two points that differ by `!=`
 abbrev pub differs : Point → Point → Bool
@@ -38,76 +38,76 @@ module _ (p q : Point) (l : List Point) where
 
 -- ---- a point among numbers, by its x and y
 
-abbrev pub plainAt : List ℕ → ℕ → Point
-plainAt l i = point (getD l i 0) (getD l (i + 1) 0)
+abbrev pub plain_at : List ℕ → ℕ → Point
+plain_at l i = point (get_or l i 0) (get_or l (i + 1) 0)
 
-sought-plain : (p : Point) (t : List Point) → sought p t ≡ sought (point (p .x) (p .y)) t
+sought_plain : (p : Point) (t : List Point) → sought p t ≡ sought (point p.x p.y) t
 unfolding equal straight
-sought-plain p t = refl
+sought_plain p t = refl
 
 module _ (w : ℕ) (two : 2 ≤ w) (l : List ℕ) (j : ℕ) where
-  sought-at : (t : List Point) → sought (pointAt w l j) t ≡ sought (plainAt l j) t
-  sought-at t = sought-plain (pointAt w l j) t ∙ ap₂ (λ (a b : ℕ). sought (point a b) t) (at-x w two l j) (at-y w two l j)
+  sought_at : (t : List Point) → sought (point_at w l j) t ≡ sought (plain_at l j) t
+  sought_at t = sought_plain (point_at w l j) t ∙ ap₂ (λ (a b : ℕ). sought (point a b) t) (at_x w two l j) (at_y w two l j)
 
-  differs-at : (p : Point) → differs (pointAt w l j) p ≡ differs (plainAt l j) p
+  differs_at : (p : Point) → differs (point_at w l j) p ≡ differs (plain_at l j) p
   unfolding equal
-  differs-at p = ap₂ (λ (a b : ℕ). differs (point a b) p) (at-x w two l j) (at-y w two l j)
+  differs_at p = ap₂ (λ (a b : ℕ). differs (point a b) p) (at_x w two l j) (at_y w two l j)
 
-  straight-at : (p : Point) → straight p (pointAt w l j) ≡ straight p (plainAt l j)
+  straight_at : (p : Point) → straight p (point_at w l j) ≡ straight p (plain_at l j)
   unfolding straight
-  straight-at p = ap₂ (λ (a b : ℕ). straight p (point a b)) (at-x w two l j) (at-y w two l j)
+  straight_at p = ap₂ (λ (a b : ℕ). straight p (point a b)) (at_x w two l j) (at_y w two l j)
 
   -- it stands before the others
-  hit-at : (p : Point) (t : List Point) → differs (plainAt l j) p ≡ true → straight p (plainAt l j) ≡ sought p (pointAt w l j ∷ t)
-  hit-at p t d = sym (hit p (pointAt w l j) t (differs-at p ∙ d) ∙ straight-at p)
+  hit_at : (p : Point) (t : List Point) → differs (plain_at l j) p ≡ true → straight p (plain_at l j) ≡ sought p (point_at w l j ∷ t)
+  hit_at p t d = sym (hit p (point_at w l j) t (differs_at p ∙ d) ∙ straight_at p)
 
-  pass-at : (p : Point) (t : List Point) → differs (plainAt l j) p ≡ false → sought p t ≡ sought p (pointAt w l j ∷ t)
-  pass-at p t d = sym (pass p (pointAt w l j) t (differs-at p ∙ d))
+  pass_at : (p : Point) (t : List Point) → differs (plain_at l j) p ≡ false → sought p t ≡ sought p (point_at w l j ∷ t)
+  pass_at p t d = sym (pass p (point_at w l j) t (differs_at p ∙ d))
 
 -- ---- forward
 
 module _ (w : ℕ) (two : 2 ≤ w) (l : List ℕ) where
-  abbrev some-width : 0 < w
-  some-width = omega arith
+  abbrev some_width : 0 < w
+  some_width = omega arith
 
   module _ (p : Point) (i : ℕ) where
-    pub found : i + w ≤ length l → differs (plainAt l i) p ≡ true → straight p (plainAt l i) ≡ sought p (points w (drop i l))
-    found h d = hit-at w two l i p (points w (drop (i + w) l)) d ∙ sym (ap (sought p) (points-from w l i some-width h))
+    pub found : i + w ≤ length l → differs (plain_at l i) p ≡ true → straight p (plain_at l i) ≡ sought p (points w (drop i l))
+    found h d = hit_at w two l i p (points w (drop (i + w) l)) d ∙ sym (ap (sought p) (points_from w l i some_width h))
 
-    pub passed : i + w ≤ length l → differs (plainAt l i) p ≡ false → sought p (points w (drop (i + w) l)) ≡ sought p (points w (drop i l))
-    passed h d = pass-at w two l i p (points w (drop (i + w) l)) d ∙ sym (ap (sought p) (points-from w l i some-width h))
+    pub passed : i + w ≤ length l → differs (plain_at l i) p ≡ false → sought p (points w (drop (i + w) l)) ≡ sought p (points w (drop i l))
+    passed h d = pass_at w two l i p (points w (drop (i + w) l)) d ∙ sym (ap (sought p) (points_from w l i some_width h))
 
     pub ended : length l ≤ i → Absent ≡ sought p (points w (drop i l))
     unfolding first
-    ended h = sym (ap (sought p) (points-past w l i some-width (omega arith)))
+    ended h = sym (ap (sought p) (points_past w l i some_width (omega arith)))
 
-  pub started : w ≤ length l → sought (plainAt l 0) (points w (drop w l)) ≡ directionOf (points w l)
-  unfolding directionOf
-  started h = sym (ap directionOf (points-next w l some-width h) ∙ sought-at w two l 0 (points w (drop w l)))
+  pub started : w ≤ length l → sought (plain_at l 0) (points w (drop w l)) ≡ direction_of (points w l)
+  unfolding direction_of
+  started h = sym (ap direction_of (points_next w l some_width h) ∙ sought_at w two l 0 (points w (drop w l)))
 
-  pub nothing : length l < w → Absent ≡ directionOf (points w l)
-  unfolding directionOf
-  nothing h = sym (ap directionOf (points-few w l h))
+  pub nothing : length l < w → Absent ≡ direction_of (points w l)
+  unfolding direction_of
+  nothing h = sym (ap direction_of (points_few w l h))
 
   -- ---- backward: the points of the first i numbers are left
 
   module _ (p : Point) (i : ℕ) (m : Multiple w i) (o : 0 < i) (h : i ≤ length l) where
-    pub found-back : differs (plainAt l (i - w)) p ≡ true → straight p (plainAt l (i - w)) ≡ sought p (reverse (points w (take i l)))
-    found-back d = hit-at w two l (i - w) p (reverse (points w (take (i - w) l))) d ∙ sym (ap (sought p) (turned-one w l some-width i m o h))
+    pub found_back : differs (plain_at l (i - w)) p ≡ true → straight p (plain_at l (i - w)) ≡ sought p (reverse (points w (take i l)))
+    found_back d = hit_at w two l (i - w) p (reverse (points w (take (i - w) l))) d ∙ sym (ap (sought p) (turned_one w l some_width i m o h))
 
-    pub passed-back : differs (plainAt l (i - w)) p ≡ false → sought p (reverse (points w (take (i - w) l))) ≡ sought p (reverse (points w (take i l)))
-    passed-back d = pass-at w two l (i - w) p (reverse (points w (take (i - w) l))) d ∙ sym (ap (sought p) (turned-one w l some-width i m o h))
+    pub passed_back : differs (plain_at l (i - w)) p ≡ false → sought p (reverse (points w (take (i - w) l))) ≡ sought p (reverse (points w (take i l)))
+    passed_back d = pass_at w two l (i - w) p (reverse (points w (take (i - w) l))) d ∙ sym (ap (sought p) (turned_one w l some_width i m o h))
 
-  pub started-back : Whole w l → 0 < length l → sought (plainAt l (length l - w)) (reverse (points w (take (length l - w) l))) ≡ directionOf (reverse (points w l))
-  unfolding directionOf
-  started-back m o =
-      sym (ap directionOf (sym (turned-all w l some-width) ∙ turned-one w l some-width (length l) m o (omega arith))
-      ∙ sought-at w two l (length l - w) (reverse (points w (take (length l - w) l))))
+  pub started_back : Whole w l → 0 < length l → sought (plain_at l (length l - w)) (reverse (points w (take (length l - w) l))) ≡ direction_of (reverse (points w l))
+  unfolding direction_of
+  started_back m o =
+      sym (ap direction_of (sym (turned_all w l some_width) ∙ turned_one w l some_width (length l) m o (omega arith))
+      ∙ sought_at w two l (length l - w) (reverse (points w (take (length l - w) l))))
 
-  pub ended-back : (p : Point) (i : ℕ) → i ≤ 0 → Absent ≡ sought p (reverse (points w (take i l)))
+  pub ended_back : (p : Point) (i : ℕ) → i ≤ 0 → Absent ≡ sought p (reverse (points w (take i l)))
   unfolding first
-  ended-back p i h = sym (ap (sought p) (turned-none w l some-width i h))
+  ended_back p i h = sym (ap (sought p) (turned_none w l some_width i h))
 
-  pub nothing-back : length l < w → Absent ≡ directionOf (reverse (points w l))
-  unfolding directionOf
-  nothing-back h = sym (ap (λ (t : List Point). directionOf (reverse t)) (points-few w l h))
+  pub nothing_back : length l < w → Absent ≡ direction_of (reverse (points w l))
+  unfolding direction_of
+  nothing_back h = sym (ap (λ (t : List Point). direction_of (reverse t)) (points_few w l h))

@@ -1,17 +1,18 @@
 // The direction of a piece at one of its ends, from the bits of its coordinates: x, y and the extras of each, which are not looked at.
+#![tactic(auto)]
+
+ghost use Rattle.std.specs.Prelude.{◌≡◌, reverse, ◌≤◌};
+ghost use Rattle.rules.specs.Plane.{point, points, toward as toward_of, straight, direction_of};
+ghost use Rattle.point_numbers.specs.Width.{Whole};
+ghost use Rattle.point_direction.specs.Seen.{seen};
+
 use float_bits;
 use float_root;
 use rules::Direction;
-ghost use mathlib.Core.Path.{_≡_};
-ghost use mathlib.Core.List.{reverse};
-ghost use Prim.Native.Nat.{_≤_};
-ghost use Rattle·rules.specs.Plane.{point, points, toward as toward-of, straight, directionOf};
-ghost use Rattle·point_numbers.specs.Width.{Whole};
-ghost use Rattle·point_direction·specs.specs.Seen.{seen};
 
 // The direction of a difference of two points: each part by the length, where that is above 0.
 fn toward(dx: f64, dy: f64) -> Direction
-    ensures { λ r. ⌜ r ≡ toward-of dx dy ⌝ }
+    ensures { result ≡ toward_of dx dy }
 {
     let length = float_root::root(dx * dx + dy * dy);
     if length > 0.0 {
@@ -23,7 +24,7 @@ fn toward(dx: f64, dy: f64) -> Direction
 
 // The direction from (px, py) to (qx, qy).
 fn between(px: u64, py: u64, qx: u64, qy: u64) -> Direction
-    ensures { λ r. ⌜ r ≡ straight (point px py) (point qx qy) ⌝ }
+    ensures { result ≡ straight (point px py) (point qx qy) }
 {
     toward(
         float_bits::of_bits(qx) - float_bits::of_bits(px),
@@ -33,8 +34,8 @@ fn between(px: u64, py: u64, qx: u64, qy: u64) -> Direction
 
 // From the first point, to the nearest later one that differs.
 fn from_first(c: &[u64], width: usize) -> Direction
-    requires { ⌜ (2 ≤ width) × Whole width (now c) ⌝ }
-    ensures { λ r. ⌜ r ≡ directionOf (points width (now (c .entry))) ⌝ }
+    requires { (2 ≤ width) × Whole width c.now }
+    ensures { result ≡ direction_of (points width c.now) }
 {
     if c.len() < width {
         return Direction::Absent;
@@ -55,8 +56,8 @@ fn from_first(c: &[u64], width: usize) -> Direction
 
 // From the last point, to the nearest earlier one that differs.
 fn from_last(c: &[u64], width: usize) -> Direction
-    requires { ⌜ (2 ≤ width) × Whole width (now c) ⌝ }
-    ensures { λ r. ⌜ r ≡ directionOf (reverse (points width (now (c .entry)))) ⌝ }
+    requires { (2 ≤ width) × Whole width c.now }
+    ensures { result ≡ direction_of (reverse (points width c.now)) }
 {
     if c.len() < width {
         return Direction::Absent;
@@ -77,8 +78,8 @@ fn from_last(c: &[u64], width: usize) -> Direction
 
 // At a side of a piece of points of a width: 0 is its first point, and any other number its last.
 pub fn piece_direction(c: &[u64], width: usize, side: u64) -> Direction
-    requires { ⌜ (2 ≤ width) × Whole width (now c) ⌝ }
-    ensures { λ r. ⌜ r ≡ directionOf (seen side (points width (now (c .entry)))) ⌝ }
+    requires { (2 ≤ width) × Whole width c.now }
+    ensures { result ≡ direction_of (seen side (points width c.now)) }
 {
     if side == 0 {
         from_first(c, width)

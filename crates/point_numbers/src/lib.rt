@@ -1,14 +1,15 @@
 // Points of any width: the width of a type, equality, and loops; proofs/ has the laws of reading and writing points as numbers.
-ghost use Prim.Native.Nat.{_≤_};
-ghost use mathlib.Core.Path.{_≡_};
-ghost use Rattle·rules.specs.Types.{widthOf};
-ghost use Rattle·rules.specs.Lists.{one};
-ghost use Rattle·rules.specs.Plane.{point, points, equal as equal-of};
-ghost use Rattle·rules.specs.Layout.{loop};
+#![tactic(auto)]
+
+ghost use Rattle.std.specs.Prelude.{◌≤◌, ◌≡◌};
+ghost use Rattle.rules.specs.Types.{width_of};
+ghost use Rattle.rules.specs.Lists.{one};
+ghost use Rattle.rules.specs.Plane.{point, points, equal as EqualOf};
+ghost use Rattle.rules.specs.Layout.{loop};
 
 // How many numbers a coordinate of a type has: two, and the extras; 0 for a number that is no type.
 pub fn width_of(wkb_type: u32) -> usize
-    ensures { λ r. ⌜ (r ≡ widthOf «wkb_type») × (r ≤ 4) ⌝ }
+    ensures { (result ≡ width_of wkb_type) × (result ≤ 4) }
 {
     if wkb_type == 2 {
         return 2;
@@ -27,7 +28,7 @@ pub fn width_of(wkb_type: u32) -> usize
 
 // Whether the points (ax, ay) and (bx, by) are equal by `==`: the zeros are one number, and a NaN equals nothing.
 pub fn equal(ax: u64, ay: u64, bx: u64, by: u64) -> bool
-    ensures { λ r. ⌜ r ≡ equal-of (point ax ay) (point bx by) ⌝ }
+    ensures { result ≡ EqualOf (point ax ay) (point bx by) }
 {
     if float_bits::same(ax, bx) {
         return float_bits::same(ay, by);
@@ -37,8 +38,8 @@ pub fn equal(ax: u64, ay: u64, bx: u64, by: u64) -> bool
 
 // 1 if the points of `part`, of so many numbers each, are a loop, else 0: at least three, the first and the last with the same bits in x and y.
 pub fn loop_mark(part: &[u64], width: usize) -> u32
-    requires { ⌜ 2 ≤ width ⌝ }
-    ensures { λ r. ⌜ r ≡ one (loop (points width (now (part .entry)))) ⌝ }
+    requires { 2 ≤ width }
+    ensures { result ≡ one (loop (points width part.now)) }
 {
     let count = part.len() / width;
     if count < 3 {

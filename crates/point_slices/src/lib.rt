@@ -1,16 +1,14 @@
 // Leaves that write lent slices: runs of points laid one behind another, copies, fills and zeros.
 // A point is `width` numbers in their 64 bits: x, y and its extras.
-ghost use mathlib.Core.Path.{_≡_};
-ghost use mathlib.Core.Bool.{true, false};
-ghost use mathlib.Core.List.{[], _∷_, reverse};
-ghost use Prim.Native.Nat.{_+_, _≤_, _<_};
-ghost use lib.ListN.{length, take, drop, replicate};
-ghost use lib.Seq.{slice};
-ghost use Rattle·rules.specs.Calls.{cleared};
-ghost use Rattle·rules.specs.Plane.{point};
-ghost use Rattle·point_numbers.specs.Width.{pointAt, Whole};
-ghost use Rattle·point_slices·specs.specs.Holds.{Holds, HoldsFrom, Blanks};
-ghost use Rattle·point_slices·specs.specs.Run.{laid, walked, Near, Pushed};
+#![tactic(auto)]
+
+ghost use Rattle.std.specs.Prelude.{◌≡◌, true, false, [], ◌∷◌, reverse, ◌+◌, ◌≤◌, ◌<◌, length, take, drop, replicate};
+ghost use Rattle.std.proofs.Math.Seq.{slice};
+ghost use Rattle.rules.specs.Calls.{cleared};
+ghost use Rattle.rules.specs.Plane.{point};
+ghost use Rattle.point_numbers.specs.Width.{point_at, Whole};
+ghost use Rattle.point_slices.specs.Holds.{Holds, HoldsFrom, Blanks};
+ghost use Rattle.point_slices.specs.Run.{laid, walked, Near, Pushed};
 
 // The weight of a number's sign.
 const SIGN: u64 = 0x8000_0000_0000_0000;
@@ -22,8 +20,8 @@ const FAR: usize = 262144;
 
 // The point x, y behind the first `have` numbers, unless it is equal to the last one there. Returns how many numbers there are.
 fn push_two(rest: &mut [u64], have: usize, x: u64, y: u64) -> usize
-    requires { ⌜ have + 2 ≤ length (now rest) ⌝ }
-    ensures { λ r. ⌜ Holds (now (rest .exit)) (now (rest .entry)) r (laid 2 (take have (now (rest .entry))) (point x y ∷ [])) ⌝ }
+    requires { have + 2 ≤ length rest.old }
+    ensures { Holds rest.new rest.old result (laid 2 (take have rest.old) (point x y ∷ [])) }
 {
     if 2 <= have {
         if point_numbers::equal(rest[have - 2], rest[have - 1], x, y) {
@@ -37,9 +35,9 @@ fn push_two(rest: &mut [u64], have: usize, x: u64, y: u64) -> usize
 
 // As `push_two`, where the last point's x is `last` but for its sign: a point whose x has other bits is not equal to it, and no number is read.
 fn next_two(rest: &mut [u64], have: usize, last: u64, x: u64, y: u64) -> usize
-    requires { ⌜ (have + 2 ≤ length (now rest)) × Near 2 (now rest) have last ⌝ }
-    ensures { λ r. ⌜ Holds (now (rest .exit)) (now (rest .entry)) r (laid 2 (take have (now (rest .entry))) (point x y ∷ []))
-        × Near 2 (now (rest .exit)) r x ⌝ }
+    requires { (have + 2 ≤ length rest.old) × Near 2 rest.old have last }
+    ensures { Holds rest.new rest.old result (laid 2 (take have rest.old) (point x y ∷ []))
+        × Near 2 rest.new result x }
 {
     if x % SIGN == last % SIGN {
         return push_two(rest, have, x, y);
@@ -51,8 +49,8 @@ fn next_two(rest: &mut [u64], have: usize, last: u64, x: u64, y: u64) -> usize
 
 // Each point of `src`, which have no extras, behind the first `have` numbers, in turn.
 fn forward_two(rest: &mut [u64], have: usize, src: &[u64]) -> usize
-    requires { ⌜ have + length (now src) ≤ length (now rest) ⌝ }
-    ensures { λ r. ⌜ Holds (now (rest .exit)) (now (rest .entry)) r (laid 2 (take have (now (rest .entry))) (walked 2 false (now (src .entry)))) ⌝ }
+    requires { have + length src.now ≤ length rest.old }
+    ensures { Holds rest.new rest.old result (laid 2 (take have rest.old) (walked 2 false src.now)) }
 {
     if src.len() < 2 {
         return have;
@@ -71,8 +69,8 @@ fn forward_two(rest: &mut [u64], have: usize, src: &[u64]) -> usize
 
 // Each point of `src`, which have no extras, behind the first `have` numbers, the last point first.
 fn backward_two(rest: &mut [u64], have: usize, src: &[u64]) -> usize
-    requires { ⌜ have + length (now src) ≤ length (now rest) ⌝ }
-    ensures { λ r. ⌜ Holds (now (rest .exit)) (now (rest .entry)) r (laid 2 (take have (now (rest .entry))) (walked 2 true (now (src .entry)))) ⌝ }
+    requires { have + length src.now ≤ length rest.old }
+    ensures { Holds rest.new rest.old result (laid 2 (take have rest.old) (walked 2 true src.now)) }
 {
     let mut k = src.len() / 2;
     if k == 0 {
@@ -92,8 +90,8 @@ fn backward_two(rest: &mut [u64], have: usize, src: &[u64]) -> usize
 
 // The point at j of `src`, which has extras, from `at` on. One or two of them are stored without a loop.
 fn put_high(rest: &mut [u64], at: usize, width: usize, src: &[u64], j: usize)
-    requires { ⌜ (3 ≤ width) × (at + width ≤ length (now rest)) × (j + width ≤ length (now src)) ⌝ }
-    ensures { λ _. ⌜ HoldsFrom (now (rest .exit)) (now (rest .entry)) at width (take width (drop j (now (src .entry)))) ⌝ }
+    requires { (3 ≤ width) × (at + width ≤ length rest.old) × (j + width ≤ length src.now) }
+    ensures { HoldsFrom rest.new rest.old at width (take width (drop j src.now)) }
 {
     rest[at] = src[j];
     rest[at + 1] = src[j + 1];
@@ -111,9 +109,9 @@ fn put_high(rest: &mut [u64], at: usize, width: usize, src: &[u64], j: usize)
 // The point at j of `src`, which has extras, behind the first `have` numbers, unless it is equal to the last one there, whose x is `last` but for its
 // sign: a point whose x has other bits is not equal to it. Returns how many numbers there are.
 fn next_high(rest: &mut [u64], have: usize, width: usize, last: u64, src: &[u64], j: usize) -> usize
-    requires { ⌜ (3 ≤ width) × (width ≤ have) × (have + width ≤ length (now rest)) × (j + width ≤ length (now src))
-        × Near width (now rest) have last ⌝ }
-    ensures { λ r. ⌜ Pushed width (now (rest .exit)) (now (rest .entry)) have r (pointAt width (now (src .entry)) j) ⌝ }
+    requires { (3 ≤ width) × (width ≤ have) × (have + width ≤ length rest.old) × (j + width ≤ length src.now)
+        × Near width rest.old have last }
+    ensures { Pushed width rest.new rest.old have result (point_at width src.now j) }
 {
     if src[j] % SIGN == last % SIGN {
         let at = have - width;
@@ -127,8 +125,8 @@ fn next_high(rest: &mut [u64], have: usize, width: usize, last: u64, src: &[u64]
 
 // As `next_high`, where there may be no last point.
 fn push_high(rest: &mut [u64], have: usize, width: usize, src: &[u64], j: usize) -> usize
-    requires { ⌜ (3 ≤ width) × (have + width ≤ length (now rest)) × (j + width ≤ length (now src)) ⌝ }
-    ensures { λ r. ⌜ Pushed width (now (rest .exit)) (now (rest .entry)) have r (pointAt width (now (src .entry)) j) ⌝ }
+    requires { (3 ≤ width) × (have + width ≤ length rest.old) × (j + width ≤ length src.now) }
+    ensures { Pushed width rest.new rest.old have result (point_at width src.now j) }
 {
     if width <= have {
         let last = rest[have - width];
@@ -140,8 +138,8 @@ fn push_high(rest: &mut [u64], have: usize, width: usize, src: &[u64], j: usize)
 
 // Each point of `src`, which have extras, behind the first `have` numbers, in turn.
 fn forward_high(rest: &mut [u64], have: usize, width: usize, src: &[u64]) -> usize
-    requires { ⌜ (3 ≤ width) × Whole width (now src) × (have + length (now src) ≤ length (now rest)) ⌝ }
-    ensures { λ r. ⌜ Holds (now (rest .exit)) (now (rest .entry)) r (laid width (take have (now (rest .entry))) (walked width false (now (src .entry)))) ⌝ }
+    requires { (3 ≤ width) × Whole width src.now × (have + length src.now ≤ length rest.old) }
+    ensures { Holds rest.new rest.old result (laid width (take have rest.old) (walked width false src.now)) }
 {
     if src.len() < width {
         return have;
@@ -160,8 +158,8 @@ fn forward_high(rest: &mut [u64], have: usize, width: usize, src: &[u64]) -> usi
 
 // Each point of `src`, which have extras, behind the first `have` numbers, the last point first.
 fn backward_high(rest: &mut [u64], have: usize, width: usize, src: &[u64]) -> usize
-    requires { ⌜ (3 ≤ width) × Whole width (now src) × (have + length (now src) ≤ length (now rest)) ⌝ }
-    ensures { λ r. ⌜ Holds (now (rest .exit)) (now (rest .entry)) r (laid width (take have (now (rest .entry))) (walked width true (now (src .entry)))) ⌝ }
+    requires { (3 ≤ width) × Whole width src.now × (have + length src.now ≤ length rest.old) }
+    ensures { Holds rest.new rest.old result (laid width (take have rest.old) (walked width true src.now)) }
 {
     if src.len() < width {
         return have;
@@ -181,8 +179,8 @@ fn backward_high(rest: &mut [u64], have: usize, width: usize, src: &[u64]) -> us
 // A run of points behind the first `have` numbers of the rest of a merged slice, in its own direction or turned. A point equal to the
 // last written is dropped, with its extras. Returns how many numbers there are. Points of two numbers have loops of their own.
 pub fn append_run(rest: &mut [u64], have: usize, width: usize, src: &[u64], turned: bool) -> usize
-    requires { ⌜ (2 ≤ width) × Whole width (now src) × (have + length (now src) ≤ length (now rest)) ⌝ }
-    ensures { λ r. ⌜ Holds (now (rest .exit)) (now (rest .entry)) r (laid width (take have (now (rest .entry))) (walked width turned (now (src .entry)))) ⌝ }
+    requires { (2 ≤ width) × Whole width src.now × (have + length src.now ≤ length rest.old) }
+    ensures { Holds rest.new rest.old result (laid width (take have rest.old) (walked width turned src.now)) }
 {
     if width == 2 {
         if turned {
@@ -198,8 +196,8 @@ pub fn append_run(rest: &mut [u64], have: usize, width: usize, src: &[u64], turn
 
 // `src` into `dst` from `at` on.
 pub fn copy_into(dst: &mut [u64], at: usize, src: &[u64])
-    requires { ⌜ at + length (now src) ≤ length (now dst) ⌝ }
-    ensures { λ _. ⌜ HoldsFrom (now (dst .exit)) (now (dst .entry)) at (length (now (src .entry))) (now (src .entry)) ⌝ }
+    requires { at + length src.now ≤ length dst.old }
+    ensures { HoldsFrom dst.new dst.old at (length src.now) src.now }
 {
     let mut i = 0;
     while i < src.len() {
@@ -210,8 +208,8 @@ pub fn copy_into(dst: &mut [u64], at: usize, src: &[u64])
 
 // The n numbers from `from` on, again from `at` on, which lies before them.
 pub fn copy_down(w: &mut [u64], from: usize, at: usize, n: usize)
-    requires { ⌜ (at + n ≤ from) × (from + n ≤ length (now w)) ⌝ }
-    ensures { λ _. ⌜ HoldsFrom (now (w .exit)) (now (w .entry)) at n (slice from (from + n) (now (w .entry))) ⌝ }
+    requires { (at + n ≤ from) × (from + n ≤ length w.old) }
+    ensures { HoldsFrom w.new w.old at n (slice from (from + n) w.old) }
 {
     let mut i = 0;
     while i < n {
@@ -222,8 +220,8 @@ pub fn copy_down(w: &mut [u64], from: usize, at: usize, n: usize)
 
 // The n numbers from `from` on, the last first, from `at` on, which lies before them.
 pub fn copy_back(w: &mut [u64], from: usize, at: usize, n: usize)
-    requires { ⌜ (at + n ≤ from) × (from + n ≤ length (now w)) ⌝ }
-    ensures { λ _. ⌜ HoldsFrom (now (w .exit)) (now (w .entry)) at n (reverse (slice from (from + n) (now (w .entry)))) ⌝ }
+    requires { (at + n ≤ from) × (from + n ≤ length w.old) }
+    ensures { HoldsFrom w.new w.old at n (reverse (slice from (from + n) w.old)) }
 {
     let mut i = 0;
     while i < n {
@@ -234,8 +232,8 @@ pub fn copy_back(w: &mut [u64], from: usize, at: usize, n: usize)
 
 // v, n times from `at` on.
 pub fn fill_from(w: &mut [u64], at: usize, n: usize, v: u64)
-    requires { ⌜ at + n ≤ length (now w) ⌝ }
-    ensures { λ _. ⌜ HoldsFrom (now (w .exit)) (now (w .entry)) at n (replicate n v) ⌝ }
+    requires { at + n ≤ length w.old }
+    ensures { HoldsFrom w.new w.old at n (replicate n v) }
 {
     let mut i = 0;
     while i < n {
@@ -246,8 +244,8 @@ pub fn fill_from(w: &mut [u64], at: usize, n: usize, v: u64)
 
 // Whether the 32 numbers from i on are zero.
 fn blank(w: &[u64], i: usize) -> bool
-    requires { ⌜ i + 32 ≤ length (now w) ⌝ }
-    ensures { λ r. ⌜ Blanks (now (w .entry)) i 32 r ⌝ }
+    requires { i + 32 ≤ length w.now }
+    ensures { Blanks w.now i 32 result }
 {
     let mut any: u64 = 0;
     let mut k: usize = 0;
@@ -260,8 +258,8 @@ fn blank(w: &[u64], i: usize) -> bool
 
 // Zero in the 32 numbers from i on. Where they are, nothing is written.
 fn wipe(w: &mut [u64], i: usize)
-    requires { ⌜ i + 32 ≤ length (now w) ⌝ }
-    ensures { λ _. ⌜ HoldsFrom (now (w .exit)) (now (w .entry)) i 32 (replicate 32 0) ⌝ }
+    requires { i + 32 ≤ length w.old }
+    ensures { HoldsFrom w.new w.old i 32 (replicate 32 0) }
 {
     if blank(w, i) {
         return;
@@ -271,8 +269,8 @@ fn wipe(w: &mut [u64], i: usize)
 
 // Zero in the first n numbers, but for fewer than 32 at the end. Returns how many are zero.
 fn wipe_all(w: &mut [u64], n: usize) -> usize
-    requires { ⌜ n ≤ length (now w) ⌝ }
-    ensures { λ r. ⌜ (r ≤ n) × (n < r + 32) × HoldsFrom (now (w .exit)) (now (w .entry)) 0 r (replicate r 0) ⌝ }
+    requires { n ≤ length w.old }
+    ensures { (result ≤ n) × (n < result + 32) × HoldsFrom w.new w.old 0 result (replicate result 0) }
 {
     let mut i = 0;
     while i + 32 <= n {
@@ -284,8 +282,8 @@ fn wipe_all(w: &mut [u64], n: usize) -> usize
 
 // Zero in the first n numbers; beyond them as before. A room that is read faster than it is written, and has few numbers that are not zero, is read.
 pub fn clear(w: &mut [u64], n: usize)
-    requires { ⌜ n ≤ length (now w) ⌝ }
-    ensures { λ _. ⌜ now (w .exit) ≡ cleared n (now (w .entry)) ⌝ }
+    requires { n ≤ length w.old }
+    ensures { w.new ≡ cleared n w.old }
 {
     if n < NEAR {
         fill_from(w, 0, n, 0);

@@ -1,46 +1,46 @@
 -- To compute with the book is to unfold every definition that a case runs through. `book` stands for all of them on an `unfolding` line, and each of
 -- the names above it for some.
-use mathlib.Core.List.{flatMap}
-use lib.Ieee.{div, ofBits, size, units}
-use Rattle·rules·specs.specs.Lists.{count, stands, from, upto, total, keep, first}
-use Rattle·rules·specs.specs.Root.{digits, floorRoot, rootUnits}
-use Rattle·rules·specs.specs.Cell.{floor64, cell}
-use Rattle·rules·specs.specs.Plane.{numbersOf, reads, points, flat, equal, sameKey, exactKey, cellKey, keyOf, toward, straight, directionOf, clamp, dot, measure}
-use Rattle·rules·specs.specs.Selecting.{within, pair, pairsWith, qualifying, before, insert, sorted, greedy, select}
-use Rattle·rules·specs.specs.Walking.{back, forward, walk, walksFrom, walks}
-use Rattle·rules·specs.specs.Chaining.{mate, lay, pieceAt, run, keyAt, node, endAt, chosen, joined, partner, merged, merge, join, plain, alone, pieces, limitOf, roundOne, roundTwo, chains, passed, turned}
-use Rattle·rules·specs.specs.Layout.{lines, copied, copy, loop, five, six, rows, laidOut, build, given, ends, listed}
-use Rattle·rules·specs.specs.Types.{widthOf}
-use Rattle·rules·specs.specs.Districts.{districtOf, isOf, linesBrought, pointsBrought, overLines, overPoints}
-use Rattle·rules·specs.specs.Refusals.{firstOf, anyAbove, limitBad, originBad, nowhere, anyNowhere, refusalOf, moreThanTwice, anyWild, pairRefusalOf}
-use Rattle·rules·specs.specs.Calls.{pairsOf}
+use mathlib.Core.List.{flat_map}
+use lib.Ieee.{div, of_bits, size, units}
+use Rattle.rules.specs.Lists.{count, stands, from, upto, total, keep, first}
+use Rattle.rules.specs.Root.{digits, floor_root, root_units}
+use Rattle.rules.specs.Cell.{floor64, cell}
+use Rattle.rules.specs.Plane.{numbers_of, reads, points, flat, equal, same_key, exact_key, cell_key, key_of, toward, straight, direction_of, clamp, dot, measure}
+use Rattle.rules.specs.Selecting.{within, pair, pairs_with, qualifying, before, insert, sorted, greedy, select}
+use Rattle.rules.specs.Walking.{back, forward, walk, walks_from, walks}
+use Rattle.rules.specs.Chaining.{mate, lay, piece_at, run, key_at, node, end_at, chosen, joined, partner, merged, merge, join, plain, alone, pieces, limit_of, round_one, round_two, chains, passed, turned}
+use Rattle.rules.specs.Layout.{lines, copied, copy, loop, five, six, rows, laid_out, build, given, ends, listed}
+use Rattle.rules.specs.Types.{width_of}
+use Rattle.rules.specs.Districts.{district_of, is_of, lines_brought, points_brought, over_lines, over_points}
+use Rattle.rules.specs.Refusals.{first_of, any_above, limit_bad, origin_bad, nowhere, any_nowhere, refusal_of, more_than_twice, any_wild, pair_refusal_of}
+use Rattle.rules.specs.Calls.{pairs_of}
 
 unfoldable pub the-library : Unit {0}
-unfolding flatMap div ofBits size units
+unfolding flat_map div of_bits size units
 the-library = tt
 
 unfoldable pub the-numbers : Unit {0}
-unfolding count stands from upto total keep first digits floorRoot rootUnits floor64 cell
+unfolding count stands from upto total keep first digits floor_root root_units floor64 cell
 the-numbers = tt
 
 unfoldable pub the-plane : Unit {0}
-unfolding numbersOf reads points flat equal sameKey exactKey cellKey keyOf toward straight directionOf clamp dot measure
+unfolding numbers_of reads points flat equal same_key exact_key cell_key key_of toward straight direction_of clamp dot measure
 the-plane = tt
 
 unfoldable pub the-pairs : Unit {0}
-unfolding within pair pairsWith qualifying before insert sorted greedy select
+unfolding within pair pairs_with qualifying before insert sorted greedy select
 the-pairs = tt
 
 unfoldable pub the-chains : Unit {0}
-unfolding back forward walk walksFrom walks mate lay pieceAt run keyAt node endAt chosen joined partner merged passed turned merge join plain alone pieces limitOf roundOne roundTwo chains
+unfolding back forward walk walks_from walks mate lay piece_at run key_at node end_at chosen joined partner merged passed turned merge join plain alone pieces limit_of round_one round_two chains
 the-chains = tt
 
 unfoldable pub the-calls : Unit {0}
-unfolding lines copied copy five laidOut build given ends listed widthOf firstOf anyAbove limitBad originBad nowhere anyNowhere refusalOf moreThanTwice anyWild pairRefusalOf pairsOf loop six rows
+unfolding lines copied copy five laid_out build given ends listed width_of first_of any_above limit_bad origin_bad nowhere any_nowhere refusal_of more_than_twice any_wild pair_refusal_of pairs_of loop six rows
 the-calls = tt
 
 unfoldable pub the-shares : Unit {0}
-unfolding keep districtOf isOf linesBrought pointsBrought overLines overPoints
+unfolding keep district_of is_of lines_brought points_brought over_lines over_points
 the-shares = tt
 
 unfoldable pub book : Unit {0}

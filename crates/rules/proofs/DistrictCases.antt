@@ -1,18 +1,18 @@
 -- Districts, computed on the book: whose a group is, shares at their edges, the place of 20 and 21 among the refusals, and lines that meet and whose groups
 -- differ in the top bit alone.
-use Prim.Native.Nat.{ℕ, _+_, _*_}
-use mathlib.Core.Bool.{Bool, _&&_}
-use mathlib.Core.List.{List, [], _∷_, _++_}
+use Prim.Native.Nat.{ℕ, ◌+◌, ◌*◌}
+use mathlib.Core.Bool.{Bool, ◌&&◌}
+use mathlib.Core.List.{List, [], ◌∷◌, ◌++◌}
 use lib.Dec.{T}
 use lib.ListN.{length, replicate}
-use lib.Ieee.{lt, eq, le, sub, div, ofBits}
-use Rattle·rules·specs.specs.Lists.{total}
-use Rattle·rules·specs.specs.Plane.{float}
-use Rattle·rules·specs.specs.Layout.{lent}
-use Rattle·rules·specs.specs.Districts.{districtOf}
-use Rattle·rules·specs.specs.Refusals.{rooms, refusalOf}
-use Rattle·rules·proofs.proofs.Computing.{book}
-use Rattle·rules·proofs.proofs.Given.{+0, +1, +2, not-a-number, same, Call, exactly, builds}
+use lib.Ieee.{lt, eq, le, sub, div, of_bits}
+use Rattle.rules.specs.Lists.{total}
+use Rattle.rules.specs.Plane.{float}
+use Rattle.rules.specs.Layout.{lent}
+use Rattle.rules.specs.Districts.{district_of}
+use Rattle.rules.specs.Refusals.{rooms, refusal_of}
+use Rattle.rules.proofs.Computing.{book}
+use Rattle.rules.proofs.Given.{+0, +1, +2, not_a_number, same, Call, exactly, builds}
 
 -- a group of each district, which differ in the top bit alone
 abbrev near : ℕ
@@ -21,8 +21,8 @@ near = 7
 abbrev far : ℕ
 far = 2147483655
 
-pub bordering : T (same (districtOf 0 ∷ districtOf 2147483647 ∷ districtOf 2147483648 ∷ districtOf 4294967295 ∷ []) (0 ∷ 0 ∷ 1 ∷ 1 ∷ []))
-unfolding districtOf
+pub bordering : T (same (district_of 0 ∷ district_of 2147483647 ∷ district_of 2147483648 ∷ district_of 4294967295 ∷ []) (0 ∷ 0 ∷ 1 ∷ 1 ∷ []))
+unfolding district_of
 bordering = tt
 
 -- ---- shares
@@ -31,8 +31,8 @@ bordering = tt
 -- by 7 where there is no coordinate
 abbrev refused : List ℕ → List ℕ → ℕ
 refused counts groups =
-    refusalOf 2 (lent (replicate (total counts * 2) not-a-number) counts groups (replicate (length counts) 1))
-    (record { tolerance = float +0; «origin_x» = float +0; «origin_y» = float +0; switch = 0; limit = float +0 })
+    refusal_of 2 (lent (replicate (total counts * 2) not_a_number) counts groups (replicate (length counts) 1))
+    (record { tolerance = float +0; origin_x = float +0; origin_y = float +0; switch = 0; limit = float +0 })
     (rooms [] [] [] [] [] [] [] [])
 
 -- a lines of the first district and b of the second, all empty
@@ -40,21 +40,21 @@ abbrev empties : ℕ → ℕ → ℕ
 empties a b = refused (replicate (a + b) 0) (replicate a near ++ replicate b far)
 
 -- 4,096 lines fit only as 2,048 and 2,048, empty ones and those that pass through counted
-unfoldable pub lineShares : Bool
+unfoldable pub line_shares : Bool
 unfolding book
-lineShares =
+line_shares =
     same
     (empties 2048 2048 ∷ empties 2049 0 ∷ empties 0 2049 ∷ empties 2047 2049 ∷ empties 2049 2047 ∷ empties 2049 2049 ∷ [])
     (7 ∷ 20 ∷ 20 ∷ 20 ∷ 20 ∷ 1 ∷ [])
 
-pub line-shares : T lineShares
-unfolding lineShares lt eq le ofBits
-line-shares = tt
+pub line_shares_lem : T line_shares
+unfolding line_shares lt eq le of_bits
+line_shares_lem = tt
 
 -- 65,536 coordinates only as 32,768 and 32,768, of one line or of several
-unfoldable pub pointShares : Bool
+unfoldable pub point_shares : Bool
 unfolding book
-pointShares =
+point_shares =
     same
     (refused (32768 ∷ 32768 ∷ []) (near ∷ far ∷ [])
     ∷ refused (32769 ∷ []) (near ∷ [])
@@ -63,14 +63,14 @@ pointShares =
     ∷ [])
     (15 ∷ 21 ∷ 21 ∷ 21 ∷ [])
 
-pub point-shares : T pointShares
-unfolding pointShares lt eq le ofBits
-point-shares = tt
+pub point_shares_lem : T point_shares
+unfolding point_shares lt eq le of_bits
+point_shares_lem = tt
 
 -- 20 of either district before 21 of either; both after 5 and before 15
-unfoldable pub shareOrder : Bool
+unfoldable pub share_order : Bool
 unfolding book
-shareOrder =
+share_order =
     same
     (refused (32769 ∷ replicate 2049 0) (near ∷ replicate 2049 far)
     ∷ refused (replicate 2049 0 ++ (32769 ∷ [])) (replicate 2049 near ++ (far ∷ []))
@@ -81,9 +81,9 @@ shareOrder =
     ∷ [])
     (20 ∷ 20 ∷ 5 ∷ 20 ∷ 21 ∷ 15 ∷ [])
 
-pub share-order : T shareOrder
-unfolding shareOrder lt eq le ofBits
-share-order = tt
+pub share_order_lem : T share_order
+unfolding share_order lt eq le of_bits
+share_order_lem = tt
 
 -- ---- lines of two districts that meet
 
@@ -101,6 +101,6 @@ neighbours =
     apart (exactly (near ∷ far ∷ []) meeting)
     && apart (record { groups = near ∷ far ∷ []; lines = meeting; tolerance = +1; switch = 0; limit = +0 })
 
-pub kept-apart : T neighbours
-unfolding neighbours lt eq sub div ofBits
-kept-apart = tt
+pub kept_apart : T neighbours
+unfolding neighbours lt eq sub div of_bits
+kept_apart = tt

@@ -1,30 +1,31 @@
 -- 02 [12], Chains made elsewhere: which deliveries of chains are acceptable, and what the call that judges one determines. Each definition is a clause
 -- of the request.
-use Rattle·rules·specs.specs.Library.{ℕ, zero, suc, _+_, _*_, _≡_, Bool, true, false, not, _&&_, _||_, cond, List, [], _∷_, _++_, map, flatMap, reverse, none, length, take, drop, getD, leb, eqb, ltb, lt, Answer, Meeting, Grid, Exact, Cells}
-use Rattle·rules·specs.specs.Lists.{count, upto, anyOf, allOf}
-use Rattle·rules·specs.specs.Plane.{Point, point, points, equal, sameKey, keyOf, nought}
-use Rattle·rules·specs.specs.Chaining.{Line, plain, lay}
-use Rattle·rules·specs.specs.Layout.{Lines, linesIn}
-use Rattle·rules·specs.specs.Types.{widthOf}
-use Rattle·rules·specs.specs.Refusals.{lineRoom, firstOf, lineTests, short, originBad, entry, noChain}
-use Rattle·rules·specs.specs.Calls.{unless, answerOf, cleared, viewed}
+use Rattle.std.specs.Prelude.{◌+◌, ◌*◌, ◌≡◌, ◌&&◌, ◌||◌, ◌∷◌, ◌++◌}
+use Rattle.rules.specs.Library.{ℕ, zero, suc, Bool, true, false, not, cond, List, [], map, flat_map, reverse, none, length, take, drop, get_or, leb, eqb, ltb, lt, Answer, Meeting, Grid, Exact, Cells}
+use Rattle.rules.specs.Lists.{count, upto, any_of, all_of}
+use Rattle.rules.specs.Plane.{Point, point, points, equal, same_key, key_of, nought}
+use Rattle.rules.specs.Chaining.{Line, plain, lay}
+use Rattle.rules.specs.Layout.{Lines, lines_in}
+use Rattle.rules.specs.Types.{width_of}
+use Rattle.rules.specs.Refusals.{line_room, first_of, line_tests, short, origin_bad, entry, no_chain}
+use Rattle.rules.specs.Calls.{unless, answer_of, cleared, viewed}
 
 -- ---- "consecutive lines meet in the same exact key or, with a tolerance, the same cell"
 -- the keys of two points by a grid are the same; the keys' group is the chain's
-unfoldable pub oneKey : Grid → Point → Point → Bool
-oneKey grid p q = sameKey (keyOf grid 0 p) (keyOf grid 0 q)
+unfoldable pub one_key : Grid → Point → Point → Bool
+one_key grid p q = same_key (key_of grid 0 p) (key_of grid 0 q)
 
 -- with a tolerance: one above 0, as for round two, which a NaN isn't
 unfoldable pub meet : Meeting → Point → Point → Bool
-meet m p q = oneKey Exact p q || (lt nought (m .tolerance) && oneKey (Cells (m .tolerance) (m .«origin_x») (m .«origin_y»)) p q)
+meet m p q = one_key Exact p q || (lt nought m.tolerance && one_key (Cells m.tolerance m.origin_x m.origin_y) p q)
 
 -- ---- "a choice of direction per line": for each line whether it is turned
 unfoldable pub travelled : Bool → Line → List Point
-travelled turned l = cond turned (reverse (l .points)) (l .points)
+travelled turned l = cond turned (reverse l.points) l.points
 
 -- where a line is entered, and where it is left
 abbrev pub entered : Bool → Line → Point
-entered turned l = getD (travelled turned l) 0 (point 0 0)
+entered turned l = get_or (travelled turned l) 0 (point 0 0)
 
 abbrev pub departed : Bool → Line → Point
 departed turned l = entered (not turned) l
@@ -38,10 +39,10 @@ meetings m (p ∷ l ∷ ls) (d ∷ []) = false
 meetings m (p ∷ l ∷ ls) (d ∷ e ∷ ds) = meet m (departed d p) (entered e l) && meetings m (l ∷ ls) (e ∷ ds)
 
 -- ---- "the coordinates equal, number by number under `==`, those lines laid end to end with repeats dropped as in 01"
-unfoldable pub endToEnd : List Line → List Bool → List Point
-endToEnd [] ds = []
-endToEnd (l ∷ ls) [] = []
-endToEnd (l ∷ ls) (d ∷ ds) = travelled d l ++ endToEnd ls ds
+unfoldable pub end_to_end : List Line → List Bool → List Point
+end_to_end [] ds = []
+end_to_end (l ∷ ls) [] = []
+end_to_end (l ∷ ls) (d ∷ ds) = travelled d l ++ end_to_end ls ds
 
 unfoldable pub agree : List Point → List Point → Bool
 agree [] [] = true
@@ -51,41 +52,41 @@ agree (p ∷ l) (q ∷ r) = equal p q && agree l r
 
 -- a choice that is as asked
 unfoldable pub suits : Meeting → List Line → List Point → List Bool → Bool
-suits m ls coordinates turned = meetings m ls turned && agree (lay none (endToEnd ls turned)) coordinates
+suits m ls coordinates turned = meetings m ls turned && agree (lay none (end_to_end ls turned)) coordinates
 
 -- every choice for n lines, and that one of them suits
 unfoldable pub choices : ℕ → List (List Bool)
 choices zero = [] ∷ []
-choices (suc n) = flatMap (λ c. (false ∷ c) ∷ (true ∷ c) ∷ []) (choices n)
+choices (suc n) = flat_map (λ c. (false ∷ c) ∷ (true ∷ c) ∷ []) (choices n)
 
-unfoldable pub aChoice : Meeting → List Line → List Point → Bool
-aChoice m ls coordinates = anyOf (suits m ls coordinates) (choices (length ls))
+unfoldable pub a_choice : Meeting → List Line → List Point → Bool
+a_choice m ls coordinates = any_of (suits m ls coordinates) (choices (length ls))
 
 -- ---- "a lone line untouched, bit for bit", with its extras
-unfoldable pub sameNumbers : List ℕ → List ℕ → Bool
-sameNumbers [] [] = true
-sameNumbers [] (b ∷ r) = false
-sameNumbers (a ∷ l) [] = false
-sameNumbers (a ∷ l) (b ∷ r) = eqb a b && sameNumbers l r
+unfoldable pub same_numbers : List ℕ → List ℕ → Bool
+same_numbers [] [] = true
+same_numbers [] (b ∷ r) = false
+same_numbers (a ∷ l) [] = false
+same_numbers (a ∷ l) (b ∷ r) = eqb a b && same_numbers l r
 
 unfoldable pub untouched : List Point → List Point → Bool
 untouched [] [] = true
 untouched [] (q ∷ r) = false
 untouched (p ∷ l) [] = false
-untouched (p ∷ l) (q ∷ r) = sameNumbers (p .x ∷ p .y ∷ p .extras) (q .x ∷ q .y ∷ q .extras) && untouched l r
+untouched (p ∷ l) (q ∷ r) = same_numbers (p.x ∷ p.y ∷ p.extras) (q.x ∷ q.y ∷ q.extras) && untouched l r
 
 -- ---- a chain: "a chain's lines share a group, pass-through lines stand alone"
-unfoldable pub oneGroup : List Line → Bool
-oneGroup [] = true
-oneGroup (p ∷ ls) = allOf (λ l. eqb (p .group) (l .group)) ls
+unfoldable pub one_group : List Line → Bool
+one_group [] = true
+one_group (p ∷ ls) = all_of (λ l. eqb p.group l.group) ls
 
 unfoldable pub joins : Meeting → List Line → List Point → Bool
-joins m ls coordinates = allOf plain ls && (oneGroup ls && aChoice m ls coordinates)
+joins m ls coordinates = all_of plain ls && (one_group ls && a_choice m ls coordinates)
 
 -- a chain of no lines has no pass-through line, one group and nothing to choose: its coordinates are none
 unfoldable pub fits : Meeting → List Line → List Point → Bool
 fits m [] coordinates = joins m [] coordinates
-fits m (l ∷ []) coordinates = untouched (l .points) coordinates
+fits m (l ∷ []) coordinates = untouched l.points coordinates
 fits m (p ∷ l ∷ ls) coordinates = joins m (p ∷ l ∷ ls) coordinates
 
 -- ---- a delivery: "every line stands in exactly one chain", that is once in all listings
@@ -94,15 +95,15 @@ pub record Delivered : Type 0 where
   pub listed : List ℕ
   pub coordinates : List Point
 
-abbrev pub noLine : Line
-noLine = record { points = []; group = 0; kind = 0 }
+abbrev pub no_line : Line
+no_line = record { points = []; group = 0; kind = 0 }
 
-abbrev pub linesOf : List Line → Delivered → List Line
-linesOf all c = map (λ y. getD all y noLine) (c .listed)
+abbrev pub lines_of : List Line → Delivered → List Line
+lines_of all c = map (λ y. get_or all y no_line) c.listed
 
 unfoldable pub acceptable : Meeting → List Line → List Delivered → Bool
 acceptable m all cs =
-    allOf (λ y. eqb (count y (flatMap (λ c. c .listed) cs)) 1) (upto (length all)) && allOf (λ c. fits m (linesOf all c) (c .coordinates)) cs
+    all_of (λ y. eqb (count y (flat_map (λ c. c.listed) cs)) 1) (upto (length all)) && all_of (λ c. fits m (lines_of all c) c.coordinates) cs
 
 -- ---- the call
 -- what it lends, as it stands at entry: lines of a type, and the first `number` chains of a table, with their listing and their merged coordinates
@@ -121,38 +122,38 @@ delivery t l m table number listing merged workspace =
     record { type = t; lines = l; meeting = m; table = table; number = number; listing = listing; merged = merged; workspace = workspace }
 
 -- chain k: the part of the listing that its record's first two numbers name, and the coordinates of the view
-unfoldable pub listedAt : List ℕ → List ℕ → ℕ → List ℕ
-listedAt table listing k = take (entry table k 1) (drop (entry table k 0) listing)
+unfoldable pub listed_at : List ℕ → List ℕ → ℕ → List ℕ
+listed_at table listing k = take (entry table k 1) (drop (entry table k 0) listing)
 
-unfoldable pub deliveredAt : Delivery → ℕ → Delivered
-deliveredAt i k =
+unfoldable pub delivered_at : Delivery → ℕ → Delivered
+delivered_at i k =
     record {
-      listed = listedAt (i .table) (i .listing) k;
-      coordinates = points (widthOf (i .type)) (viewed (i .type) (i .lines .coordinates) (i .merged) (i .table) k);
+      listed = listed_at i.table i.listing k;
+      coordinates = points (width_of i.type) (viewed i.type i.lines.coordinates i.merged i.table k);
     }
 
 -- "a record refused by 10, reaching outside the listing or naming a line not below n"
-unfoldable pub badRecord : Delivery → ℕ → Bool
-badRecord i k =
-    noChain (widthOf (i .type)) (i .lines .coordinates) (i .merged) (i .table) k
-    || (ltb (length (i .listing)) (entry (i .table) k 0 + entry (i .table) k 1)
-    || anyOf (leb (length (i .lines .counts))) (listedAt (i .table) (i .listing) k))
+unfoldable pub bad_record : Delivery → ℕ → Bool
+bad_record i k =
+    no_chain (width_of i.type) i.lines.coordinates i.merged i.table k
+    || (ltb (length i.listing) (entry i.table k 0 + entry i.table k 1)
+    || any_of (leb (length i.lines.counts)) (listed_at i.table i.listing k))
 
 unfoldable pub accepted : Delivery → Bool
-accepted i = acceptable (i .meeting) (linesIn (widthOf (i .type)) (i .lines)) (map (deliveredAt i) (upto (i .number)))
+accepted i = acceptable i.meeting (lines_in (width_of i.type) i.lines) (map (delivered_at i) (upto i.number))
 
 -- the refusals, in order of checking
-unfoldable pub checkRefusalOf : Delivery → ℕ
-checkRefusalOf i =
-    firstOf
-    (lineTests (i .type) (i .lines)
-    ++ ((17, originBad (i .meeting .«origin_x») (i .meeting .«origin_y»))
-    ∷ (7, short (i .workspace) (length (i .lines .counts) * lineRoom))
-    ∷ (23, anyOf (badRecord i) (upto (i .number)))
+unfoldable pub check_refusal_of : Delivery → ℕ
+check_refusal_of i =
+    first_of
+    (line_tests i.type i.lines
+    ++ ((17, origin_bad i.meeting.origin_x i.meeting.origin_y)
+    ∷ (7, short i.workspace (length i.lines.counts * line_room))
+    ∷ (23, any_of (bad_record i) (upto i.number))
     ∷ (24, not (accepted i))
     ∷ []))
 
 -- what it determines: 0 where the delivery is acceptable, and then zeros in the workspace
-pub record Checked (i : Delivery) (r : Answer) (workspace′ : List ℕ) : Type 0 where
-  pub answer : r ≡ answerOf (checkRefusalOf i) 0
-  pub workspace : workspace′ ≡ unless (checkRefusalOf i) (i .workspace) (cleared (length (i .lines .counts) * lineRoom) (i .workspace))
+pub record Checked (i : Delivery) (r : Answer) (workspace' : List ℕ) : Type 0 where
+  pub answer : r ≡ answer_of (check_refusal_of i) 0
+  pub workspace : workspace' ≡ unless (check_refusal_of i) i.workspace (cleared (length i.lines.counts * line_room) i.workspace)

@@ -1,14 +1,15 @@
 -- 02 [9], One exact round, many zooms: pieces that a call lends, what they stand for, refusal 19 clause by clause, and what the two calls determine.
 -- A record of a piece has 01's five numbers: first member, member count, source, first coordinate, coordinate count.
-use Rattle·rules·specs.specs.Library.{ℕ, _+_, _*_, _≡_, Bool, true, false, not, _&&_, _||_, List, [], _∷_, _++_, map, flatMap, length, getD, take, drop, eqb, ltb, Float, Answer, Settings}
-use Rattle·rules·specs.specs.Lists.{count, upto, total, anyOf}
-use Rattle·rules·specs.specs.Plane.{nought, points, flat}
-use Rattle·rules·specs.specs.Chaining.{Piece, pieces, roundOne, roundTwo}
-use Rattle·rules·specs.specs.Boxes.{boxRoom}
-use Rattle·rules·specs.specs.Layout.{Lines, linesIn, copy, pieceTable, Laid, laidOut}
-use Rattle·rules·specs.specs.Types.{widthOf}
-use Rattle·rules·specs.specs.Refusals.{firstOf, anyAbove, anyNowhere, originBad, short, sourceOf, lineTests, settingTests, pieceSize, recordSize, lineRoom}
-use Rattle·rules·specs.specs.Calls.{unless, answerOf, written, cleared}
+use Rattle.std.specs.Prelude.{◌+◌, ◌*◌, ◌≡◌, ◌&&◌, ◌||◌, ◌∷◌, ◌++◌}
+use Rattle.rules.specs.Library.{ℕ, Bool, true, false, not, List, [], map, flat_map, length, get_or, take, drop, eqb, ltb, Float, Answer, Settings}
+use Rattle.rules.specs.Lists.{count, upto, total, any_of}
+use Rattle.rules.specs.Plane.{nought, points, flat}
+use Rattle.rules.specs.Chaining.{Piece, pieces, round_one, round_two}
+use Rattle.rules.specs.Boxes.{box_room}
+use Rattle.rules.specs.Layout.{Lines, lines_in, copy, piece_table, Laid, laid_out}
+use Rattle.rules.specs.Types.{width_of}
+use Rattle.rules.specs.Refusals.{first_of, any_above, any_nowhere, origin_bad, short, source_of, line_tests, setting_tests, piece_size, record_size, line_room}
+use Rattle.rules.specs.Calls.{unless, answer_of, written, cleared}
 
 -- the pieces as they are lent: their records, members, marks, listing and merged coordinates, and how many they are
 pub record LentPieces : Type 0 where
@@ -19,160 +20,160 @@ pub record LentPieces : Type 0 where
   pub merged : List ℕ
   pub number : ℕ
 
-abbrev pub lentPieces : List ℕ → List ℕ → List ℕ → List ℕ → List ℕ → ℕ → LentPieces
-lentPieces a b c d e k = record { records = a; members = b; marks = c; listing = d; merged = e; number = k }
+abbrev pub lent_pieces : List ℕ → List ℕ → List ℕ → List ℕ → List ℕ → ℕ → LentPieces
+lent_pieces a b c d e k = record { records = a; members = b; marks = c; listing = d; merged = e; number = k }
 
 -- the lines that don't pass through, by position
-unfoldable pub plainLines : ℕ → Lines → List ℕ
-plainLines w l = flatMap (λ p. p .lines) (pieces true 0 (linesIn w l))
+unfoldable pub plain_lines : ℕ → Lines → List ℕ
+plain_lines w l = flat_map (λ p. p.lines) (pieces true 0 (lines_in w l))
 
 -- a line stands in one of two lists more often than in the other
 unfoldable pub differ : List ℕ → List ℕ → Bool
-differ a b = anyOf (λ y. not (eqb (count y a) (count y b))) (a ++ b)
+differ a b = any_of (λ y. not (eqb (count y a) (count y b))) (a ++ b)
 
 module _ (w : ℕ) (l : Lines) (p : LentPieces) where
   -- ---- what record q names
-  abbrev pub firstMember : ℕ → ℕ
-  firstMember q = getD (p .records) (q * pieceSize) 0
+  abbrev pub first_member : ℕ → ℕ
+  first_member q = get_or p.records (q * piece_size) 0
 
-  abbrev pub memberCount : ℕ → ℕ
-  memberCount q = getD (p .records) (q * pieceSize + 1) 0
+  abbrev pub member_count : ℕ → ℕ
+  member_count q = get_or p.records (q * piece_size + 1) 0
 
   abbrev pub source : ℕ → ℕ
-  source q = getD (p .records) (q * pieceSize + 2) 0
+  source q = get_or p.records (q * piece_size + 2) 0
 
-  abbrev pub firstPoint : ℕ → ℕ
-  firstPoint q = getD (p .records) (q * pieceSize + 3) 0
+  abbrev pub first_point : ℕ → ℕ
+  first_point q = get_or p.records (q * piece_size + 3) 0
 
-  abbrev pub pointCount : ℕ → ℕ
-  pointCount q = getD (p .records) (q * pieceSize + 4) 0
+  abbrev pub point_count : ℕ → ℕ
+  point_count q = get_or p.records (q * piece_size + 4) 0
 
   -- the part of the members, of the marks or of the listing
-  unfoldable pub partOf : List ℕ → ℕ → List ℕ
-  partOf s q = take (memberCount q) (drop (firstMember q) s)
+  unfoldable pub part_of : List ℕ → ℕ → List ℕ
+  part_of s q = take (member_count q) (drop (first_member q) s)
 
-  abbrev pub membersAt : ℕ → List ℕ
-  membersAt q = partOf (p .members) q
+  abbrev pub members_at : ℕ → List ℕ
+  members_at q = part_of p.members q
 
-  abbrev pub marksAt : ℕ → List ℕ
-  marksAt q = partOf (p .marks) q
+  abbrev pub marks_at : ℕ → List ℕ
+  marks_at q = part_of p.marks q
 
-  abbrev pub listingAt : ℕ → List ℕ
-  listingAt q = partOf (p .listing) q
+  abbrev pub listing_at : ℕ → List ℕ
+  listing_at q = part_of p.listing q
 
   abbrev pub named : ℕ → List ℕ
-  named q = sourceOf (source q) (l .coordinates) (p .merged)
+  named q = source_of (source q) l.coordinates p.merged
 
-  unfoldable pub numbersAt : ℕ → List ℕ
-  numbersAt q = take (pointCount q * w) (drop (firstPoint q * w) (named q))
+  unfoldable pub numbers_at : ℕ → List ℕ
+  numbers_at q = take (point_count q * w) (drop (first_point q * w) (named q))
 
   -- the first of its lines
   abbrev pub leader : ℕ → ℕ
-  leader q = getD (membersAt q) 0 0
+  leader q = get_or (members_at q) 0 0
 
   -- ---- what it stands for
   unfoldable pub standing : ℕ → Piece
   standing q =
       record {
-        lines = membersAt q;
-        marks = marksAt q;
-        listing = listingAt q;
-        points = points w (numbersAt q);
-        group = getD (l .groups) (leader q) 0;
+        lines = members_at q;
+        marks = marks_at q;
+        listing = listing_at q;
+        points = points w (numbers_at q);
+        group = get_or l.groups (leader q) 0;
       }
 
-  unfoldable pub stoodFor : List Piece
-  stoodFor = map standing (upto (p .number))
+  unfoldable pub stood_for : List Piece
+  stood_for = map standing (upto p.number)
 
   -- ---- refusal 19: each clause a test that holds where the pieces are refused
   -- "the members, or the listing of [6], each taken piece by piece as the records name them, aren't the lines that don't pass through, each once"
-  unfoldable pub membersWrong : Bool
-  membersWrong = differ (flatMap membersAt (upto (p .number))) (plainLines w l)
+  unfoldable pub members_wrong : Bool
+  members_wrong = differ (flat_map members_at (upto p.number)) (plain_lines w l)
 
-  unfoldable pub listingWrong : Bool
-  listingWrong = differ (flatMap listingAt (upto (p .number))) (plainLines w l)
+  unfoldable pub listing_wrong : Bool
+  listing_wrong = differ (flat_map listing_at (upto p.number)) (plain_lines w l)
 
   -- "the two name different lines in a piece"
-  unfoldable pub namesDiffer : ℕ → Bool
-  namesDiffer q = differ (membersAt q) (listingAt q)
+  unfoldable pub names_differ : ℕ → Bool
+  names_differ q = differ (members_at q) (listing_at q)
 
   -- "a piece has no line or coordinate"
-  abbrev pub noLine : ℕ → Bool
-  noLine q = eqb (memberCount q) 0
+  abbrev pub no_line : ℕ → Bool
+  no_line q = eqb (member_count q) 0
 
-  abbrev pub noPoint : ℕ → Bool
-  noPoint q = eqb (pointCount q) 0
+  abbrev pub no_point : ℕ → Bool
+  no_point q = eqb (point_count q) 0
 
   -- "mixes groups": it has a line of another group than its first
-  unfoldable pub mixesGroups : ℕ → Bool
-  mixesGroups q = anyOf (λ y. not (eqb (getD (l .groups) y 0) (getD (l .groups) (leader q) 0))) (membersAt q)
+  unfoldable pub mixes_groups : ℕ → Bool
+  mixes_groups q = any_of (λ y. not (eqb (get_or l.groups y 0) (get_or l.groups (leader q) 0))) (members_at q)
 
   -- "leaves its slices": by its members, marks and listing, or by its coordinates
-  abbrev pub membersLeave : ℕ → Bool
-  membersLeave q =
-      let end = firstMember q + memberCount q in
-      short (p .members) end || (short (p .marks) end || short (p .listing) end)
+  abbrev pub members_leave : ℕ → Bool
+  members_leave q =
+      let end = first_member q + member_count q in
+      short p.members end || (short p.marks end || short p.listing end)
 
-  abbrev pub pointsLeave : ℕ → Bool
-  pointsLeave q = short (named q) ((firstPoint q + pointCount q) * w)
+  abbrev pub points_leave : ℕ → Bool
+  points_leave q = short (named q) ((first_point q + point_count q) * w)
 
   -- "has a coordinate that isn't finite"
-  unfoldable pub notFinite : ℕ → Bool
-  notFinite q = anyNowhere (points w (numbersAt q))
+  unfoldable pub not_finite : ℕ → Bool
+  not_finite q = any_nowhere (points w (numbers_at q))
 
   -- "isn't the line's own in source 0 (one line) or in source 1 (more)"
-  unfoldable pub ownPlace : ℕ → Bool
-  ownPlace q =
-      eqb (source q) 0 && (eqb (firstPoint q) (total (take (leader q) (l .counts))) && eqb (pointCount q) (getD (l .counts) (leader q) 0))
+  unfoldable pub own_place : ℕ → Bool
+  own_place q =
+      eqb (source q) 0 && (eqb (first_point q) (total (take (leader q) l.counts)) && eqb (point_count q) (get_or l.counts (leader q) 0))
 
-  unfoldable pub notOwn : ℕ → Bool
-  notOwn q = elim (eqb (memberCount q) 1) [ true ↦ not (ownPlace q) | false ↦ not (eqb (source q) 1) ]
+  unfoldable pub not_own : ℕ → Bool
+  not_own q = elim (eqb (member_count q) 1) [ true ↦ not (own_place q) | false ↦ not (eqb (source q) 1) ]
 
   -- "all have more than c together"
-  unfoldable pub tooMany : Bool
-  tooMany = ltb (total (l .counts)) (total (map pointCount (upto (p .number))))
+  unfoldable pub too_many : Bool
+  too_many = ltb (total l.counts) (total (map point_count (upto p.number)))
 
   -- "a mark is above 1"
-  abbrev pub markAbove : ℕ → Bool
-  markAbove q = anyAbove 1 (marksAt q)
+  abbrev pub mark_above : ℕ → Bool
+  mark_above q = any_above 1 (marks_at q)
 
   -- the clauses of one piece: those of its record's numbers, and those of what it names
-  unfoldable pub frameBad : ℕ → Bool
-  frameBad q = noLine q || (noPoint q || (membersLeave q || pointsLeave q))
+  unfoldable pub frame_bad : ℕ → Bool
+  frame_bad q = no_line q || (no_point q || (members_leave q || points_leave q))
 
-  unfoldable pub contentBad : ℕ → Bool
-  contentBad q = mixesGroups q || (notOwn q || markAbove q)
+  unfoldable pub content_bad : ℕ → Bool
+  content_bad q = mixes_groups q || (not_own q || mark_above q)
 
-  unfoldable pub pieceBad : ℕ → Bool
-  pieceBad q = frameBad q || (namesDiffer q || (contentBad q || notFinite q))
+  unfoldable pub piece_bad : ℕ → Bool
+  piece_bad q = frame_bad q || (names_differ q || (content_bad q || not_finite q))
 
   -- all: a count whose records leave their slice is refused too
-  unfoldable pub lentBad : Bool
-  lentBad = short (p .records) (p .number * pieceSize) || (anyOf pieceBad (upto (p .number)) || (membersWrong || (listingWrong || tooMany)))
+  unfoldable pub lent_bad : Bool
+  lent_bad = short p.records (p.number * piece_size) || (any_of piece_bad (upto p.number) || (members_wrong || (listing_wrong || too_many)))
 
   -- ---- "What passes 19 is finished by 01's round two as lent": the chains, and their layout
-  unfoldable pub finishedOf : Settings → Laid
-  finishedOf s = laidOut w (l .counts) (roundTwo s stoodFor ++ pieces false 0 (linesIn w l))
+  unfoldable pub finished_of : Settings → Laid
+  finished_of s = laid_out w l.counts (round_two s stood_for ++ pieces false 0 (lines_in w l))
 
 -- ---- the first call, of lines of type t: it leaves the pieces of round one
 -- pieces laid out as they are lent
 unfoldable pub leaving : ℕ → List ℕ → List Piece → LentPieces
 leaving w counts ps =
     record {
-      records = pieceTable counts 0 0 ps;
-      members = flatMap (λ p. p .lines) ps;
-      marks = flatMap (λ p. p .marks) ps;
-      listing = flatMap (λ p. p .listing) ps;
-      merged = flat w (flatMap copy ps);
+      records = piece_table counts 0 0 ps;
+      members = flat_map (λ p. p.lines) ps;
+      marks = flat_map (λ p. p.marks) ps;
+      listing = flat_map (λ p. p.listing) ps;
+      merged = flat w (flat_map copy ps);
       number = length ps;
     }
 
 -- round one has a switch and a limit, and nothing of round two
 abbrev pub exactly : ℕ → Float → Settings
-exactly switch limit = record { tolerance = nought; «origin_x» = nought; «origin_y» = nought; switch = switch; limit = limit }
+exactly switch limit = record { tolerance = nought; origin_x = nought; origin_y = nought; switch = switch; limit = limit }
 
-abbrev pub leftOf : ℕ → Lines → ℕ → Float → LentPieces
-leftOf t l switch limit = leaving (widthOf t) (l .counts) (roundOne (exactly switch limit) (pieces true 0 (linesIn (widthOf t) l)))
+abbrev pub left_of : ℕ → Lines → ℕ → Float → LentPieces
+left_of t l switch limit = leaving (width_of t) l.counts (round_one (exactly switch limit) (pieces true 0 (lines_in (width_of t) l)))
 
 pub record FirstRooms : Type 0 where
   pub pieces : List ℕ
@@ -182,34 +183,34 @@ pub record FirstRooms : Type 0 where
   pub merged : List ℕ
   pub workspace : List ℕ
 
-abbrev pub firstRooms : List ℕ → List ℕ → List ℕ → List ℕ → List ℕ → List ℕ → FirstRooms
-firstRooms a b c d e f = record { pieces = a; members = b; marks = c; listing = d; merged = e; workspace = f }
+abbrev pub first_rooms : List ℕ → List ℕ → List ℕ → List ℕ → List ℕ → List ℕ → FirstRooms
+first_rooms a b c d e f = record { pieces = a; members = b; marks = c; listing = d; merged = e; workspace = f }
 
-unfoldable pub firstRefusalOf : ℕ → Lines → ℕ → Float → FirstRooms → ℕ
-firstRefusalOf t l switch limit o =
-    let n = length (l .counts) in
-    let rest = short (o .listing) n || (short (o .merged) (length (l .coordinates)) || short (o .workspace) (n * lineRoom)) in
-    firstOf
-    (lineTests t l
-    ++ (settingTests switch limit
-    ++ ((7, short (o .pieces) (n * pieceSize) || (short (o .members) n || (short (o .marks) n || rest)))
+unfoldable pub first_refusal_of : ℕ → Lines → ℕ → Float → FirstRooms → ℕ
+first_refusal_of t l switch limit o =
+    let n = length l.counts in
+    let rest = short o.listing n || (short o.merged (length l.coordinates) || short o.workspace (n * line_room)) in
+    first_of
+    (line_tests t l
+    ++ (setting_tests switch limit
+    ++ ((7, short o.pieces (n * piece_size) || (short o.members n || (short o.marks n || rest)))
     ∷ [])))
 
-unfoldable pub leftIn : ℕ → Lines → ℕ → Float → FirstRooms → FirstRooms
-leftIn t l switch limit o =
-    let p = leftOf t l switch limit in
+unfoldable pub left_in : ℕ → Lines → ℕ → Float → FirstRooms → FirstRooms
+left_in t l switch limit o =
+    let p = left_of t l switch limit in
     record {
-      pieces = written (p .records) (o .pieces);
-      members = written (p .members) (o .members);
-      marks = written (p .marks) (o .marks);
-      listing = written (p .listing) (o .listing);
-      merged = written (p .merged) (o .merged);
-      workspace = cleared (length (l .counts) * lineRoom) (o .workspace);
+      pieces = written p.records o.pieces;
+      members = written p.members o.members;
+      marks = written p.marks o.marks;
+      listing = written p.listing o.listing;
+      merged = written p.merged o.merged;
+      workspace = cleared (length l.counts * line_room) o.workspace;
     }
 
-pub record FirstLeft (t : ℕ) (l : Lines) (switch : ℕ) (limit : Float) (o : FirstRooms) (r : Answer) (o′ : FirstRooms) : Type 0 where
-  pub answer : r ≡ answerOf (firstRefusalOf t l switch limit o) (leftOf t l switch limit .number)
-  pub rooms : o′ ≡ unless (firstRefusalOf t l switch limit o) o (leftIn t l switch limit o)
+pub record FirstLeft (t : ℕ) (l : Lines) (switch : ℕ) (limit : Float) (o : FirstRooms) (r : Answer) (o' : FirstRooms) : Type 0 where
+  pub answer : r ≡ answer_of (first_refusal_of t l switch limit o) (left_of t l switch limit).number
+  pub rooms : o' ≡ unless (first_refusal_of t l switch limit o) o (left_in t l switch limit o)
 
 -- ---- the second call, of lines of type t: it finishes the pieces that are lent, and alters none of them
 pub record FinishRooms : Type 0 where
@@ -221,34 +222,34 @@ pub record FinishRooms : Type 0 where
   pub boxes : List ℕ
   pub workspace : List ℕ
 
-abbrev pub finishRooms : List ℕ → List ℕ → List ℕ → List ℕ → List ℕ → List ℕ → List ℕ → FinishRooms
-finishRooms a b c d e f g = record { table = a; members = b; marks = c; listing = d; merged = e; boxes = f; workspace = g }
+abbrev pub finish_rooms : List ℕ → List ℕ → List ℕ → List ℕ → List ℕ → List ℕ → List ℕ → FinishRooms
+finish_rooms a b c d e f g = record { table = a; members = b; marks = c; listing = d; merged = e; boxes = f; workspace = g }
 
-unfoldable pub finishRefusalOf : ℕ → Lines → LentPieces → Settings → FinishRooms → ℕ
-finishRefusalOf t l p s o =
-    let n = length (l .counts) in
-    let rest = short (o .merged) (length (l .coordinates)) || (short (o .boxes) (boxRoom n) || short (o .workspace) (n * lineRoom)) in
-    firstOf
-    (lineTests t l
-    ++ (settingTests (s .switch) (s .limit)
-    ++ ((17, originBad (s .«origin_x») (s .«origin_y»))
-    ∷ (19, lentBad (widthOf t) l p)
-    ∷ (7, short (o .table) (n * recordSize) || (short (o .members) n || (short (o .marks) n || (short (o .listing) n || rest))))
+unfoldable pub finish_refusal_of : ℕ → Lines → LentPieces → Settings → FinishRooms → ℕ
+finish_refusal_of t l p s o =
+    let n = length l.counts in
+    let rest = short o.merged (length l.coordinates) || (short o.boxes (box_room n) || short o.workspace (n * line_room)) in
+    first_of
+    (line_tests t l
+    ++ (setting_tests s.switch s.limit
+    ++ ((17, origin_bad s.origin_x s.origin_y)
+    ∷ (19, lent_bad (width_of t) l p)
+    ∷ (7, short o.table (n * record_size) || (short o.members n || (short o.marks n || (short o.listing n || rest))))
     ∷ [])))
 
-unfoldable pub finishedIn : ℕ → Lines → LentPieces → Settings → FinishRooms → FinishRooms
-finishedIn t l p s o =
-    let a = finishedOf (widthOf t) l p s in
+unfoldable pub finished_in : ℕ → Lines → LentPieces → Settings → FinishRooms → FinishRooms
+finished_in t l p s o =
+    let a = finished_of (width_of t) l p s in
     record {
-      table = written (a .records) (o .table);
-      members = written (a .members) (o .members);
-      marks = written (a .marks) (o .marks);
-      listing = written (a .listing) (o .listing);
-      merged = written (a .merged) (o .merged);
-      boxes = written (a .boxes) (o .boxes);
-      workspace = cleared (length (l .counts) * lineRoom) (o .workspace);
+      table = written a.records o.table;
+      members = written a.members o.members;
+      marks = written a.marks o.marks;
+      listing = written a.listing o.listing;
+      merged = written a.merged o.merged;
+      boxes = written a.boxes o.boxes;
+      workspace = cleared (length l.counts * line_room) o.workspace;
     }
 
-pub record Finished (t : ℕ) (l : Lines) (p : LentPieces) (s : Settings) (o : FinishRooms) (r : Answer) (o′ : FinishRooms) : Type 0 where
-  pub answer : r ≡ answerOf (finishRefusalOf t l p s o) (finishedOf (widthOf t) l p s .number)
-  pub rooms : o′ ≡ unless (finishRefusalOf t l p s o) o (finishedIn t l p s o)
+pub record Finished (t : ℕ) (l : Lines) (p : LentPieces) (s : Settings) (o : FinishRooms) (r : Answer) (o' : FinishRooms) : Type 0 where
+  pub answer : r ≡ answer_of (finish_refusal_of t l p s o) (finished_of (width_of t) l p s).number
+  pub rooms : o' ≡ unless (finish_refusal_of t l p s o) o (finished_in t l p s o)

@@ -1,14 +1,12 @@
 // WKB in: a run of records and the table of their lengths, to coordinates and counts. All records are looked at before anything is stored.
+#![tactic(auto)]
+
+ghost use Rattle.std.specs.Prelude.{◌+◌, ◌-◌, ◌*◌, ◌/◌, ◌≤◌, ◌<◌, ◌≡◌, ◌||◌, reverse, eqb, ltb, length, take, drop, get_or};
+ghost use Rattle.rules.specs.Lists.{total};
+ghost use Rattle.rules.specs.Wkb.{little, number_by, byte_order, records_of, run_type, record_refusal, records_refusal, run_refusal, run_as, Read};
+ghost use Rattle.wkb_reading.specs.Storing.{Storable, RunStored, RecordStored};
+
 use rules::Answer;
-ghost use Prim.Native.Nat.{_+_, _-_, _*_, _/_, _≤_, _<_};
-ghost use mathlib.Core.Path.{_≡_};
-ghost use mathlib.Core.Bool.{_||_};
-ghost use mathlib.Core.List.{reverse};
-ghost use lib.Dec.{eqb, ltb};
-ghost use lib.ListN.{length, take, drop, getD};
-ghost use Rattle·rules.specs.Lists.{total};
-ghost use Rattle·rules.specs.Wkb.{little, numberBy, byteOrder, recordsOf, runType, recordRefusal, recordsRefusal, runRefusal, runAs, Read};
-ghost use Rattle·wkb_reading·specs.specs.Storing.{Storable, RunStored, RecordStored};
 
 // The bytes of a record before its coordinates, and of each number there.
 const HEADER: usize = 9;
@@ -20,16 +18,16 @@ const UPPER: u64 = 4294967296;
 
 // The byte at `at`.
 fn byte(run: &[u8], at: usize) -> u64
-    requires { ⌜ at < length (now run) ⌝ }
-    ensures { λ r. ⌜ (r ≡ getD (now (run .entry)) at 0) × (r < 256) ⌝ }
+    requires { at < length run.now }
+    ensures { (result ≡ get_or run.now at 0) × (result < 256) }
 {
     run[at] as u64
 }
 
 // Four bytes from `at` on as a number, the least first.
 fn four(run: &[u8], at: usize) -> u64
-    requires { ⌜ at + 4 ≤ length (now run) ⌝ }
-    ensures { λ r. ⌜ (r ≡ little (take 4 (drop at (now (run .entry))))) × (r < 4294967296) ⌝ }
+    requires { at + 4 ≤ length run.now }
+    ensures { (result ≡ little (take 4 (drop at run.now))) × (result < 4294967296) }
 {
     byte(run, at)
         + byte(run, at + 1) * 256
@@ -39,8 +37,8 @@ fn four(run: &[u8], at: usize) -> u64
 
 // Four bytes from `at` on as a number, the greatest first.
 fn four_turned(run: &[u8], at: usize) -> u64
-    requires { ⌜ at + 4 ≤ length (now run) ⌝ }
-    ensures { λ r. ⌜ (r ≡ little (reverse (take 4 (drop at (now (run .entry)))))) × (r < 4294967296) ⌝ }
+    requires { at + 4 ≤ length run.now }
+    ensures { (result ≡ little (reverse (take 4 (drop at run.now)))) × (result < 4294967296) }
 {
     byte(run, at + 3)
         + byte(run, at + 2) * 256
@@ -50,8 +48,8 @@ fn four_turned(run: &[u8], at: usize) -> u64
 
 // Eight bytes from `at` on as a number, in the order that is given.
 fn number(run: &[u8], at: usize, order: u8) -> u64
-    requires { ⌜ at + 8 ≤ length (now run) ⌝ }
-    ensures { λ r. ⌜ r ≡ numberBy order (take 8 (drop at (now (run .entry)))) ⌝ }
+    requires { at + 8 ≤ length run.now }
+    ensures { result ≡ number_by order (take 8 (drop at run.now)) }
 {
     if order == 0 {
         return four_turned(run, at + 4) + four_turned(run, at) * UPPER;
@@ -61,8 +59,8 @@ fn number(run: &[u8], at: usize, order: u8) -> u64
 
 // Four bytes of a record as a number, in the record's own order.
 fn word(bytes: &[u8], at: usize) -> u32
-    requires { ⌜ at + 4 ≤ length (now bytes) ⌝ }
-    ensures { λ r. ⌜ (r ≡ numberBy (byteOrder (now (bytes .entry))) (take 4 (drop at (now (bytes .entry))))) × (r < 4294967296) ⌝ }
+    requires { at + 4 ≤ length bytes.now }
+    ensures { (result ≡ number_by (byte_order bytes.now) (take 4 (drop at bytes.now))) × (result < 4294967296) }
 {
     if bytes[0] == 0 {
         return four_turned(bytes, at) as u32;
@@ -72,7 +70,7 @@ fn word(bytes: &[u8], at: usize) -> u32
 
 // The refusal of one record in a run of a type, or 0.
 fn record_refusal(bytes: &[u8], wkb_type: u32) -> u64
-    ensures { λ r. ⌜ r ≡ recordRefusal «wkb_type» (now (bytes .entry)) ⌝ }
+    ensures { result ≡ record_refusal wkb_type bytes.now }
 {
     if bytes.len() < HEADER {
         return 13;
@@ -96,7 +94,7 @@ fn record_refusal(bytes: &[u8], wkb_type: u32) -> u64
 
 // Whether the lengths add up to n. The sum is taken from n, and stops where it would pass it.
 fn adds_up(lengths: &[u64], n: u64) -> bool
-    ensures { λ r. ⌜ r ≡ eqb (total (now (lengths .entry))) n ⌝ }
+    ensures { result ≡ eqb (total lengths.now) n }
 {
     let mut left = n;
     let mut i = 0;
@@ -113,8 +111,8 @@ fn adds_up(lengths: &[u64], n: u64) -> bool
 
 // The type of a run: that of its first record.
 fn run_type(run: &[u8], lengths: &[u64]) -> u32
-    requires { ⌜ total (now lengths) ≡ length (now run) ⌝ }
-    ensures { λ r. ⌜ r ≡ runType (recordsOf (now (lengths .entry)) (now (run .entry))) ⌝ }
+    requires { total lengths.now ≡ length run.now }
+    ensures { result ≡ run_type (records_of lengths.now run.now) }
 {
     if lengths.len() == 0 {
         return 2;
@@ -128,8 +126,8 @@ fn run_type(run: &[u8], lengths: &[u64]) -> u32
 
 // The refusal of the first bad record of a run, or 0.
 fn records_refusal(run: &[u8], lengths: &[u64], wkb_type: u32) -> u64
-    requires { ⌜ total (now lengths) ≡ length (now run) ⌝ }
-    ensures { λ r. ⌜ r ≡ recordsRefusal «wkb_type» (recordsOf (now (lengths .entry)) (now (run .entry))) ⌝ }
+    requires { total lengths.now ≡ length run.now }
+    ensures { result ≡ records_refusal wkb_type (records_of lengths.now run.now) }
 {
     let mut at: usize = 0;
     let mut i = 0;
@@ -147,8 +145,8 @@ fn records_refusal(run: &[u8], lengths: &[u64], wkb_type: u32) -> u64
 
 // The numbers of a record, from `at` on. Returns where they end.
 fn store_record(bytes: &[u8], coordinates: &mut [u64], at: usize) -> usize
-    requires { ⌜ (9 ≤ length (now bytes)) × (at + (length (now bytes) - 9) / 8 ≤ length (now coordinates)) ⌝ }
-    ensures { λ r. ⌜ RecordStored (now (bytes .entry)) (now (coordinates .exit)) (now (coordinates .entry)) at r ⌝ }
+    requires { (9 ≤ length bytes.now) × (at + (length bytes.now - 9) / 8 ≤ length coordinates.old) }
+    ensures { RecordStored bytes.now coordinates.new coordinates.old at result }
 {
     let order = bytes[0];
     let n = (bytes.len() - HEADER) / EIGHT;
@@ -162,9 +160,9 @@ fn store_record(bytes: &[u8], coordinates: &mut [u64], at: usize) -> usize
 
 // The coordinates and counts of a run's records.
 fn store(run: &[u8], lengths: &[u64], coordinates: &mut [u64], counts: &mut [u32])
-    requires { ⌜ Storable (now run) (now lengths) (now coordinates) (now counts) ⌝ }
-    ensures { λ _. ⌜ RunStored (now (run .entry)) (now (lengths .entry))
-        (now (coordinates .exit)) (now (coordinates .entry)) (now (counts .exit)) (now (counts .entry)) ⌝ }
+    requires { Storable run.now lengths.now coordinates.old counts.old }
+    ensures { RunStored run.now lengths.now
+        coordinates.new coordinates.old counts.new counts.old }
 {
     let mut at: usize = 0;
     let mut have: usize = 0;
@@ -180,7 +178,7 @@ fn store(run: &[u8], lengths: &[u64], coordinates: &mut [u64], counts: &mut [u32
 
 // The refusal of a run, or 0: the lengths before any record.
 fn run_refusal(run: &[u8], lengths: &[u64]) -> u64
-    ensures { λ r. ⌜ r ≡ runRefusal (now (run .entry)) (now (lengths .entry)) ⌝ }
+    ensures { result ≡ run_refusal run.now lengths.now }
 {
     if !adds_up(lengths, run.len() as u64) {
         return 13;
@@ -197,8 +195,8 @@ fn room_short(
     counts: usize,
     wkb_type: usize,
 ) -> bool
-    requires { ⌜ records * 9 ≤ run ⌝ }
-    ensures { λ r. ⌜ r ≡ ltb coordinates ((run - records * 9) / 8) || (ltb counts records || ltb «wkb_type» 1) ⌝ }
+    requires { records * 9 ≤ run }
+    ensures { result ≡ ltb coordinates ((run - records * 9) / 8) || (ltb counts records || ltb wkb_type 1) }
 {
     if coordinates < (run - records * HEADER) / EIGHT {
         return true;
@@ -217,8 +215,8 @@ pub fn read(
     counts: &mut [u32],
     wkb_type: &mut [u32],
 ) -> Answer
-    ensures { λ r. ⌜ Read (runAs (now (run .entry)) (now (lengths .entry)) (now (coordinates .entry)) (now (counts .entry)) (now («wkb_type» .entry)))
-        r (now (coordinates .exit)) (now (counts .exit)) (now («wkb_type» .exit)) ⌝ }
+    ensures { Read (run_as run.now lengths.now coordinates.old counts.old wkb_type.old)
+        result coordinates.new counts.new wkb_type.new }
 {
     let refused = run_refusal(run, lengths);
     if refused != 0 {

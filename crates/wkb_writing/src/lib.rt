@@ -1,16 +1,15 @@
 // WKB out: chains of a table as records of one type, in the byte order that the caller chooses, with the table of their lengths.
 // All records and rooms are looked at before anything is stored.
-use rules::Answer;
-use rules::RECORD;
-ghost use Prim.Native.Nat.{_+_, _-_, _*_, _≤_, _<_};
-ghost use mathlib.Core.Path.{_≡_};
-ghost use mathlib.Core.List.{_++_, reverse, flatMap};
-ghost use lib.Dec.{ltb};
-ghost use lib.ListN.{length};
-ghost use Rattle·point_slices.specs.Holds.{HoldsFrom};
-ghost use Rattle·rules.specs.Wkb.{littleBytes, bytesBy, recordBy, anyMissing, chainsAs, Wrote};
-ghost use Rattle·wkb_writing·specs.specs.Writing.{bytesFrom, EightsPut, RecordPut, chainBytes, Chain, Writable, Written};
-ghost use Rattle·rules.specs.Refusals.{recordSize};
+#![tactic(auto)]
+
+ghost use Rattle.std.specs.Prelude.{◌+◌, ◌-◌, ◌*◌, ◌≤◌, ◌<◌, ◌≡◌, ltb, length};
+ghost use mathlib.Core.List.{◌++◌, reverse, flat_map};
+ghost use Rattle.point_slices.specs.Holds.{HoldsFrom};
+ghost use Rattle.rules.specs.Wkb.{little_bytes, bytes_by, record_by, any_missing, chains_as, Wrote};
+ghost use Rattle.wkb_writing.specs.Writing.{bytes_from, EightsPut, RecordPut, chain_bytes, Chain, Writable, Written};
+ghost use Rattle.rules.specs.Refusals.{record_size};
+
+use rules::{Answer, RECORD};
 
 // The bytes of a record before its numbers, and of each number there.
 const HEADER: usize = 9;
@@ -22,8 +21,8 @@ const UPPER: u64 = 4294967296;
 
 // The lower four bytes of n from `at` on, the least first.
 fn put_four(run: &mut [u8], at: usize, n: u64)
-    requires { ⌜ at + 4 ≤ length (now run) ⌝ }
-    ensures { λ _. ⌜ HoldsFrom (now (run .exit)) (now (run .entry)) at 4 (littleBytes 4 n) ⌝ }
+    requires { at + 4 ≤ length run.old }
+    ensures { HoldsFrom run.new run.old at 4 (little_bytes 4 n) }
 {
     run[at] = (n % 256) as u8;
     run[at + 1] = (n / 256 % 256) as u8;
@@ -33,8 +32,8 @@ fn put_four(run: &mut [u8], at: usize, n: u64)
 
 // The lower four bytes of n from `at` on, the greatest first.
 fn put_four_turned(run: &mut [u8], at: usize, n: u64)
-    requires { ⌜ at + 4 ≤ length (now run) ⌝ }
-    ensures { λ _. ⌜ HoldsFrom (now (run .exit)) (now (run .entry)) at 4 (reverse (littleBytes 4 n)) ⌝ }
+    requires { at + 4 ≤ length run.old }
+    ensures { HoldsFrom run.new run.old at 4 (reverse (little_bytes 4 n)) }
 {
     run[at] = (n / 256 / 256 / 256 % 256) as u8;
     run[at + 1] = (n / 256 / 256 % 256) as u8;
@@ -44,8 +43,8 @@ fn put_four_turned(run: &mut [u8], at: usize, n: u64)
 
 // The four bytes of n from `at` on, in the order that is given.
 fn put_word(run: &mut [u8], at: usize, order: u8, n: u32)
-    requires { ⌜ at + 4 ≤ length (now run) ⌝ }
-    ensures { λ _. ⌜ HoldsFrom (now (run .exit)) (now (run .entry)) at 4 (bytesBy order 4 n) ⌝ }
+    requires { at + 4 ≤ length run.old }
+    ensures { HoldsFrom run.new run.old at 4 (bytes_by order 4 n) }
 {
     if order == 0 {
         put_four_turned(run, at, n as u64);
@@ -56,8 +55,8 @@ fn put_word(run: &mut [u8], at: usize, order: u8, n: u32)
 
 // The eight bytes of n from `at` on, in the order that is given.
 fn put_number(run: &mut [u8], at: usize, order: u8, n: u64)
-    requires { ⌜ at + 8 ≤ length (now run) ⌝ }
-    ensures { λ _. ⌜ HoldsFrom (now (run .exit)) (now (run .entry)) at 8 (bytesBy order 8 n) ⌝ }
+    requires { at + 8 ≤ length run.old }
+    ensures { HoldsFrom run.new run.old at 8 (bytes_by order 8 n) }
 {
     if order != 0 {
         put_four(run, at, n);
@@ -70,8 +69,8 @@ fn put_number(run: &mut [u8], at: usize, order: u8, n: u64)
 
 // The bytes of two numbers from `at` on.
 fn put_two(run: &mut [u8], at: usize, order: u8, a: u64, b: u64)
-    requires { ⌜ at + 16 ≤ length (now run) ⌝ }
-    ensures { λ _. ⌜ HoldsFrom (now (run .exit)) (now (run .entry)) at 16 (bytesBy order 8 a ++ bytesBy order 8 b) ⌝ }
+    requires { at + 16 ≤ length run.old }
+    ensures { HoldsFrom run.new run.old at 16 (bytes_by order 8 a ++ bytes_by order 8 b) }
 {
     put_number(run, at, order, a);
     put_number(run, at + EIGHT, order, b);
@@ -79,9 +78,9 @@ fn put_two(run: &mut [u8], at: usize, order: u8, a: u64, b: u64)
 
 // The bytes of all numbers from `at` on, two numbers a turn.
 fn put_pairs(run: &mut [u8], at: usize, order: u8, numbers: &[u64])
-    requires { ⌜ at + length (now numbers) * 8 ≤ length (now run) ⌝ }
-    ensures { λ _. ⌜ HoldsFrom (now (run .exit)) (now (run .entry)) at (length (now (numbers .entry)) * 8)
-        (flatMap (bytesBy order 8) (now (numbers .entry))) ⌝ }
+    requires { at + length numbers.now * 8 ≤ length run.old }
+    ensures { HoldsFrom run.new run.old at (length numbers.now * 8)
+        (flat_map (bytes_by order 8) numbers.now) }
 {
     let pairs = numbers.len() / 2;
     let mut j = 0;
@@ -101,8 +100,8 @@ fn put_pairs(run: &mut [u8], at: usize, order: u8, numbers: &[u64])
 // The bytes of as many numbers as eights of them go, from `at` on. Returns how many these are.
 // Eight are read before the first of them is written, so that they can be moved two at once.
 fn put_eights(run: &mut [u8], at: usize, order: u8, numbers: &[u64]) -> usize
-    requires { ⌜ at + length (now numbers) * 8 ≤ length (now run) ⌝ }
-    ensures { λ r. ⌜ EightsPut (now (run .exit)) (now (run .entry)) at r order (now (numbers .entry)) ⌝ }
+    requires { at + length numbers.now * 8 ≤ length run.old }
+    ensures { EightsPut run.new run.old at result order numbers.now }
 {
     let eights = numbers.len() / EIGHT;
     let mut j = 0;
@@ -127,9 +126,9 @@ fn put_eights(run: &mut [u8], at: usize, order: u8, numbers: &[u64]) -> usize
 
 // The bytes of all numbers from `at` on. Those that stay in their order are moved by eights as far as these go.
 fn put_numbers(run: &mut [u8], at: usize, order: u8, numbers: &[u64])
-    requires { ⌜ at + length (now numbers) * 8 ≤ length (now run) ⌝ }
-    ensures { λ _. ⌜ HoldsFrom (now (run .exit)) (now (run .entry)) at (length (now (numbers .entry)) * 8)
-        (flatMap (bytesBy order 8) (now (numbers .entry))) ⌝ }
+    requires { at + length numbers.now * 8 ≤ length run.old }
+    ensures { HoldsFrom run.new run.old at (length numbers.now * 8)
+        (flat_map (bytes_by order 8) numbers.now) }
 {
     if order == 0 {
         put_pairs(run, at, order, numbers);
@@ -148,8 +147,8 @@ fn put_record(
     count: u32,
     numbers: &[u64],
 ) -> usize
-    requires { ⌜ at + (9 + length (now numbers) * 8) ≤ length (now run) ⌝ }
-    ensures { λ r. ⌜ RecordPut (now (run .exit)) (now (run .entry)) at r (recordBy order «wkb_type» count (now (numbers .entry))) ⌝ }
+    requires { at + (9 + length numbers.now * 8) ≤ length run.old }
+    ensures { RecordPut run.new run.old at result (record_by order wkb_type count numbers.now) }
 {
     run[at] = order;
     put_word(run, at + 1, order, wkb_type);
@@ -160,8 +159,8 @@ fn put_record(
 
 // Whether one of the first k records is no chain.
 fn any_missing(input: &[u64], merged: &[u64], table: &[u32], width: usize, k: u64) -> bool
-    requires { ⌜ width ≤ 4 ⌝ }
-    ensures { λ r. ⌜ r ≡ anyMissing width (now (input .entry)) (now (merged .entry)) (now (table .entry)) 0 k ⌝ }
+    requires { width ≤ 4 }
+    ensures { result ≡ any_missing width input.now merged.now table.now 0 k }
 {
     let mut j: u64 = 0;
     while j < k {
@@ -175,8 +174,8 @@ fn any_missing(input: &[u64], merged: &[u64], table: &[u32], width: usize, k: u6
 
 // Whether the first k chains take more bytes than there is room. The sum is taken from the room, and stops where it would pass it.
 fn run_short(table: &[u32], width: usize, k: usize, room: usize) -> bool
-    requires { ⌜ (width ≤ 4) × (k * recordSize ≤ length (now table)) ⌝ }
-    ensures { λ r. ⌜ r ≡ ltb room (bytesFrom width (now (table .entry)) 0 k) ⌝ }
+    requires { (width ≤ 4) × (k * record_size ≤ length table.now) }
+    ensures { result ≡ ltb room (bytes_from width table.now 0 k) }
 {
     let mut left = room;
     let mut j = 0;
@@ -203,9 +202,9 @@ fn put_chain<'a>(
     table: &[u32],
     k: usize,
 ) -> usize
-    requires { ⌜ Chain (now run) at «wkb_type» width (now input) (now merged) (now table) k ⌝ }
-    ensures { λ r. ⌜ RecordPut (now (run .exit)) (now (run .entry)) at r
-        (chainBytes order «wkb_type» (now (input .entry)) (now (merged .entry)) (now (table .entry)) k) ⌝ }
+    requires { Chain run.old at wkb_type width input.now merged.now table.now k }
+    ensures { RecordPut run.new run.old at result
+        (chain_bytes order wkb_type input.now merged.now table.now k) }
 {
     let count = table[k * RECORD + 4];
     let numbers = build_question::known_part(input, merged, table, width, k);
@@ -224,9 +223,9 @@ fn write_chains<'a>(
     run: &mut [u8],
     lengths: &mut [u64],
 ) -> usize
-    requires { ⌜ Writable width (chainsAs «wkb_type» (now coordinates) (now merged) (now table) n order (now run) (now lengths)) ⌝ }
-    ensures { λ r. ⌜ Written (chainsAs «wkb_type» (now (coordinates .entry)) (now (merged .entry)) (now (table .entry)) n order
-        (now (run .entry)) (now (lengths .entry))) r (now (run .exit)) (now (lengths .exit)) ⌝ }
+    requires { Writable width (chains_as wkb_type coordinates.now merged.now table.now n order run.old lengths.old) }
+    ensures { Written (chains_as wkb_type coordinates.now merged.now table.now n order
+        run.old lengths.old) result run.new lengths.new }
 {
     let mut at: usize = 0;
     let mut j: usize = 0;
@@ -260,8 +259,8 @@ pub fn write<'a>(
     run: &mut [u8],
     lengths: &mut [u64],
 ) -> Answer
-    ensures { λ r. ⌜ Wrote (chainsAs «wkb_type» (now (coordinates .entry)) (now (merged .entry)) (now (table .entry)) k order
-        (now (run .entry)) (now (lengths .entry))) r (now (run .exit)) (now (lengths .exit)) ⌝ }
+    ensures { Wrote (chains_as wkb_type coordinates.now merged.now table.now k order
+        run.old lengths.old) result run.new lengths.new }
 {
     let width = point_numbers::width_of(wkb_type);
     if width == 0 {

@@ -1,0 +1,8 @@
+-- Value by value.
+use borrow.Author.Rules.{rules}
+use Rattle.box_levels.specs.Extents.{joined}
+use Rattle.box_levels.proofs.around.Goals as goal
+
+pub returns : goal.returns
+unfolding joined
+returns c = cc

@@ -1,0 +1,34 @@
+-- Six stores, one behind the other, are the record; the member, the mark and the place in the listing are one store each.
+use Prim.Native.Nat.{◌*◌}
+use native.Mathlib.Omega.{arith}
+use lib.ListN.{length-set}
+use Rattle.chain_pieces.proofs.Storing.{one_put, record_put}
+use borrow.Author.Rules.{rules}
+use Rattle.rules.specs.Refusals.{record_size}
+use Rattle.point_slices.proofs.Laws.{from_set}
+use Rattle.build_layout.proofs.lay_line.Goals as goal
+
+pub bounds-table-at-2 : goal.bounds-table-at-2
+bounds-table-at-2 c = simp length-set (omega arith)
+
+pub bounds-table-at-3 : goal.bounds-table-at-3
+bounds-table-at-3 c = simp length-set (omega arith)
+
+pub bounds-table-at-4 : goal.bounds-table-at-4
+bounds-table-at-4 c = simp length-set (omega arith)
+
+pub bounds-table-at-5 : goal.bounds-table-at-5
+bounds-table-at-5 c = simp length-set (omega arith)
+
+pub bounds-table-at-6 : goal.bounds-table-at-6
+bounds-table-at-6 c = simp length-set (omega arith)
+
+pub returns : goal.returns
+returns c =
+    let a = c.args in
+    record {
+      row = from_set (record_put a.table.now (a.chain * record_size) a.m 1 0 a.first a.count (omega (arith, c.requires.record_fits))) (omega (arith, c.requires.record_fits)) a.closed;
+      member = one_put a.members.now a.m a.k c.requires.member_fits;
+      mark = one_put a.marks.now a.m 0 c.requires.mark_fits;
+      line = one_put a.listing.now a.m a.k c.requires.line_fits;
+    }

@@ -1,0 +1,12 @@
+-- The indexed route's answer, as a number.
+use borrow.Author.Rules.{rules}
+use Rattle.door.proofs.Answers.{proper_paired}
+use Rattle.door.proofs.pairing.lovasuku_pairs_indexed.Goals as goal
+
+pub number-requires : goal.number-requires
+number-requires c = proper_paired c.pairs_indexed.ensures
+
+pub returns : goal.returns
+returns c =
+    let call = c.pairs_indexed in
+    record { answer = call.result; number = c.number.ensures; determined = call.ensures }

@@ -1,0 +1,13 @@
+-- `order::key` meets its contract: only a NaN differs from itself.
+use mathlib.Core.Path.{◌∙◌, sym}
+use Rattle.float_order.proofs.Keys.{self, key_num, key_else}
+use Rattle.float_order.proofs.key.Goals as goal
+
+pub rank-requires : goal.rank-requires
+rank-requires c = self c.args.x c.if-x.true
+
+pub returns-then-x : goal.returns-then-x
+returns-then-x c = c.rank.ensures ∙ sym (key_num c.args.x (self c.args.x c.if-x.true))
+
+pub returns-else-x : goal.returns-else-x
+returns-else-x c = key_else c.args.x c.if-x.false

@@ -1,0 +1,12 @@
+-- `around::all_finite` meets its contract. The loop's invariant: the directions passed are tame.
+use Prim.Native.Nat.{◌≤◌, ◌-◌}
+use Rattle.pair_ends.specs.Ends.{direction_at}
+use Rattle.pair_all_directions.specs.Around.{tame}
+use Rattle.pair_all_directions.proofs.Scan.{Passed}
+use Rattle.pair_all_directions.proofs.all_finite.Given as goal
+
+abbrev pub invariant-loop-e : goal.invariant-loop-e
+invariant-loop-e l = (l.e ≤ l.d) × Passed (λ k. tame (direction_at l.w l.d k)) l.d l.e
+
+abbrev pub decreases-loop-e : goal.decreases-loop-e
+decreases-loop-e l = l.d - l.e

@@ -1,0 +1,39 @@
+use mathlib.Core.Path.{sym, subst, ◌∙◌}
+use Rattle.pair_bounds.specs.declared.Bounds.{Bounds}
+use Rattle.pair_bounds.specs.Box.{Sound}
+use Rattle.pair_bounds.proofs.Union.{empty_sound}
+use Rattle.pair_index.specs.Nodes.{IndexPut}
+use Prim.Native.Nat.{◌+◌}
+use native.Mathlib.Omega.{arith}
+use Rattle.pair_index.proofs.Nodes.{Climbing, climbing_start, climbing_children, climbing_next, climbing_stop}
+use Rattle.pair_index.proofs.remove.Goals as goal
+
+pub overflow_add-base : goal.overflow_add-base
+overflow_add-base c = omega (arith, c.requires.within, c.requires.wide.inside, c.well_formed)
+
+pub empty-requires : goal.empty-requires
+empty-requires c = tt
+
+pub put-requires : goal.put-requires
+put-requires c = (omega (arith, c.requires.within, c.requires.wide.inside), subst (λ (v : Bounds). Sound v) (sym c.empty.ensures) empty_sound)
+
+pub overflow_add-q : goal.overflow_add-q
+overflow_add-q c = omega (arith, c.requires.within, c.requires.wide.inside, c.well_formed)
+
+pub loop-q-init : goal.loop-q-init
+loop-q-init c = climbing_start c.requires (subst (λ (v : Bounds). IndexPut c.args.w.now c.put.new.w c.args.t (c.args.base + c.args.p) v) c.empty.ensures c.put.ensures)
+
+pub renew-requires : goal.renew-requires
+renew-requires c = climbing_children c.loop-q.invariant c.loop-q-test.true
+
+pub loop-q-smaller : goal.loop-q-smaller
+loop-q-smaller c = omega (arith, c.loop-q-test.true)
+
+pub loop-q-preserved : goal.loop-q-preserved
+loop-q-preserved c = climbing_next c.loop-q.invariant c.loop-q-test.true c.renew.ensures
+
+pub shape_of-w : goal.shape_of-w
+shape_of-w c = c.loop-q.invariant.frame.long ∙ c.put.auto.w
+
+pub returns : goal.returns
+returns c = climbing_stop c.requires (subst (λ (v : Bounds). IndexPut c.args.w.now c.put.new.w c.args.t (c.args.base + c.args.p) v) c.empty.ensures c.put.ensures) c.loop-q.invariant c.loop-q-test.false

@@ -1,0 +1,8 @@
+-- The constant's two words are the greatest, which is what the place after all others is.
+use mathlib.Core.Path.{refl}
+use Rattle.pair_tree.specs.Places.{none}
+use Rattle.pair_tree.proofs.Place.none.Goals as goal
+
+pub returns : goal.returns
+unfolding none
+returns c = refl

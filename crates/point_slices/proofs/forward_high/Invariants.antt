@@ -1,0 +1,16 @@
+-- The loop is on the way to the whole run: the points from i on are left, each turn lays one of them, and the x of the last point laid is at hand.
+use Prim.Native.Nat.{◌+◌, ◌-◌, ◌≤◌}
+use mathlib.Core.Path.{◌≡◌}
+use lib.ListN.{length, take, drop}
+use Rattle.rules.specs.Plane.{points}
+use Rattle.point_numbers.specs.Width.{Multiple}
+use Rattle.point_slices.specs.Run.{laid, Near}
+use Rattle.point_slices.proofs.Runs.{Way}
+use Rattle.point_slices.proofs.forward_high.Given as goal
+
+abbrev pub invariant-loop-i : goal.invariant-loop-i
+invariant-loop-i l =
+    (l.i ≤ length l.src) × (l.width ≤ l.h) × (l.h + length l.src ≤ length l.initial.rest + l.i) × (length l.rest ≡ length l.initial.rest) × Way l.width (laid l.width (take l.initial.h l.initial.rest) (points l.width (drop l.width l.src))) l.initial.rest (points l.width (drop l.i l.src)) l.rest l.h × Multiple l.width (length l.src - l.i) × Near l.width l.rest l.h l.last
+
+abbrev pub decreases-loop-i : goal.decreases-loop-i
+decreases-loop-i l = length l.src - l.i
