@@ -107,6 +107,7 @@ fn of_few(part: &[u64], width: usize) -> Extent
 {
     let mut all = nothing();
     let mut i: usize = 0;
+    // No chunks: they divide the length by the width, and a line of two points then takes twice as long.
     while i < part.len() {
         all = around(all, spot(part[i], part[i + 1]));
         i += width;
@@ -127,6 +128,7 @@ pub fn extent_of(part: &[u64], width: usize) -> Extent
     let last = n - width * TAKEN;
     let mut all = of_four(part, width, 0);
     let mut i = width * TAKEN;
+    // No chunks, for the same reason.
     while i < last {
         all = around(all, of_four(part, width, i));
         i += width * TAKEN;
@@ -166,20 +168,18 @@ fn raise(boxes: &mut [u64], at: usize, n: usize)
     ensures { HoldsFrom boxes.new boxes.old ((at + n) * box_size) ((n + 1) / 2 * box_size)
         (box_numbers (in_pairs (row boxes.old at n))) }
 {
-    let mut i: usize = 0;
-    while i * 2 + 1 < n {
+    let pairs = n / 2;
+    for i in 0..pairs {
         let e = around(
             extent_at(boxes, at + i * 2),
             extent_at(boxes, at + i * 2 + 1),
         );
         put(boxes, at + n + i, e);
-        i += 1;
     }
-    if n <= i * 2 {
-        return;
+    if pairs * 2 < n {
+        let e = extent_at(boxes, at + pairs * 2);
+        put(boxes, at + n + pairs, e);
     }
-    let e = extent_at(boxes, at + i * 2);
-    put(boxes, at + n + i, e);
 }
 
 // Above the first k boxes, level by level, those of pairs, up to one for all.
@@ -189,6 +189,7 @@ pub fn raise_all(boxes: &mut [u64], k: usize)
 {
     let mut at: usize = 0;
     let mut n = k;
+    // Each level has half as many boxes: no index is counted.
     while 1 < n {
         raise(boxes, at, n);
         at += n;

@@ -8,7 +8,7 @@ use lib.Dec.{ltb}
 use lib.ListN.{length}
 use Rattle.rules.specs.Refusals.{first_of}
 use Rattle.rules.specs.Calls.{answer_of, unless, written}
-use Rattle.rules.specs.declared.Answer.TheVariants.{Accepted, Refused}
+use Rattle.rules.specs.Answers.{Accepted, Refused}
 use Rattle.point_slices.specs.Holds.{Holds}
 use Rattle.rules.specs.Windows.{LentBoxes, window_bad, window_refusal_of, found_of, Windowed}
 

@@ -4,6 +4,7 @@ use mathlib.Core.Path.{◌≡◌, refl, sym, ap, ap₂, ◌∙◌, subst}
 use mathlib.Core.Bool.{Bool, true, false, not}
 use mathlib.Core.Logic.{◌⊎◌, inl, inr}
 use native.Mathlib.Omega.{arith}
+use native.Mathlib.Decide.{dec_lt}
 use borrow.Author.Tests.{le-leb, lt-leb, lt-ltb, le-ltb}
 use lib.Dec.{T, leb, ltb, leb→le, le→leb, ltb→lt, lt→ltb}
 use lib.Ieee.{Float, nan, binary64, le, is_nan, fits, to_bits}
@@ -54,15 +55,22 @@ module _ (x : Float) (p : T (fits binary64 x)) where
   key_decides : (n : ℕ) → n ≤ infinite → le x (float n) ≡ leb (key x) (n + 2 ^ 63)
   key_decides n h = key_le_is x (float n) p (of_bits-fits binary64 n) (number n h) ∙ ap (leb (key x)) (key_num (float n) (number n h) ∙ rank_bits n h)
 
-  pub from_all : (k : ℕ) → k ≡ key x → k < 2 ^ 63 → AtLeast x 0
+  from_all : (k : ℕ) → k ≡ key x → k < 2 ^ 63 → AtLeast x 0
   from_all k e l = record { decides = λ n h. key_decides n h ∙ le-leb (key x) (n + 2 ^ 63) (omega arith) ∙ sym (le-leb 0 n (omega arith)) }
 
-  pub from_some : (k : ℕ) → k ≡ key x → 2 ^ 63 ≤ k → AtLeast x (k - 2 ^ 63)
+  from_some : (k : ℕ) → k ≡ key x → 2 ^ 63 ≤ k → AtLeast x (k - 2 ^ 63)
   from_some k e l = record {
     decides = λ n h. key_decides n h ∙ bool_ext (leb (key x) (n + 2 ^ 63)) (leb (k - 2 ^ 63) n)
         (λ t. le→leb (k - 2 ^ 63) n (omega (arith, leb→le (key x) (n + 2 ^ 63) t)))
         (λ t. le→leb (key x) (n + 2 ^ 63) (omega (arith, leb→le (k - 2 ^ 63) n t)));
   }
+
+  pub from_key : (k r : ℕ) → k ≡ key x → r ≡ k - 2 ^ 63 → AtLeast x r
+  from_key k r e d =
+      elim (dec_lt k (2 ^ 63)) [
+        | yes l ↦ let z : r ≡ 0 = omega arith in rw z (from_all k e l)
+        | no l ↦ rw d (from_some k e (omega arith))
+      ]
 
   low_key_decides : (n : ℕ) → n ≤ infinite → le (float n) x ≡ leb (n + 2 ^ 63) (low_key x)
   low_key_decides n h = go (nan_or_num x)
@@ -71,10 +79,10 @@ module _ (x : Float) (p : T (fits binary64 x)) where
       go (inl e) = le_nan (float n) x e ∙ sym (lt-leb (n + 2 ^ 63) (low_key x) (omega (arith, low_key_nan x e)))
       go (inr i) = rank_le_is binary64 (float n) x (of_bits-fits binary64 n) p (number n h) i ∙ ap₂ leb (rank_bits n h) (sym (low_key_num x i))
 
-  pub upto_none : (k : ℕ) → k ≡ low_key x → k < 2 ^ 63 → AtMost x 0
+  upto_none : (k : ℕ) → k ≡ low_key x → k < 2 ^ 63 → AtMost x 0
   upto_none k e l = record { decides = λ n h. low_key_decides n h ∙ lt-leb (n + 2 ^ 63) (low_key x) (omega arith) ∙ sym (le-ltb n 0 (omega arith)); most = omega arith }
 
-  pub upto_some : (k : ℕ) → k ≡ low_key x → 2 ^ 63 ≤ k → AtMost x (k - 2 ^ 63 + 1)
+  upto_some : (k : ℕ) → k ≡ low_key x → 2 ^ 63 ≤ k → AtMost x (k - 2 ^ 63 + 1)
   upto_some k e l = record {
     decides = λ n h. low_key_decides n h ∙ bool_ext (leb (n + 2 ^ 63) (low_key x)) (ltb n (k - 2 ^ 63 + 1))
         (λ t. lt→ltb n (k - 2 ^ 63 + 1) (omega (arith, leb→le (n + 2 ^ 63) (low_key x) t)))
@@ -85,6 +93,13 @@ module _ (x : Float) (p : T (fits binary64 x)) where
       highest : (x ≡ nan) ⊎ T (not (is_nan x)) → low_key x ≤ 2 ^ 63 + infinite
       highest (inl e) = omega (arith, low_key_nan x e)
       highest (inr i) = omega (arith, low_key_num x i, rank_at_most binary64 x p)
+
+  pub upto_key : (k r : ℕ) → k ≡ low_key x → r ≡ k - 9223372036854775807 → AtMost x r
+  upto_key k r e d =
+      elim (dec_lt k (2 ^ 63)) [
+        | yes l ↦ let z : r ≡ 0 = omega arith in rw z (upto_none k e l)
+        | no l ↦ let z : r ≡ k - 2 ^ 63 + 1 = omega arith in rw z (upto_some k e (omega arith))
+      ]
 
 -- ---- along x or along y
 module _ (low high : ℕ) (from to : Float) (first past : ℕ) (f : AtLeast from first) (u : AtMost to past) where

@@ -1,14 +1,15 @@
 // The window question: which chains' boxes, and all boxes above them, meet a window.
 #![tactic(auto)]
 
-ghost use Rattle.std.specs.Prelude.{◌≡◌, ◌*◌, ◌-◌, ◌≤◌, ◌^◌, length};
+ghost use Rattle.std.specs.Prelude.{◌≡◌, ◌*◌, ◌-◌, ◌≤◌, ◌<◌, ◌^◌, length};
+ghost use Rattle.rules.specs.Answers.{answered};
 ghost use Rattle.rules.specs.Plane.{float};
 ghost use Rattle.rules.specs.Windows.{overlap as overlap_of, shown as ShownOf, window_bad, in_window, boxes_as, Windowed};
 ghost use Rattle.point_slices.specs.Holds.{Holds};
 ghost use Rattle.box_window.specs.Bounds.{AtLeast, AtMost, Sided};
 ghost use Rattle.box_window.specs.Levels.{Leveled, highest as highest_of};
 
-use rules::{Answer, BOX, BOX_ROOM, BOX_ROOM_BESIDE, Window};
+use rules::{Answer, BOX, BOX_ROOM, BOX_ROOM_BESIDE, Refusal, Window};
 
 // The bits of zero below zero, and of the infinity above it. Bits up to the infinity's are those of numbers from zero on, and in order as the numbers are.
 const SIGN: u64 = 0x8000_0000_0000_0000;
@@ -23,35 +24,22 @@ fn overlap(low: u64, high: u64, from: f64, to: f64) -> bool
     ensures { result ≡ overlap_of (float low) (float high) from to }
 {
     let a = float_bits::of_bits(low);
-    if a <= to {
-        let b = float_bits::of_bits(high);
-        if from <= b {
-            return a <= b;
-        }
-    }
-    false
+    let b = float_bits::of_bits(high);
+    a <= to && (from <= b && a <= b)
 }
 
 // The first bits, of numbers from zero on, that stand for at least x.
 fn first(x: f64) -> u64
     ensures { AtLeast x result }
 {
-    let k = float_order::key(x);
-    if k < SIGN {
-        return 0;
-    }
-    k - SIGN
+    float_order::key(x).saturating_sub(SIGN)
 }
 
 // The bits behind the last ones, of numbers from zero on, that stand for at most x.
 fn past(x: f64) -> u64
     ensures { AtMost x result }
 {
-    let k = float_order::low_key(x);
-    if k < SIGN {
-        return 0;
-    }
-    k - SIGN + 1
+    float_order::low_key(x).saturating_sub(SIGN - 1)
 }
 
 // A window's bounds among the bits of numbers from zero on: the first within its least bounds, and those behind the last within its greatest.
@@ -79,18 +67,11 @@ fn touch(low: u64, high: u64, from: f64, to: f64, first: u64, past: u64) -> bool
     requires { AtLeast from first × AtMost to past }
     ensures { result ≡ overlap_of (float low) (float high) from to }
 {
-    if high <= INFINITE {
-        if low < past {
-            if first <= high {
-                return low <= high;
-            }
-            return false;
-        }
-        if low <= INFINITE {
-            return false;
-        }
+    if low <= INFINITE && high <= INFINITE {
+        low < past && (first <= high && low <= high)
+    } else {
+        overlap(low, high, from, to)
     }
-    overlap(low, high, from, to)
 }
 
 // Whether box j meets the window. A box that isn't wholly lent is not looked at.
@@ -102,24 +83,21 @@ fn shown(boxes: &[u64], w: Window, s: Sides, j: usize) -> bool
         return true;
     }
     let at = j * BOX;
-    if touch(
+    touch(
         boxes[at],
         boxes[at + 2],
         w.least_x,
         w.greatest_x,
         s.first_x,
         s.past_x,
-    ) {
-        return touch(
-            boxes[at + 1],
-            boxes[at + 3],
-            w.least_y,
-            w.greatest_y,
-            s.first_y,
-            s.past_y,
-        );
-    }
-    false
+    ) && touch(
+        boxes[at + 1],
+        boxes[at + 3],
+        w.least_y,
+        w.greatest_y,
+        s.first_y,
+        s.past_y,
+    )
 }
 
 // A box among the levels: the level that it is of, and which of that level's it is.
@@ -138,6 +116,7 @@ fn starts_of(k: usize, starts: &mut [usize]) -> usize
     let mut level: usize = 0;
     let mut at: usize = 0;
     starts[0] = 0;
+    // Each level has half as many boxes: no index is counted.
     while 1 < n {
         at += n;
         level += 1;
@@ -150,18 +129,14 @@ fn starts_of(k: usize, starts: &mut [usize]) -> usize
 
 // Of the boxes that begin where box j of a level does, the one of the highest level up to `top`.
 fn highest(top: usize, level: usize, j: usize) -> Place
+    requires { (level ≤ top) × (0 < j) }
     ensures { result ≡ highest_of (top - level) level j }
 {
-    let mut up = level;
-    let mut i = j;
-    while up < top {
-        if i % 2 == 1 {
-            return Place { level: up, j: i };
-        }
-        up += 1;
-        i /= 2;
+    let up = (top - level).min(j.trailing_zeros() as usize);
+    Place {
+        level: level + up,
+        j: j >> up,
     }
-    Place { level: up, j: i }
 }
 
 // The chains in the window, ascending, into `found`. Returns how many there are.
@@ -181,6 +156,7 @@ fn walk(
     let mut have: usize = 0;
     let mut level = top;
     let mut j: usize = 0;
+    // A walk down and up the levels: no index is counted.
     while starts[level] + j < starts[level + 1] {
         if shown(boxes, w, s, starts[level] + j) {
             if 0 < level {
@@ -212,32 +188,22 @@ fn list(boxes: &[u64], w: Window, k: usize, found: &mut [u32]) -> usize
 fn bad(w: Window) -> bool
     ensures { result ≡ window_bad w }
 {
-    if w.least_x <= w.greatest_x {
-        if w.least_y <= w.greatest_y {
-            return false;
-        }
-    }
-    true
+    !(w.least_x <= w.greatest_x && w.least_y <= w.greatest_y)
 }
 
 // What lies in the window: the chains are listed in `found`, and the answer is their number. Refused with 18 or 7.
 pub fn chains_in(boxes: &[u64], k: usize, w: Window, found: &mut [u32]) -> Answer
-    ensures { Windowed (boxes_as boxes.now k w found.old) result found.new }
+    ensures { Windowed (boxes_as boxes.now k w found.old) (answered result) found.new }
 {
     if bad(w) {
-        return Answer::Refused(18);
+        return Err(Refusal::BadWindow);
     }
-    if boxes.len() < BOX_ROOM_BESIDE {
-        return Answer::Refused(7);
+    if boxes.len() < BOX_ROOM_BESIDE
+        || (boxes.len() - BOX_ROOM_BESIDE) / BOX_ROOM < k
+        || found.len() < k
+        || NAMES < k
+    {
+        return Err(Refusal::RoomTooShort);
     }
-    if (boxes.len() - BOX_ROOM_BESIDE) / BOX_ROOM < k {
-        return Answer::Refused(7);
-    }
-    if found.len() < k {
-        return Answer::Refused(7);
-    }
-    if NAMES < k {
-        return Answer::Refused(7);
-    }
-    Answer::Accepted(list(boxes, w, k, found) as u64)
+    Ok(list(boxes, w, k, found) as u64)
 }

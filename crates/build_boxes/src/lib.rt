@@ -19,14 +19,12 @@ pub fn lay_boxes<'a>(
     ensures { boxes.new
         ≡ written (box_numbers (stacked (chain_boxes width input.now merged.now table.now k))) boxes.old }
 {
-    let mut j: usize = 0;
-    while j < k {
+    for j in 0..k {
         let e = box_levels::extent_of(
             build_question::known_part(input, merged, table, width, j),
             width,
         );
         box_levels::put(boxes, j, e);
-        j += 1;
     }
     box_levels::raise_all(boxes, k);
 }

@@ -5,8 +5,12 @@ use mathlib.Core.List.{List, ◌++◌}
 use native.Mathlib.Omega.{arith}
 use lib.ListN.{length}
 use Rattle.rules.specs.declared.Settings.{Settings}
-use Rattle.rules.specs.declared.Answer.{Answer}
-use Rattle.rules.specs.declared.Answer.TheVariants.{Accepted, Refused}
+use Rattle.std.specs.declared.result.Result.{Result}
+use Rattle.std.specs.Prelude.{Ok, Err}
+use Rattle.std.specs.Result.{IsErrAnd}
+use Rattle.rules.specs.declared.Refusal.{Refusal}
+use Rattle.rules.specs.Answers.{Answer, Accepted, Refused, refusal_number, answered}
+use Rattle.build_refusals.proofs.Found.{no_none}
 use Rattle.rules.specs.Boxes.{stacked, box_numbers}
 use Rattle.rules.specs.Chaining.{chains}
 use Rattle.rules.specs.Layout.{Lines, Laid, laid_out, build}
@@ -49,6 +53,11 @@ module _ (t : ℕ) (l : Lines) (s : Settings) (o : Rooms) where
         answer = refused_is (refusal_of t l s o) k (built_of t l s).number e d;
         rooms = unless_refused (refusal_of t l s o) o (filled t l s o) (λ z. d (e ∙ z));
       }
+
+  -- so does one whose refusal is handed on
+  pub refused_on : (x : Result ℕ Refusal) (r : Refusal) → IsErrAnd x (λ q. q ≡ r) → refusal_number r ≡ refusal_of t l s o → Built t l s o (answered x) o
+  refused_on (Ok n) r h e = absurd h
+  refused_on (Err q) r h e = refused (refusal_number q) (ap refusal_number h ∙ e) (no_none q)
 
   module _ (z : refusal_of t l s o ≡ 0) where
     abbrev a : Admitted t l s o

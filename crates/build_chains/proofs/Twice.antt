@@ -9,8 +9,9 @@ use lib.Dec.{eqb}
 use lib.ListN.{length, drop}
 use lib.Seq.{drop-drop}
 use borrow.Rule.Slice.PartMut.{mid_of, put_mid}
+use Rattle.std.specs.Prelude.{Float, Option}
 use Rattle.rules.specs.declared.Settings.{Settings}
-use Rattle.rules.specs.declared.Grid.TheVariants.{Exact}
+use Rattle.rules.specs.Answers.{Exact}
 use Rattle.rules.specs.Plane.{same_key}
 use Rattle.rules.specs.Chaining.{Piece, key_at, cells_of, join, round_one, rule_of}
 use Rattle.rules.specs.Layout.{Lines}
@@ -18,8 +19,7 @@ use Rattle.rules.specs.Refusals.{line_room}
 use Rattle.point_slices.proofs.Laws.{rest_drop}
 use Rattle.chain_pieces.specs.Map.{group_block, join_block, taken_block}
 use Rattle.chain_grouping.specs.Group.{same_words, words_of, Nodes}
-use Rattle.chain_round.specs.Round as round
-use Rattle.chain_round.specs.Round.{RoundWalked, EndsStand, Rounded, GroupedRound}
+use Rattle.chain_round.specs.Round.{paired_to, RoundWalked, EndsStand, Rounded, GroupedRound}
 use Rattle.chain_round.proofs.Joining.{limit_is, grouped_round}
 use Rattle.chain_meeting.specs.Map.{meeting_block}
 use Rattle.chain_apart.proofs.Rounds.{apart_join}
@@ -167,9 +167,9 @@ module _ {width : ℕ} {l : Lines} {s : Settings} {merged spare w₀ : List ℕ}
                   (sym groups_there) keys₁;
             }
 
-        unfoldable pub grouped : GroupedRound width (mid_of 0 (length l.counts * line_room - 0) w₂) (length l.counts) number (eqb s.switch 1) s.limit l.coordinates out' merged
+        unfoldable pub grouped : {t : Option Float} → t ≡ paired_to s → GroupedRound width (mid_of 0 (length l.counts * line_room - 0) w₂) (length l.counts) number t l.coordinates out' merged
         unfolding second two_asks second_asks
-        grouped = grouped_round (cells_of s) (two_asks second) ends_stand
+        grouped q = grouped_round (cells_of s) q (two_asks second) ends_stand
 
         pub both_left : {r : ℕ} {sub₃ merged' : List ℕ} → length sub₃ ≡ length (mid_of 0 (length l.counts * line_room - 0) w₂)
             → Rounded width sub₃ (mid_of 0 (length l.counts * line_room - 0) w₂) (length l.counts) r l.coordinates merged' merged l.counts (join (rule_of (cells_of s) s) (round_one s (plain_of width l)))

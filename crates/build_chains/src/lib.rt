@@ -2,8 +2,9 @@
 #![tactic(auto)]
 
 ghost use Rattle.std.specs.Prelude.{◌≡◌, ◌*◌, ◌≤◌, length};
+ghost use Rattle.rules.specs.Answers.{answered};
 ghost use Rattle.rules.specs.Chaining.{rule_of, cells_of, join, round_one};
-ghost use Rattle.rules.specs.Layout.{lent};
+ghost use Rattle.rules.specs.Lent.{lines_of};
 ghost use Rattle.rules.specs.Refusals.{rooms, refusal_of};
 ghost use Rattle.rules.specs.Calls.{Built};
 ghost use Rattle.chain_pieces.specs.Map.{taken_block};
@@ -12,7 +13,7 @@ ghost use Rattle.build_chains.specs.Building.{Buildable, Left, Layable, WalksLai
 
 use build_walks::Walked;
 use chain_pieces::TAKEN;
-use rules::{Answer, Grid, LINE_ROOM, Settings};
+use rules::{Answer, LINE_ROOM, LentLines, Meeting, Settings};
 
 // Where the pieces that the rounds leave stand in the workspace, how many there are, and how many lines they have.
 #[derive(Clone, Copy)]
@@ -24,39 +25,40 @@ pub struct Pieces {
 
 // Round one: the plain lines of a call as pieces, joined where their ends are the same place. What the pieces copy goes into `out`.
 pub fn round_one(
-    coordinates: &[u64],
+    lines: &LentLines,
     width: usize,
-    counts: &[u32],
-    groups: &[u32],
-    kinds: &[u8],
     settings: Settings,
     out: &mut [u64],
     workspace: &mut [u64],
 ) -> Pieces
-    requires { Buildable width (lent coordinates.now counts.now groups.now kinds.now) settings out.old workspace.old }
-    ensures { Left width (length counts.now) coordinates.now counts.now
-        (round_one settings (plain_of width (lent coordinates.now counts.now groups.now kinds.now)))
+    requires { Buildable width (lines_of lines.now) settings out.old workspace.old }
+    ensures { Left width (length lines.now.counts.now) lines.now.coordinates.now lines.now.counts.now
+        (round_one settings (plain_of width (lines_of lines.now)))
         result.at result.number out.new out.old workspace.new workspace.old
-        × (result.at ≡ length counts.now * taken_block)
-        × (result.lines ≡ length (plain_of width (lent coordinates.now counts.now groups.now kinds.now))) }
+        × (result.at ≡ length lines.now.counts.now * taken_block)
+        × (result.lines ≡ length (plain_of width (lines_of lines.now))) }
 {
-    let n = counts.len();
+    let n = lines.counts.len();
     let at = n * TAKEN;
     let end = n * LINE_ROOM;
-    let lines = build_lines::take_lines(&mut workspace[at..end], n, counts, kinds);
+    let taken = build_lines::take_lines(&mut workspace[at..end], n, lines.counts, lines.kinds);
     let number = chain_round::join_pieces(
         &mut workspace[at..end],
         n,
-        lines,
-        Grid::Exact,
+        taken,
+        None,
         settings,
         width,
-        groups,
-        coordinates,
-        coordinates,
+        lines.groups,
+        lines.coordinates,
+        lines.coordinates,
         out,
     );
-    Pieces { at, number, lines }
+    Pieces {
+        at,
+        number,
+        lines: taken,
+    }
 }
 
 // Round two, of the m pieces of n lines that stand where round one leaves its own: joined where their ends are in one cell. Returns how many there are then.
@@ -78,7 +80,11 @@ pub fn round_two<'a>(
         0 result merged.new merged.old workspace.new workspace.old }
 {
     let end = n * LINE_ROOM;
-    let grid = Grid::Cells(settings.tolerance, settings.origin_x, settings.origin_y);
+    let grid = Some(Meeting {
+        tolerance: settings.tolerance,
+        origin_x: settings.origin_x,
+        origin_y: settings.origin_y,
+    });
     chain_round::join_pieces(
         &mut workspace[0..end],
         n,
@@ -124,51 +130,38 @@ fn lay_walks(
 // The lines joined in two rounds, where the tolerance is above 0. Where round two can join none of round one's walks, these are laid into `merged`, and it is
 // done; otherwise round one merges into `spare`, and round two from there into `merged`.
 fn join_twice(
-    coordinates: &[u64],
+    lines: &LentLines,
     width: usize,
-    counts: &[u32],
-    groups: &[u32],
-    kinds: &[u8],
     settings: Settings,
     merged: &mut [u64],
     spare: &mut [u64],
     workspace: &mut [u64],
 ) -> Pieces
-    requires { Twice width (lent coordinates.now counts.now groups.now kinds.now) settings merged.old spare.old workspace.old }
-    ensures { AllLeft width (lent coordinates.now counts.now groups.now kinds.now) settings
+    requires { Twice width (lines_of lines.now) settings merged.old spare.old workspace.old }
+    ensures { AllLeft width (lines_of lines.now) settings
         result.at result.number result.lines merged.new merged.old spare.new spare.old
         workspace.new workspace.old }
 {
-    let n = counts.len();
+    let n = lines.counts.len();
     let at = n * TAKEN;
     let end = n * LINE_ROOM;
-    let one = build_walks::walk_lines(
-        &mut workspace[at..end],
-        n,
-        coordinates,
-        width,
-        counts,
-        groups,
-        kinds,
-        settings,
-    );
+    let one = build_walks::walk_lines(&mut workspace[at..end], n, lines, width, settings);
     if one.apart {
-        lay_walks(workspace, n, one, width, coordinates, merged);
+        lay_walks(workspace, n, one, width, lines.coordinates, merged);
         return Pieces {
             at,
             number: one.number,
             lines: one.lines,
         };
     }
-    lay_walks(workspace, n, one, width, coordinates, spare);
+    lay_walks(workspace, n, one, width, lines.coordinates, spare);
     let number = chain_round::join_grouped(
         &mut workspace[0..end],
         n,
         one.number,
-        settings.switch == 1,
-        settings.limit,
+        chain_round::pairing_limit(settings),
         width,
-        coordinates,
+        lines.coordinates,
         spare,
         merged,
     );
@@ -181,54 +174,30 @@ fn join_twice(
 
 // The lines joined in one round, or in two where the tolerance is above 0.
 fn join_lines(
-    coordinates: &[u64],
+    lines: &LentLines,
     width: usize,
-    counts: &[u32],
-    groups: &[u32],
-    kinds: &[u8],
     settings: Settings,
     merged: &mut [u64],
     spare: &mut [u64],
     workspace: &mut [u64],
 ) -> Pieces
-    requires { Buildable width (lent coordinates.now counts.now groups.now kinds.now) settings merged.old workspace.old
-        × (length coordinates.now ≤ length spare.old) }
-    ensures { AllLeft width (lent coordinates.now counts.now groups.now kinds.now) settings
+    requires { Buildable width (lines_of lines.now) settings merged.old workspace.old
+        × (length lines.now.coordinates.now ≤ length spare.old) }
+    ensures { AllLeft width (lines_of lines.now) settings
         result.at result.number result.lines merged.new merged.old spare.new spare.old
         workspace.new workspace.old }
 {
     if 0.0 < settings.tolerance {
-        return join_twice(
-            coordinates,
-            width,
-            counts,
-            groups,
-            kinds,
-            settings,
-            merged,
-            spare,
-            workspace,
-        );
+        join_twice(lines, width, settings, merged, spare, workspace)
+    } else {
+        round_one(lines, width, settings, merged, workspace)
     }
-    round_one(
-        coordinates,
-        width,
-        counts,
-        groups,
-        kinds,
-        settings,
-        merged,
-        workspace,
-    )
 }
 
 // A call that is not refused: the rounds, the layout, the boxes, and the zeros that are left.
 fn build_admitted(
     wkb_type: u32,
-    coordinates: &[u64],
-    counts: &[u32],
-    groups: &[u32],
-    kinds: &[u8],
+    lines: &LentLines,
     settings: Settings,
     table: &mut [u32],
     members: &mut [u32],
@@ -239,27 +208,17 @@ fn build_admitted(
     spare: &mut [u64],
     workspace: &mut [u64],
 ) -> Answer
-    requires { refusal_of wkb_type (lent coordinates.now counts.now groups.now kinds.now) settings
+    requires { refusal_of wkb_type (lines_of lines.now) settings
         (rooms table.old members.old marks.old listing.old merged.old boxes.old spare.old workspace.old) ≡ 0 }
-    ensures { Built wkb_type (lent coordinates.now counts.now groups.now kinds.now) settings
+    ensures { Built wkb_type (lines_of lines.now) settings
         (rooms table.old members.old marks.old listing.old
         merged.old boxes.old spare.old workspace.old)
-        result (rooms table.new members.new marks.new listing.new
+        (answered result) (rooms table.new members.new marks.new listing.new
         merged.new boxes.new spare.new workspace.new) }
 {
-    let n = counts.len();
+    let n = lines.counts.len();
     let width = point_numbers::width_of(wkb_type);
-    let left = join_lines(
-        coordinates,
-        width,
-        counts,
-        groups,
-        kinds,
-        settings,
-        merged,
-        spare,
-        workspace,
-    );
+    let left = join_lines(lines, width, settings, merged, spare, workspace);
     let at = left.at;
     let end = n * LINE_ROOM;
     let number = build_layout::lay_out(
@@ -268,29 +227,24 @@ fn build_admitted(
         left.number,
         left.lines,
         width,
-        coordinates,
+        lines,
         merged,
-        counts,
-        kinds,
         table,
         members,
         marks,
         listing,
     );
-    build_boxes::lay_boxes(coordinates, merged, table, width, number, boxes);
-    point_slices::clear(spare, coordinates.len());
+    build_boxes::lay_boxes(lines.coordinates, merged, table, width, number, boxes);
+    point_slices::clear(spare, lines.coordinates.len());
     point_slices::clear(workspace, end);
-    Answer::Accepted(number as u64)
+    Ok(number as u64)
 }
 
 // Builds the chains of a call, of lines of a type: table, members, marks, listing, merged coordinates and boxes. A refused call changes no slice; an accepted
 // one leaves spare and workspace zero over their named length, whatever they held.
 pub fn build(
     wkb_type: u32,
-    coordinates: &[u64],
-    counts: &[u32],
-    groups: &[u32],
-    kinds: &[u8],
+    lines: &LentLines,
     settings: Settings,
     table: &mut [u32],
     members: &mut [u32],
@@ -301,18 +255,18 @@ pub fn build(
     spare: &mut [u64],
     workspace: &mut [u64],
 ) -> Answer
-    ensures { Built wkb_type (lent coordinates.now counts.now groups.now kinds.now) settings
+    ensures { Built wkb_type (lines_of lines.now) settings
         (rooms table.old members.old marks.old listing.old
         merged.old boxes.old spare.old workspace.old)
-        result (rooms table.new members.new marks.new listing.new
+        (answered result) (rooms table.new members.new marks.new listing.new
         merged.new boxes.new spare.new workspace.new) }
 {
-    let refused = build_refusals::refusal(
+    build_refusals::refusal(
         wkb_type,
-        coordinates,
-        counts,
-        groups,
-        kinds,
+        lines.coordinates,
+        lines.counts,
+        lines.groups,
+        lines.kinds,
         settings,
         table,
         members,
@@ -322,24 +276,8 @@ pub fn build(
         boxes,
         spare,
         workspace,
-    );
-    if refused != 0 {
-        return Answer::Refused(refused);
-    }
+    )?;
     build_admitted(
-        wkb_type,
-        coordinates,
-        counts,
-        groups,
-        kinds,
-        settings,
-        table,
-        members,
-        marks,
-        listing,
-        merged,
-        boxes,
-        spare,
-        workspace,
+        wkb_type, lines, settings, table, members, marks, listing, merged, boxes, spare, workspace,
     )
 }

@@ -9,17 +9,15 @@ ghost use Rattle.point_slices.specs.Holds.{HoldsFrom};
 ghost use Rattle.build_layout.specs.Laying.{Narrow, PiecesLayable, ChainLayable, Chained, Rest, passing_of, Rested, Layable, Outputs};
 
 use chain_pieces::{LISTING, MARKS, MEMBERS};
-use rules::{PIECE, RECORD};
+use rules::{LentLines, PIECE, RECORD};
 
 // The k words of w from `from` on, as u32, in `out` from `at` on.
 pub fn lay_words(w: &[u64], from: usize, k: usize, out: &mut [u32], at: usize)
     requires { Narrow w.now from k (2 ^ 32) out.old at }
     ensures { HoldsFrom out.new out.old at k (slice from (from + k) w.now) }
 {
-    let mut i = 0;
-    while i < k {
+    for i in 0..k {
         out[at + i] = w[from + i] as u32;
-        i += 1;
     }
 }
 
@@ -28,10 +26,8 @@ pub fn lay_marks(w: &[u64], from: usize, k: usize, out: &mut [u8])
     requires { Narrow w.now from k (2 ^ 8) out.old 0 }
     ensures { HoldsFrom out.new out.old 0 k (slice from (from + k) w.now) }
 {
-    let mut i = 0;
-    while i < k {
+    for i in 0..k {
         out[i] = w[from + i] as u8;
-        i += 1;
     }
 }
 
@@ -48,12 +44,10 @@ fn lay_pieces<'a>(
     ensures { (y : PiecesLayable width w.now p coordinates.now copies.now table.old)
         → HoldsFrom table.new table.old 0 (p * record_size) (table_of y.counts 0 0 y.ps) }
 {
-    let mut q = 0;
-    while q < p {
+    for q in 0..p {
         lay_words(w, q * PIECE, PIECE, table, q * RECORD);
         let part = chain_pieces::coordinates_of(w, q * PIECE, width, coordinates, copies);
         table[q * RECORD + PIECE] = point_numbers::loop_mark(part, width);
-        q += 1;
     }
 }
 
@@ -91,10 +85,8 @@ fn lay_line(
 
 // The lines that pass through, behind j chains and m members. Returns how many chains there are then.
 fn lay_rest(
-    coordinates: &[u64],
+    lines: &LentLines,
     width: usize,
-    counts: &[u32],
-    kinds: &[u8],
     j: usize,
     m: usize,
     table: &mut [u32],
@@ -102,28 +94,27 @@ fn lay_rest(
     marks: &mut [u8],
     listing: &mut [u32],
 ) -> usize
-    requires { Rest width coordinates.now counts.now kinds.now j m table.old members.old marks.old listing.old }
-    ensures { (y : Rest width coordinates.now counts.now kinds.now j m
+    requires { Rest width lines.now.coordinates.now lines.now.counts.now lines.now.kinds.now j m table.old members.old marks.old listing.old }
+    ensures { (y : Rest width lines.now.coordinates.now lines.now.counts.now lines.now.kinds.now j m
         table.old members.old marks.old listing.old)
-        → Rested counts.now j m (passing_of width (lent coordinates.now counts.now y.groups kinds.now))
+        → Rested lines.now.counts.now j m
+        (passing_of width (lent lines.now.coordinates.now lines.now.counts.now y.groups lines.now.kinds.now))
         table.new table.old
         members.new members.old
         marks.new marks.old
         listing.new listing.old result }
 {
-    let mut k = 0;
     let mut r = 0;
     let mut first: u32 = 0;
-    while k < counts.len() {
-        let count = counts[k];
-        if !build_lines::is_plain(count, kinds[k]) {
+    for (k, count) in lines.counts.iter().enumerate() {
+        if !build_lines::is_plain(*count, lines.kinds[k]) {
             let from = first as usize * width;
-            let to = from + count as usize * width;
-            let closed = point_numbers::loop_mark(&coordinates[from..to], width);
+            let to = from + *count as usize * width;
+            let closed = point_numbers::loop_mark(&lines.coordinates[from..to], width);
             lay_line(
                 k,
                 first,
-                count,
+                *count,
                 closed,
                 j + r,
                 m + r,
@@ -134,53 +125,40 @@ fn lay_rest(
             );
             r += 1;
         }
-        first += count;
-        k += 1;
+        first += *count;
     }
     j + r
 }
 
 // The p pieces that the rounds leave, with l members in all, stand at the front of w, and what they copy in `copies`. Writes them and the lines that pass
 // through, and returns how many chains there are.
-pub fn lay_out<'a>(
+pub fn lay_out(
     w: &[u64],
     n: usize,
     p: usize,
     l: usize,
     width: usize,
-    coordinates: &'a [u64],
-    copies: &'a [u64],
-    counts: &[u32],
-    kinds: &[u8],
+    lines: &LentLines,
+    copies: &[u64],
     table: &mut [u32],
     members: &mut [u32],
     marks: &mut [u8],
     listing: &mut [u32],
 ) -> usize
-    requires { Layable width w.now n p l coordinates.now copies.now counts.now kinds.now table.old members.old marks.old listing.old }
-    ensures { (y : Layable width w.now n p l coordinates.now copies.now counts.now kinds.now
+    requires { Layable width w.now n p l lines.now.coordinates.now copies.now lines.now.counts.now lines.now.kinds.now table.old members.old marks.old listing.old }
+    ensures { (y : Layable width w.now n p l
+        lines.now.coordinates.now copies.now lines.now.counts.now lines.now.kinds.now
         table.old members.old marks.old listing.old)
-        → Outputs (laid_out width counts.now
-        (y.ps ++ passing_of width (lent coordinates.now counts.now y.groups kinds.now)))
+        → Outputs (laid_out width lines.now.counts.now
+        (y.ps ++ passing_of width (lent lines.now.coordinates.now lines.now.counts.now y.groups lines.now.kinds.now)))
         table.new table.old
         members.new members.old
         marks.new marks.old
         listing.new listing.old result }
 {
-    lay_pieces(w, p, width, coordinates, copies, table);
+    lay_pieces(w, p, width, lines.coordinates, copies, table);
     lay_words(w, n * MEMBERS, l, members, 0);
     lay_marks(w, n * MARKS, l, marks);
     lay_words(w, n * LISTING, l, listing, 0);
-    lay_rest(
-        coordinates,
-        width,
-        counts,
-        kinds,
-        p,
-        l,
-        table,
-        members,
-        marks,
-        listing,
-    )
+    lay_rest(lines, width, p, l, table, members, marks, listing)
 }

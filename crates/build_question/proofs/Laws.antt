@@ -9,7 +9,7 @@ use borrow.Author.Tests.{lt-ltb, le-ltb, ltb-false, eq-eqb, ne_eqb, eqb-true, eq
 use lib.Dec.{ltb, eqb}
 use lib.ListN.{length, take, drop}
 use Rattle.rules.specs.Refusals.{no_chain, source_of, entry, chain_refusal_of, first_of, record_size}
-use Rattle.rules.specs.declared.Answer.TheVariants.{Accepted, Refused}
+use Rattle.rules.specs.Answers.{Accepted, Refused}
 use Rattle.rules.specs.Types.{width_of}
 use Rattle.rules.specs.Calls.{asked, viewed, answer_of, unless}
 use Rattle.build_question.specs.Parts.{part_of}
@@ -28,12 +28,10 @@ module _ (width : ℕ) (input merged table : List ℕ) (k : ℕ) where
   unfolding no_chain source_of
   room_input h s = simp (le-ltb (length table) (k * record_size + record_size) (omega arith), s)
 
-  pub room_merged : k < length table / record_size → entry table k 2 ≤ 1 → (entry table k 2 ≡ 0 → ⊥)
+  pub room_merged : k < length table / record_size → entry table k 2 ≡ 1
       → no_chain width input merged table k ≡ ltb (length merged) ((entry table k 3 + entry table k 4) * width)
   unfolding no_chain source_of
-  room_merged h s z =
-      let e : entry table k 2 ≡ 1 = omega arith in
-      simp (le-ltb (length table) (k * record_size + record_size) (omega arith), e)
+  room_merged h s = simp (le-ltb (length table) (k * record_size + record_size) (omega arith), s)
 
 -- ---- a chain that stands
 

@@ -2,14 +2,16 @@
 use mathlib.Core.Path.{◌≡◌, refl, sym, ap, subst, ◌∙◌}
 use mathlib.Core.Bool.{Bool, true, false, not, ◌||◌, true≢false}
 use mathlib.Core.List.{List, [], ◌∷◌, ◌++◌}
-use Prim.Native.Nat.{ℕ, suc, ◌+◌, ◌*◌, ◌≤◌, ◌<◌}
-use native.Mathlib.Nat.{add_assoc, mul-le-mul_right}
-use native.Mathlib.Numerals.{add-one}
+use Prim.Native.Nat.{ℕ, suc, ◌*◌, ◌≤◌, ◌<◌}
+use native.Mathlib.Nat.{mul-le-mul_right}
 use native.Mathlib.Omega.{arith}
-use lib.ListN.{length, drop, get_or, drop_of_length-le}
-use lib.Seq.{drop-cons}
+use lib.ListN.{length}
 use lib.Dec.{ltb, eqb}
-use borrow.Author.Tests.{lt-ltb, le-ltb, ltb-false, eqb-true, eqb-false, not-false}
+use borrow.Author.Tests.{ltb-false, eq-eqb, ne_eqb, eqb-true, eqb-false, not-false}
+use mathlib.Core.Logic.{◌⊎◌, inl, inr}
+use Rattle.std.specs.Prelude.{sum_by}
+use Rattle.std.specs.List.{list_any}
+use Rattle.std.proofs.lemmas.List.Recursion.{is_sum_by}
 use Rattle.rules.specs.declared.Settings.{Settings}
 use Rattle.rules.specs.Lists.{total}
 use Rattle.rules.specs.Plane.{points}
@@ -19,53 +21,40 @@ use Rattle.rules.specs.Layout.{Lines}
 use Rattle.rules.specs.Types.{width_of, no_type}
 use Rattle.build_refusals.specs.Admitted.{LinesAdmitted, Admitted}
 use Rattle.rules.specs.Refusals.{Rooms, any_above, any_nowhere, origin_bad, first_of, line_tests, refusal_of, line_room, record_size}
-use Rattle.build_refusals.specs.Tests.{switch_bad, room_short}
+use Rattle.build_refusals.specs.Tests.{switch_bad, any_short}
 
 -- ---- sums and kinds
 
--- one number more is summed
-pub total_step : (l : List ℕ) (i s : ℕ) → i < length l → s + total (drop i l) ≡ s + get_or l i 0 + total (drop (i + 1) l)
+pub total_sum : (l : List ℕ) → total l ≡ sum_by (λ x. x) l
 unfolding total
-total_step l i s h = rw (drop-cons l i 0 h, add-one, add_assoc)
+total_sum = is_sum_by total (λ x. x) refl (λ _ _. refl)
 
-pub total_none : (l : List ℕ) (i s : ℕ) → length l ≤ i → s + total (drop i l) ≡ s
-unfolding total
-total_none l i s h = rw (drop_of_length-le l {i = i} h) (omega arith)
-
-above_no : (m x : ℕ) (l : List ℕ) → x ≤ m → any_above m (x ∷ l) ≡ any_above m l
+pub above_any : (m : ℕ) (l : List ℕ) → any_above m l ≡ list_any (ltb m) l
 unfolding any_above
-above_no m x l k = rw (le-ltb m x k, any_above)
-
-above_yes : (m x : ℕ) (l : List ℕ) → m < x → any_above m (x ∷ l) ≡ true
-unfolding any_above
-above_yes m x l k = rw (lt-ltb m x k, any_above)
-
--- one number more is passed
-pub above_step : (m : ℕ) (l : List ℕ) (i : ℕ) → i < length l → get_or l i 0 ≤ m → any_above m (drop i l) ≡ any_above m (drop (i + 1) l)
-above_step m l i h k = rw (drop-cons l i 0 h, add-one, above_no m (get_or l i 0) (drop (suc i) l) k)
-
-pub above_here : (m : ℕ) (l : List ℕ) (i : ℕ) → i < length l → m < get_or l i 0 → any_above m (drop i l) ≡ true
-above_here m l i h k = rw (drop-cons l i 0 h, above_yes m (get_or l i 0) (drop (suc i) l) k)
-
-pub above_none : (m : ℕ) (l : List ℕ) (i : ℕ) → length l ≤ i → any_above m (drop i l) ≡ false
-unfolding any_above
-above_none m l i h = rw (drop_of_length-le l {i = i} h)
+above_any m [] = refl
+above_any m (x ∷ l) = elim (ltb m x) as (λ b. elim b [ true ↦ true | false ↦ any_above m l ] ≡ (b || list_any (ltb m) l)) [ true ↦ refl | false ↦ above_any m l ]
 
 -- ---- the ladder
+
+-- the rooms of n lines and their numbers of coordinates, and what is asked of each
+abbrev pub rooms_asked : ℕ → ℕ → Rooms → List (ℕ × ℕ)
+rooms_asked n numbers o =
+    (length o.table, n * record_size)
+    ∷ (length o.members, n)
+    ∷ (length o.marks, n)
+    ∷ (length o.listing, n)
+    ∷ (length o.merged, numbers)
+    ∷ (length o.boxes, box_room n)
+    ∷ (length o.spare, numbers)
+    ∷ (length o.workspace, n * line_room)
+    ∷ []
 
 -- the tests of a call behind those of its lines, in order
 abbrev pub rest_tests : Lines → Settings → Rooms → List (ℕ × Bool)
 rest_tests l s o =
     let n = length l.counts in
     let numbers = length l.coordinates in
-    (6, switch_bad s.switch s.limit)
-    ∷ (17, origin_bad s.origin_x s.origin_y)
-    ∷ (
-      7,
-      room_short n numbers (length o.table) (length o.members) (length o.marks) (length o.listing) (length o.merged) (length o.boxes)
-          (length o.spare) (length o.workspace),
-    )
-    ∷ []
+    (6, switch_bad s.switch s.limit) ∷ (17, origin_bad s.origin_x s.origin_y) ∷ (7, any_short (rooms_asked n numbers o)) ∷ []
 
 -- a test that doesn't hold is passed, and the first that holds gives its number
 pub passed : (k : ℕ) (b : Bool) (l : List (ℕ × Bool)) → b ≡ false → first_of ((k, b) ∷ l) ≡ first_of l
@@ -78,20 +67,17 @@ unfolding first_of
 stopped k true l e = refl
 stopped k false l e = absurd (true≢false (sym e))
 
--- one of several tests: passed over where it doesn't hold, and enough where it does
-pub past : (a b : Bool) → a ≡ false → a || b ≡ b
-past a b e = ap (λ (t : Bool). t || b) e
-
-pub stop : (a b : Bool) → a ≡ true → a || b ≡ true
-stop a b e = ap (λ (t : Bool). t || b) e
-
 -- the refusal r is that of the tests l, which are left
 pub record Left (r : ℕ) (l : List (ℕ × Bool)) : Type 0 where
   pub is : r ≡ first_of l
 
+pub or_false : (b : Bool) → (b || false) ≡ b
+or_false true = refl
+or_false false = refl
+
 pub opened : (t : ℕ) (l : Lines) (s : Settings) (o : Rooms) → Left (refusal_of t l s o) (line_tests t l ++ rest_tests l s o)
-unfolding refusal_of switch_bad room_short
-opened t l s o = record { is = refl }
+unfolding refusal_of switch_bad
+opened t l s o = record { is = rw (or_false (ltb (length o.workspace) (length l.counts * line_room))) }
 
 -- one rung: the test doesn't hold, or it does
 pub rung : {r k : ℕ} {b : Bool} {l : List (ℕ × Bool)} → Left r ((k, b) ∷ l) → b ≡ false → Left r l
@@ -175,12 +161,6 @@ sums t s v w numbers e g f = rw (← e, ← g, f)
 pub has_two : (t w : ℕ) → w ≡ width_of t → (w ≡ 0 → ⊥) → 2 ≤ w
 has_two t w e n = subst (λ (v : ℕ). 2 ≤ v) (sym e) (width_two t (λ z. n (e ∙ z)))
 
--- a sum of counts times a width is below 2 ^ 64
-pub product_short : (a b : ℕ) → a < 17592186044416 → b ≤ 4 → a * b < 18446744073709551616
-product_short a b h k =
-    let p : a * b ≤ 17592186044415 * b = mul-le-mul_right b (omega arith) in
-    omega arith
-
 pub many : (m t s : ℕ) {b : Bool} → s ≡ t → ltb m s ≡ b → ltb m t ≡ b
 many m t s e f = rw (← e, f)
 
@@ -201,9 +181,19 @@ pub or_off : (a b : Bool) → a || b ≡ false → (a ≡ false) × (b ≡ false
 or_off true b e = absurd (true≢false e)
 or_off false b e = (refl, e)
 
--- where the tables don't differ, the groups are as many as the lines
-pub same_groups : (g n : ℕ) (b : Bool) {r : Bool} → r ≡ (not (eqb g n) || b) → r ≡ false → g ≡ n
-same_groups g n b e f = eqb-true g n (not-false _ (or_off (not (eqb g n)) b (sym e ∙ f)).0)
+-- where no room is too short, each has what is asked of it
+abbrev pub AllLong : List (ℕ × ℕ) → Type 0
+AllLong [] = Unit {0}
+AllLong (r ∷ l) = (r.1 ≤ r.0) × AllLong l
+
+pub all_long : (l : List (ℕ × ℕ)) → any_short l ≡ false → AllLong l
+all_long [] e = tt
+all_long (r ∷ l) e = let b = or_off (ltb r.0 r.1) (any_short l) e in (ltb-false r.0 r.1 b.0, all_long l b.1)
+
+-- one of two lengths is another than n
+pub unlike : (g k n : ℕ) → (g ≡ n → ⊥) ⊎ ((g ≡ n) × (k ≡ n → ⊥)) → not (eqb g n) || not (eqb k n) ≡ true
+unlike g k n (inl h) = rw (ne_eqb g n h)
+unlike g k n (inr h) = rw (eq-eqb g n h.0, ne_eqb k n h.1)
 
 -- of its lines
 pub lines_admitted : (t : ℕ) (l : Lines) → Left 0 (line_tests t l) → LinesAdmitted t l
@@ -233,22 +223,13 @@ lines_admitted t l e =
     }
 
 pub admitted : (t : ℕ) (l : Lines) (s : Settings) (o : Rooms) → refusal_of t l s o ≡ 0 → Admitted t l s o
-unfolding room_short
 admitted t l s o z =
     let n = length l.counts in
-    let numbers = length l.coordinates in
     let parts = parted (line_tests t l) (rest_tests l s o) (lines_numbered t l) (record { is = sym z ∙ (opened t l s o).is }) in
     let a = lines_admitted t l parts.0 in
     let t₀ = off parts.1 in
     let t₁ = off t₀.1 in
-    let t₂ = off t₁.1 in
-    let r₁ = or_off (ltb (length o.table) (n * record_size)) _ t₂.0 in
-    let r₂ = or_off (ltb (length o.members) n) _ r₁.1 in
-    let r₃ = or_off (ltb (length o.marks) n) _ r₂.1 in
-    let r₄ = or_off (ltb (length o.listing) n) _ r₃.1 in
-    let r₅ = or_off (ltb (length o.merged) numbers) _ r₄.1 in
-    let r₆ = or_off (ltb (length o.boxes) (box_room n)) _ r₅.1 in
-    let r₇ = or_off (ltb (length o.spare) numbers) (ltb (length o.workspace) (n * line_room)) r₆.1 in
+    let r = all_long (rooms_asked n (length l.coordinates) o) (off t₁.1).0 in
     record {
       two = a.two;
       few = a.few;
@@ -261,12 +242,12 @@ admitted t l s o z =
       places = a.places;
       switched = t₀.0;
       cornered = t₁.0;
-      table_long = ltb-false (length o.table) (n * record_size) r₁.0;
-      members_long = ltb-false (length o.members) n r₂.0;
-      marks_long = ltb-false (length o.marks) n r₃.0;
-      listing_long = ltb-false (length o.listing) n r₄.0;
-      merged_long = ltb-false (length o.merged) numbers r₅.0;
-      boxes_long = ltb-false (length o.boxes) (box_room n) r₆.0;
-      spare_long = ltb-false (length o.spare) numbers r₇.0;
-      workspace_long = ltb-false (length o.workspace) (n * line_room) r₇.1;
+      table_long = r.0;
+      members_long = r.1.0;
+      marks_long = r.1.1.0;
+      listing_long = r.1.1.1.0;
+      merged_long = r.1.1.1.1.0;
+      boxes_long = r.1.1.1.1.1.0;
+      spare_long = r.1.1.1.1.1.1.0;
+      workspace_long = r.1.1.1.1.1.1.1.0;
     }

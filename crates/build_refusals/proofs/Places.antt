@@ -1,13 +1,13 @@
 -- Laws of refusal 15: numbers and points are looked at one by one, and what they make together tells whether one of them is no place.
 use mathlib.Core.Path.{◌≡◌, refl, sym, ap, ap₂, ◌∙◌}
 use mathlib.Core.Bool.{Bool, true, false, not, ◌&&◌}
-use mathlib.Core.List.{List, [], ◌∷◌}
+use mathlib.Core.List.{List, [], ◌∷◌, ◌++◌}
 use Prim.Native.Nat.{ℕ, zero, suc, ◌+◌, ◌*◌, ◌/◌, ◌^◌, ◌≤◌, ◌<◌}
-use native.Mathlib.Nat.{add_assoc}
+use native.Mathlib.Nat.{add_assoc, zero-add}
 use native.Mathlib.Numerals.{add-one}
 use native.Mathlib.Omega.{arith}
-use lib.ListN.{length, drop, get_or, drop_of_length-le}
-use lib.Seq.{drop-cons}
+use lib.ListN.{length, drop, get_or, drop_of_length-le, length-append, get_or-append}
+use lib.Seq.{drop-cons, drop-append_seam}
 use lib.Bits.{bit_or, or_zero_l, or_add_and, and_le_l, and_le_r, or_shr, or_lt}
 use lib.Dec.{leb, ltb}
 use borrow.Author.Tests.{lt-ltb, le-ltb, leb-true, leb-false}
@@ -94,13 +94,6 @@ nowhere_wild w l h e =
 abbrev pub told : ℕ → ℕ → List Point → Bool
 told a b left = ltb 0 (a / 2 ^ 63 + (b / 2 ^ 63 + one (any_nowhere left)))
 
-pub told_none : (left : List Point) → told 0 0 left ≡ any_nowhere left
-told_none left = go (any_nowhere left)
-  where
-    go : (t : Bool) → ltb 0 (0 + (0 + one t)) ≡ t
-    go true = refl
-    go false = refl
-
 module _ (w : ℕ) (l : List ℕ) (i : ℕ) (two : 2 ≤ w) (h : i + w ≤ length l) where
   opened_from : any_nowhere (points w (drop i l)) ≡ any_nowhere (point_at w l i ∷ points w (drop (i + w) l))
   opened_from = ap any_nowhere (points_from w l i (omega arith) h)
@@ -158,14 +151,24 @@ module _ (w : ℕ) (l : List ℕ) (i : ℕ) (two : 2 ≤ w) (h : i + w ≤ lengt
           rw p (lt-ltb 0 (B + (Y + (A + (1 + one rest)))) (omega arith))
           ∙ sym (ap (λ (t : Bool). ltb 0 (A + (B + one t))) (x_nowhere p) ∙ lt-ltb 0 (A + (B + 1)) (omega arith))
 
-places_end : (w : ℕ) (l : List ℕ) (i : ℕ) → 2 ≤ w → length l ≤ i → any_nowhere (points w (drop i l)) ≡ false
-unfolding any_nowhere
-places_end w l i two h = ap any_nowhere (points_past w l i (omega arith) (omega arith))
+-- the first point of what is left, with all its numbers
+pub told_next : (w : ℕ) (l x left : List ℕ) (a b m n : ℕ) → 2 ≤ w → l ≡ x ++ left → length x ≡ w → a < 2 ^ 64 → b < 2 ^ 64
+    → m / 2 ^ 63 ≡ one (not (finite (float (get_or x 0 0)))) → n / 2 ^ 63 ≡ one (not (finite (float (get_or x 1 0))))
+    → told (bit_or a m) (bit_or b n) (points w left) ≡ told a b (points w l)
+told_next w l x left a b m n two e long k r p q =
+    let room : 0 + w ≤ length l = omega (arith, ap length e, length-append x left) in
+    let at : (i : ℕ) → i < w → get_or x i 0 ≡ get_or l i 0 = λ i h. sym (rw e (get_or-append x left 0 i (omega arith))) in
+    let rest : drop (0 + w) l ≡ left = rw (e, zero-add, ← long, drop-append_seam) in
+    rw (← rest) (told_more w l 0 two room a b m n k r (p ∙ ap (λ (y : ℕ). one (not (finite (float y)))) (at 0 (omega arith))) (q ∙ ap (λ (y : ℕ). one (not (finite (float y)))) (at 1 (omega arith))))
 
--- all are looked at
-pub told_all : (w : ℕ) (l : List ℕ) (i a b : ℕ) → 2 ≤ w → length l ≤ i → a < 2 ^ 64 → b < 2 ^ 64 → leb (2 ^ 63) (bit_or a b) ≡ told a b (points w (drop i l))
-told_all w l i a b two h k r =
+places_end : (w : ℕ) (l : List ℕ) → length l < w → any_nowhere (points w l) ≡ false
+unfolding any_nowhere
+places_end w l h = ap any_nowhere (points_past w l 0 (omega arith) (omega arith))
+
+-- no whole point is left
+pub told_all : (w : ℕ) (l : List ℕ) (a b : ℕ) → 2 ≤ w → length l < w → a < 2 ^ 64 → b < 2 ^ 64 → leb (2 ^ 63) (bit_or a b) ≡ told a b (points w l)
+told_all w l a b two h k r =
     let z : bit_or (a / 2 ^ 63) (b / 2 ^ 63) ≡ bit_or (a / 2 ^ 63) (b / 2 ^ 63) + 0 = omega arith in
     sign_taken (bit_or a b) (or_lt 64 a b k r) ∙ ap (ltb 0) (or_shr a b 63 ∙ z)
     ∙ or_some (a / 2 ^ 63) (b / 2 ^ 63) 0 (omega arith) (omega arith)
-    ∙ ap (λ (t : Bool). ltb 0 (a / 2 ^ 63 + (b / 2 ^ 63 + one t))) (sym (places_end w l i two h))
+    ∙ ap (λ (t : Bool). ltb 0 (a / 2 ^ 63 + (b / 2 ^ 63 + one t))) (sym (places_end w l h))

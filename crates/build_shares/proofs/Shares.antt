@@ -85,9 +85,6 @@ pub record Brought (cs gs : List ℕ) (lines points i : ℕ) : Type 0 where
   pub by_lines : lines + lines_brought 1 (drop i gs) ≡ lines_brought 1 gs
   pub by_points : points + points_brought 1 (drop i cs) (drop i gs) ≡ points_brought 1 cs gs
 
-pub none_brought : (cs gs : List ℕ) → Brought cs gs 0 0 0
-none_brought cs gs = record { by_lines = zero-add _; by_points = zero-add _ }
-
 lines_step : (gs : List ℕ) (i s : ℕ) → i < length gs
     → s + lines_brought 1 (drop i gs) ≡ s + one (is_of 1 (get_or gs i 0)) + lines_brought 1 (drop (i + 1) gs)
 lines_step gs i s h = rw (drop-cons gs i 0 h, add-one, lines_more, add_assoc)

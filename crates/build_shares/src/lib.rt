@@ -4,10 +4,11 @@
 
 ghost use Rattle.std.specs.Prelude.{◌≡◌, ◌||◌, [], ◌∷◌, ◌-◌, ◌≤◌, ltb, length};
 ghost use Rattle.rules.specs.Lists.{total};
+ghost use Rattle.rules.specs.Answers.{found};
 ghost use Rattle.rules.specs.Districts.{lines_brought, points_brought, over_lines, over_points};
 ghost use Rattle.rules.specs.Refusals.{first_of, most_lines};
 
-use rules::{BORDER, MOST_DISTRICT_LINES, MOST_DISTRICT_POINTS};
+use rules::{BORDER, MOST_DISTRICT_LINES, MOST_DISTRICT_POINTS, Refusal};
 
 // A district's lines and its coordinates.
 #[derive(Clone, Copy)]
@@ -24,12 +25,10 @@ fn second_share(counts: &[u32], groups: &[u32]) -> Share
 {
     let mut lines: u64 = 0;
     let mut points: u64 = 0;
-    let mut i = 0;
-    while i < counts.len() {
+    for (i, count) in counts.iter().enumerate() {
         let second = (groups[i] / BORDER) as u64;
         lines += second;
-        points += second * counts[i] as u64;
-        i += 1;
+        points += second * *count as u64;
     }
     Share { lines, points }
 }
@@ -39,16 +38,13 @@ fn over(all: u64, second: u64, most: u64) -> bool
     requires { second ≤ all }
     ensures { result ≡ ltb most (all - second) || ltb most second }
 {
-    if most < all - second {
-        return true;
-    }
-    most < second
+    most < all - second || most < second
 }
 
-// 20 where a district brings more lines than its share, else 21 where one brings more coordinates, else 0. All lines together have c coordinates.
-pub fn share_refusal(counts: &[u32], groups: &[u32], c: u64) -> u64
+// Refuses a district that brings more lines than its share, else one that brings more coordinates. All lines together have c coordinates.
+pub fn share_refusal(counts: &[u32], groups: &[u32], c: u64) -> Result<(), Refusal>
     requires { (length counts.now ≤ most_lines) × (length groups.now ≡ length counts.now) × (c ≡ total counts.now) }
-    ensures { result ≡ first_of ((20, over_lines groups.now) ∷ (21, over_points counts.now groups.now) ∷ []) }
+    ensures { found result ≡ first_of ((20, over_lines groups.now) ∷ (21, over_points counts.now groups.now) ∷ []) }
 {
     let second = second_share(counts, groups);
     if over(
@@ -56,10 +52,10 @@ pub fn share_refusal(counts: &[u32], groups: &[u32], c: u64) -> u64
         second.lines,
         MOST_DISTRICT_LINES as u64,
     ) {
-        return 20;
+        return Err(Refusal::DistrictOverLines);
     }
     if over(c, second.points, MOST_DISTRICT_POINTS as u64) {
-        return 21;
+        return Err(Refusal::DistrictOverCoordinates);
     }
-    0
+    Ok(())
 }

@@ -10,7 +10,7 @@ use lib.Dec.{eqb, leb}
 use lib.ListN.{length, get_or, drop}
 use borrow.Author.Tests.{leb-true}
 use Rattle.rules.specs.Lists.{count}
-use Rattle.rules.specs.Plane.{Point, points}
+use Rattle.rules.specs.Plane.{Point}
 use Rattle.rules.specs.Walking.{piece_of, walks}
 use Rattle.rules.specs.Chaining.{Line, Piece, Rule, nothing, plain, alone, pieces, piece_at, run, lay, merged, merge, join, partner}
 use Rattle.rules.specs.Layout.{lines}

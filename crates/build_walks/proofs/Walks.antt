@@ -9,7 +9,7 @@ use lib.Ieee.{Float}
 use lib.ListN.{length, get_or, drop, length-drop}
 use borrow.Rule.Slice.PartMut.{mid_of}
 use Rattle.rules.specs.declared.Settings.{Settings}
-use Rattle.rules.specs.declared.Grid.TheVariants.{Exact}
+use Rattle.rules.specs.Answers.{Exact}
 use Rattle.rules.specs.Plane.{points}
 use Rattle.rules.specs.Chaining.{Piece, Rule, rule_of}
 use Rattle.rules.specs.Layout.{Lines, lines_in}

@@ -1,7 +1,7 @@
 -- The walks of a call's lines in round one, in its part w of the workspace: what is asked of the lines, and what stands then.
 use Rattle.std.specs.Prelude.{ℕ, ◌*◌, ◌≤◌, ◌≡◌, Bool, false, List, eqb, length, drop}
 use Rattle.rules.specs.declared.Settings.{Settings}
-use Rattle.rules.specs.declared.Grid.TheVariants.{Exact}
+use Rattle.rules.specs.Answers.{Exact}
 use Rattle.rules.specs.Chaining.{rule_of}
 use Rattle.rules.specs.Layout.{Lines}
 use Rattle.rules.specs.Refusals.{most_lines}

@@ -1,11 +1,11 @@
 // The walks of a call's lines in round one, before anything is laid, and whether round two can join any of them.
 #![tactic(auto)]
 
-ghost use Rattle.rules.specs.Layout.{lent};
+ghost use Rattle.rules.specs.Lent.{lines_of};
 ghost use Rattle.build_walks.specs.Walking.{LinesWalkable, LinesWalked};
 
 use chain_meeting::MEETING;
-use rules::{Grid, Settings};
+use rules::{LentLines, Settings};
 
 // How many lines went in, how many walks there are, and whether cells leave them apart.
 #[derive(Clone, Copy)]
@@ -19,34 +19,40 @@ pub struct Walked {
 pub fn walk_lines(
     w: &mut [u64],
     n: usize,
-    coordinates: &[u64],
+    lines: &LentLines,
     width: usize,
-    counts: &[u32],
-    groups: &[u32],
-    kinds: &[u8],
     settings: Settings,
 ) -> Walked
-    requires { LinesWalkable width n (lent coordinates.now counts.now groups.now kinds.now) settings w.old }
-    ensures { LinesWalked width n (lent coordinates.now counts.now groups.now kinds.now) settings
+    requires { LinesWalkable width n (lines_of lines.now) settings w.old }
+    ensures { LinesWalked width n (lines_of lines.now) settings
         w.new result.lines result.number result.apart }
 {
-    let lines = build_lines::take_lines(w, n, counts, kinds);
+    let taken = build_lines::take_lines(w, n, lines.counts, lines.kinds);
     let number = chain_round::walk_round(
         w,
         n,
-        lines,
-        Grid::Exact,
+        taken,
+        None,
         settings,
         width,
-        groups,
-        coordinates,
-        coordinates,
+        lines.groups,
+        lines.coordinates,
+        lines.coordinates,
     );
-    chain_meeting::meet(w, n, lines, number, settings, width, groups, coordinates);
+    chain_meeting::meet(
+        w,
+        n,
+        taken,
+        number,
+        settings,
+        width,
+        lines.groups,
+        lines.coordinates,
+    );
     let at = n * MEETING;
     let apart = chain_apart::apart(&w[at..], number * 2, settings.switch == 1);
     Walked {
-        lines,
+        lines: taken,
         number,
         apart,
     }

@@ -19,23 +19,15 @@ fn along(dx: u64) -> Direction {
 
 // Whether that direction is (x, 0).
 fn toward(dx: u64, x: f64) -> bool {
-    let direction = along(dx);
-    match direction {
-        Direction::Absent => false,
-        Direction::Toward(a, b) => {
-            float_bits::bits_of(a) == float_bits::bits_of(x)
-                && float_bits::bits_of(b) == float_bits::bits_of(0.0)
-        }
-    }
+    along(dx).is_some_and(|(a, b)| {
+        float_bits::bits_of(a) == float_bits::bits_of(x)
+            && float_bits::bits_of(b) == float_bits::bits_of(0.0)
+    })
 }
 
 // Whether it is absent.
 fn absent(dx: u64) -> bool {
-    let direction = along(dx);
-    match direction {
-        Direction::Absent => true,
-        Direction::Toward(_, _) => false,
-    }
+    along(dx).is_none()
 }
 
 // Three lines from 0,0: to dx,0, to -1,0 and to 0,1. Whether the first two are joined, and the third is alone.

@@ -1,110 +1,27 @@
 // A call with rooms that hold 7 everywhere, and whether what it leaves is what is expected: the written part, 7 beyond it, and zeros where 01 asks for them.
-use rules::{Answer, LINE_ROOM, RECORD, Settings, Window};
+use rules::{LINE_ROOM, LentLines, RECORD, Refusal, Settings, Window};
 
-// Whether a begins with b and is 7 from there on.
-pub fn begins_u32(a: &[u32], b: &[u32]) -> bool {
-    let mut i = 0;
-    while i < a.len() {
-        let mut v = 7;
-        if i < b.len() {
-            v = b[i];
-        }
-        if a[i] != v {
-            return false;
-        }
-        i += 1;
-    }
-    true
-}
-
-fn begins_u8(a: &[u8], b: &[u8]) -> bool {
-    let mut i = 0;
-    while i < a.len() {
-        let mut v = 7;
-        if i < b.len() {
-            v = b[i];
-        }
-        if a[i] != v {
-            return false;
-        }
-        i += 1;
-    }
-    true
-}
-
-fn begins_u64(a: &[u64], b: &[u64]) -> bool {
-    let mut i = 0;
-    while i < a.len() {
-        let mut v = 7;
-        if i < b.len() {
-            v = b[i];
-        }
-        if a[i] != v {
-            return false;
-        }
-        i += 1;
-    }
-    true
+// Whether a begins with b and is `beyond` from there on.
+pub fn begins<T: Copy + PartialEq>(a: &[T], b: &[T], beyond: T) -> bool {
+    a.iter()
+        .enumerate()
+        .all(|(i, x)| *x == *b.get(i).unwrap_or(&beyond))
 }
 
 // Whether the first n of a are 0, and the others 7.
 pub fn cleared(a: &[u64], n: usize) -> bool {
-    let mut i = 0;
-    while i < a.len() {
-        let mut v = 7;
-        if i < n {
-            v = 0;
-        }
-        if a[i] != v {
-            return false;
-        }
-        i += 1;
-    }
-    true
-}
-
-// Whether a and b are the same numbers.
-fn same(a: &[u64], b: &[u64]) -> bool {
-    if a.len() != b.len() {
-        return false;
-    }
-    let mut i = 0;
-    while i < a.len() {
-        if a[i] != b[i] {
-            return false;
-        }
-        i += 1;
-    }
-    true
+    a.iter()
+        .enumerate()
+        .all(|(i, x)| *x == if i < n { 0 } else { 7 })
 }
 
 // The bits of sixteen numbers at most, and zeros after them.
 fn in_bits(numbers: &[f64]) -> [u64; 16] {
     let mut words = [0u64; 16];
-    let mut i = 0;
-    while i < 16 {
-        if i < numbers.len() {
-            words[i] = float_bits::bits_of(numbers[i]);
-        }
-        i += 1;
+    for (word, x) in words.iter_mut().zip(numbers) {
+        *word = float_bits::bits_of(*x);
     }
     words
-}
-
-// Whether the call is accepted with this result.
-pub fn accepted(answer: Answer, res: usize) -> bool {
-    match answer {
-        Answer::Accepted(n) => n == res as u64,
-        Answer::Refused(_) => false,
-    }
-}
-
-// Whether the call is refused with this number.
-fn refused(answer: Answer, number: u64) -> bool {
-    match answer {
-        Answer::Accepted(_) => false,
-        Answer::Refused(k) => k == number,
-    }
 }
 
 // Whether the table has this many chains, and their views are `laid`, one after another.
@@ -115,24 +32,18 @@ fn shows<'a>(
     chains: usize,
     laid: &[u64],
 ) -> bool {
-    let mut at = 0;
-    let mut k = 0;
-    while k < chains {
-        if !accepted(build_question::chain(2, input, merged, table, k), 0) {
+    let mut rest = laid;
+    for k in 0..chains {
+        if build_question::chain(2, input, merged, table, k) != Ok(0) {
             return false;
         }
-        let part = build_question::view(2, input, merged, table, k);
-        if laid.len() - at < part.len() {
+        let Some(after) = rest.strip_prefix(build_question::view(2, input, merged, table, k)) else {
             return false;
-        }
-        let end = at + part.len();
-        if !same(part, &laid[at..end]) {
-            return false;
-        }
-        at = end;
-        k += 1;
+        };
+        rest = after;
     }
-    at == laid.len() && refused(build_question::chain(2, input, merged, table, chains), 10)
+    rest.is_empty()
+        && build_question::chain(2, input, merged, table, chains) == Err(Refusal::NoSuchChain)
 }
 
 // The lines at tolerance 0 and with the switch at 0.
@@ -157,23 +68,6 @@ pub fn coarse() -> Settings {
     }
 }
 
-// Whether a room begins with the first k chains, ascending, and is 7 from there on.
-fn lists_all(room: &[u32; 4], k: usize) -> bool {
-    let names = [0u32, 1, 2, 3];
-    let mut i = 0;
-    while i < 4 {
-        let mut v = 7;
-        if i < k {
-            v = names[i];
-        }
-        if room[i] != v {
-            return false;
-        }
-        i += 1;
-    }
-    true
-}
-
 // Whether all of the k chains lie in a window around every case.
 fn found(boxes: &[u64], k: usize) -> bool {
     let mut room = [7u32; 4];
@@ -184,7 +78,7 @@ fn found(boxes: &[u64], k: usize) -> bool {
         greatest_y: 8.0,
     };
     let answer = box_window::chains_in(boxes, k, around, &mut room);
-    accepted(answer, k) && lists_all(&room, k)
+    k <= 4 && answer == Ok(k as u64) && begins(&room, &[0, 1, 2, 3][..k], 7)
 }
 
 // Whether building gives these records, members, marks and listing, of three plain lines at most. The chains' coordinates, one after another, are `laid`; the
@@ -208,6 +102,7 @@ fn leaves(
     if laid.len() < copied {
         return false;
     }
+    let copies = &laid[..copied];
     let chains = records.len() / RECORD;
     let kinds = [0u8; 3];
     let mut table_room = [7u32; 20];
@@ -220,10 +115,12 @@ fn leaves(
     let mut workspace = [7u64; 580];
     let answer = build_chains::build(
         2,
-        coordinates,
-        counts,
-        groups,
-        &kinds[..n],
+        &LentLines {
+            coordinates,
+            counts,
+            groups,
+            kinds: &kinds[..n],
+        },
         settings,
         &mut table_room,
         &mut members_room,
@@ -234,12 +131,12 @@ fn leaves(
         &mut spare,
         &mut workspace,
     );
-    accepted(answer, chains)
-        && begins_u32(&table_room, records)
-        && begins_u32(&members_room, members)
-        && begins_u8(&marks_room, marks)
-        && begins_u32(&listing_room, listing)
-        && begins_u64(&merged_room, &laid[..copied])
+    answer == Ok(chains as u64)
+        && begins(&table_room, records, 7)
+        && begins(&members_room, members, 7)
+        && begins(&marks_room, marks, 7)
+        && begins(&listing_room, listing, 7)
+        && begins(&merged_room, copies, 7)
         && cleared(&spare, coordinates.len())
         && cleared(&workspace, n * LINE_ROOM)
         && shows(coordinates, &merged_room, &table_room, chains, laid)

@@ -12,17 +12,15 @@ fn meets(v: &[u64], m: usize, e: usize, on: bool) -> bool
     requires { GroupingRoom v.now m × Nodes v.now v.now m × (e < m) }
     ensures { result ≡ meets_at on v.now m e }
 {
-    if (v[m * LAST + e] as usize) < e {
-        return false;
-    }
     let f = v[m * NEXT + e] as usize;
-    if f == 0 {
+    if (v[m * LAST + e] as usize) < e || f == 0 {
         return false;
     }
     if v[m * NEXT + f] == 0 {
-        return e / 2 != f / 2;
+        e / 2 != f / 2
+    } else {
+        on
     }
-    on
 }
 
 // Whether no node of m ends, which are grouped in v, can join any.
@@ -30,12 +28,5 @@ pub fn apart(v: &[u64], m: usize, on: bool) -> bool
     requires { GroupingRoom v.now m × Nodes v.now v.now m }
     ensures { result ≡ apart_to on v.now m m }
 {
-    let mut e = 0;
-    while e < m {
-        if meets(v, m, e, on) {
-            return false;
-        }
-        e += 1;
-    }
-    true
+    !(0..m).any(|e| meets(v, m, e, on))
 }

@@ -10,7 +10,7 @@ use native.Mathlib.Nat.{add-zero, zero-add}
 use lib.Ieee.{lt}
 use lib.ListN.{length, take}
 use Rattle.rules.specs.declared.Settings.{Settings}
-use Rattle.rules.specs.declared.Grid.TheVariants.{Exact}
+use Rattle.rules.specs.Answers.{Exact}
 use Rattle.rules.specs.Lists.{count, keep}
 use Rattle.rules.specs.Districts.{is_of}
 use Rattle.rules.specs.Plane.{nought}

@@ -9,11 +9,12 @@ use mathlib.Core.Option.{Option, none, some}
 use lib.Dec.{eqb, leb}
 use lib.Ieee.{Float, lt}
 use lib.ListN.{length, get_or, length-map, get_or-map}
-use Rattle.rules.specs.declared.Direction.{Direction}
-use Rattle.rules.specs.declared.Direction.TheVariants.{Absent}
+use Rattle.std.specs.Prelude.{Some}
+use Rattle.rules.specs.Answers.{Direction}
+use Rattle.rules.specs.Answers.{Absent}
 use Rattle.rules.specs.declared.Settings.{Settings}
-use Rattle.rules.specs.declared.Grid.{Grid}
-use Rattle.rules.specs.declared.Grid.TheVariants.{Exact, Cells}
+use Rattle.rules.specs.Answers.{Grid}
+use Rattle.rules.specs.Answers.{Exact, Cells}
 use Rattle.rules.specs.Lists.{keep, first, upto}
 use Rattle.rules.specs.Plane.{Point, point, equal, same_key, exact_key, cell_key, key_of, straight, direction_of, nought}
 use Rattle.rules.specs.Selecting.{End, Pair, select}
@@ -35,7 +36,7 @@ map_turned f (a ∷ l) r = map_turned f l (a ∷ r)
 pub key_bare : (grid : Grid) (g : ℕ) (p : Point) → key_of grid g (bare p) ≡ key_of grid g p
 unfolding key_of exact_key cell_key
 key_bare Exact g p = refl
-key_bare (Cells t ox oy) g p = refl
+key_bare (Some m) g p = refl
 
 first_bare : (p : Point) (l : List Point) → first (λ q. not (equal q (bare p))) (map bare l) ≡ bare_of (first (λ q. not (equal q p)) l)
 unfolding first equal

@@ -10,7 +10,7 @@ use lib.Dec.{eqb}
 use lib.Ieee.{lt}
 use lib.ListN.{length, get_or}
 use Rattle.rules.specs.declared.Settings.{Settings}
-use Rattle.rules.specs.declared.Grid.TheVariants.{Exact}
+use Rattle.rules.specs.Answers.{Exact}
 use Rattle.rules.specs.Lists.{count}
 use Rattle.rules.specs.Plane.{Point, point, equal, nought}
 use Rattle.rules.specs.Walking.{piece_of, side_of, walks}

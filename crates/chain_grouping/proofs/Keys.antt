@@ -1,15 +1,12 @@
 -- The words of keys told apart, and the bucket of a key.
-use Prim.Native.Nat.{ℕ, ◌+◌, ◌*◌, ◌/◌, ◌≤◌, ◌<◌}
+use Prim.Native.Nat.{ℕ, ◌*◌, ◌/◌, ◌<◌}
 use mathlib.Core.Path.{◌≡◌, refl, sym, ap, ◌∙◌}
 use mathlib.Core.Bool.{Bool, true, false, ◌&&◌, and-eq-true_iff}
-use mathlib.Core.List.{List}
 use native.Mathlib.Omega.{arith}
-use native.Mathlib.Nat.{div-lt_iff_lt-mul, mul-lt-mul_of_pos_right, mul-le-mul_right}
+use native.Mathlib.Nat.{div-lt_iff_lt-mul, mul-lt-mul_of_pos_right}
 use lib.Dec.{eqb}
-use lib.ListN.{get_or}
-use borrow.Author.Tests.{eqb-true, eq-eqb, ne_eqb}
-use Rattle.chain_grouping.specs.Group.{Words, words, same_words, words_at}
-use Rattle.chain_grouping.specs.Map.{key_size}
+use borrow.Author.Tests.{eqb-true, eq-eqb}
+use Rattle.chain_grouping.specs.Group.{Words, words, same_words}
 
 pub same_true : (a b : Words) → same_words a b ≡ true → a ≡ b
 unfolding same_words
@@ -35,29 +32,6 @@ other_false a b h = go (same_words a b) refl
     go true q = absurd (h (same_true a b q))
     go false q = refl
 
--- the three tests of the code
-module _ (w : List ℕ) (keys e f : ℕ) where
-  pub first_apart : (get_or w (keys + e * key_size) 0 ≡ get_or w (keys + f * key_size) 0 → ⊥) → false ≡ same_words (words_at w keys e) (words_at w keys f)
-  unfolding words_at same_words
-  first_apart h = rw (ne_eqb (get_or w (keys + e * key_size) 0) (get_or w (keys + f * key_size) 0) h)
-
-  pub second_apart : get_or w (keys + e * key_size) 0 ≡ get_or w (keys + f * key_size) 0
-      → (get_or w (keys + e * key_size + 1) 0 ≡ get_or w (keys + f * key_size + 1) 0 → ⊥)
-      → false ≡ same_words (words_at w keys e) (words_at w keys f)
-  unfolding words_at same_words
-  second_apart h i =
-      rw (eq-eqb (get_or w (keys + e * key_size) 0) (get_or w (keys + f * key_size) 0) h, ne_eqb (get_or w (keys + e * key_size + 1) 0) (get_or w (keys + f * key_size + 1) 0) i)
-
-  pub third : get_or w (keys + e * key_size) 0 ≡ get_or w (keys + f * key_size) 0
-      → get_or w (keys + e * key_size + 1) 0 ≡ get_or w (keys + f * key_size + 1) 0
-      → eqb (get_or w (keys + e * key_size + 2) 0) (get_or w (keys + f * key_size + 2) 0) ≡ same_words (words_at w keys e) (words_at w keys f)
-  unfolding words_at same_words
-  third h i =
-      rw (eq-eqb (get_or w (keys + e * key_size) 0) (get_or w (keys + f * key_size) 0) h, eq-eqb (get_or w (keys + e * key_size + 1) 0) (get_or w (keys + f * key_size + 1) 0) i)
-
 -- a part of k
 pub part_below : (t k : ℕ) → t < 4294967296 → 0 < k → t * k / 4294967296 < k
 part_below t k h p = (div-lt_iff_lt-mul {k = 4294967296} (omega arith)).1 (omega (arith, mul-lt-mul_of_pos_right h p))
-
-pub part_small : (t k : ℕ) → t < 4294967296 → t * k ≤ 4294967295 * k
-part_small t k h = let l : t ≤ 4294967295 = omega arith in mul-le-mul_right k l

@@ -1,14 +1,18 @@
 -- Ends grouped by key without a sort. A workspace holds for m ends, from 0 on: the heads of m buckets, then for each end a word of chain, one of next and
 -- one of last, and then the three words of its key.
-use Rattle.std.specs.Prelude.{ℕ, zero, suc, ◌+◌, ◌*◌, ◌/◌, ◌%◌, ◌≤◌, ◌<◌, ◌≡◌, Bool, true, false, ◌&&◌, List, [], ◌∷◌, eqb, length, get_or}
+use Rattle.std.specs.Prelude.{ℕ, zero, suc, ◌+◌, ◌*◌, ◌/◌, ◌%◌, ◌≤◌, ◌<◌, ◌≡◌, Bool, true, false, ◌&&◌, Option, Some, None, List, [], ◌∷◌, eqb, length, get_or}
 use Rattle.rules.specs.Lists.{keep, upto}
 use Rattle.rules.specs.Refusals.{most_ends}
+use Rattle.chain_grouping.specs.declared.KeyWords.{KeyWords}
 use Rattle.chain_grouping.specs.Map.{group_room, key_block, key_size, last_block, next_block}
 
 -- ---- the words of a key
 
 pub data Words : Type 0 where
   words : ℕ → ℕ → ℕ → Words
+
+abbrev pub key_words : KeyWords → Words
+key_words k = words k.group k.x k.y
 
 unfoldable pub same_words : Words → Words → Bool
 same_words (words g x y) (words h u v) = eqb g h && (eqb x u && eqb y v)
@@ -69,10 +73,15 @@ pub record EndPlaced (w' w : List ℕ) (m i : ℕ) : Type 0 where
   pub grouped : GroupedIn w w' m i
   pub kept : (j : ℕ) → m * key_block ≤ j → get_or w' j 0 ≡ get_or w j 0
 
--- what the search for a leader of end e's key answers: 1 more than the leader, or 0
-pub record Found (w : List ℕ) (m e r : ℕ) : Type 0 where
-  pub there : (g : ℕ) → r ≡ suc g → (g < e) × (g ≤ get_or w (m * last_block + g) 0) × (words_of w m g ≡ words_of w m e)
-  pub nowhere : r ≡ 0 → (f : ℕ) → f < e → f ≤ get_or w (m * last_block + f) 0 → words_of w m f ≡ words_of w m e → ⊥
+-- the word that names a leader: 1 more than it, or 0 for none
+abbrev pub word_of : Option ℕ → ℕ
+word_of None = 0
+word_of (Some g) = suc g
+
+-- what the search for a leader of end e's key answers
+pub record Found (w : List ℕ) (m e : ℕ) (r : Option ℕ) : Type 0 where
+  pub there : (g : ℕ) → r ≡ Some g → (g < e) × (g ≤ get_or w (m * last_block + g) 0) × (words_of w m g ≡ words_of w m e)
+  pub nowhere : r ≡ None → (f : ℕ) → f < e → f ≤ get_or w (m * last_block + f) 0 → words_of w m f ≡ words_of w m e → ⊥
 
 -- What grouping is for: each leader is the least end of its key, and the list behind it is its node. Where `last e` is below e it is the leader of e.
 pub record Nodes (w' w : List ℕ) (m : ℕ) : Type 0 where

@@ -1,9 +1,10 @@
 // Ends grouped by key without a sort: buckets of leaders, and behind each leader the list of its key's ends.
 #![tactic(auto)]
 
-ghost use Rattle.std.specs.Prelude.{◌≡◌, ◌+◌, ◌*◌, ◌≤◌, ◌<◌, length, get_or, set};
+ghost use Rattle.std.specs.Prelude.{◌≡◌, ◌+◌, ◌*◌, ◌≤◌, ◌<◌, length, get_or, set, IfSome};
+ghost use Rattle.std.specs.Option.{unwrap_or};
 ghost use Rattle.rules.specs.Refusals.{most_ends};
-ghost use Rattle.chain_grouping.specs.Group.{words, same_words, words_at, words_of, half, bucket_of, GroupingRoom, GroupedIn, EndPlaced, Found, Nodes};
+ghost use Rattle.chain_grouping.specs.Group.{key_words, word_of, words_at, words_of, half, bucket_of, GroupingRoom, GroupedIn, EndPlaced, Found, Nodes};
 ghost use Rattle.chain_grouping.specs.Map.{key_size, last_block, next_block};
 
 // Where the blocks of the part in which ends are grouped begin, in words for each end. The heads of the buckets stand first, then a word of chain.
@@ -16,6 +17,14 @@ pub const KEYS: usize = 4;
 // The words of an end's key.
 pub const KEY: usize = 3;
 
+// The end that a word of the block of next ends names, if it names one: 0 says that there is none.
+pub fn next_end(word: u64) -> Option<usize>
+    ensures is { unwrap_or result 0 ≡ word }
+    ensures some { IfSome result (λ e. 0 < e) }
+{
+    (word != 0).then_some(word as usize)
+}
+
 // The two halves of a word, added, without what is carried.
 fn halved(t: u64) -> u64
     ensures { result ≡ half t }
@@ -23,48 +32,61 @@ fn halved(t: u64) -> u64
     (t / 4294967296 + t % 4294967296) % 4294967296
 }
 
+// The words of an end's key: its group, and a word for each number of its coordinate.
+#[derive(Clone, Copy, PartialEq, Eq)]
+struct KeyWords {
+    group: u64,
+    x: u64,
+    y: u64,
+}
+
 // The bucket of a key, one of m.
-fn bucket(g: u64, x: u64, y: u64, m: usize) -> usize
+fn bucket(key: KeyWords, m: usize) -> usize
     requires { (0 < m) × (m ≤ most_ends) }
-    ensures { (result ≡ bucket_of m (words g x y)) × (result < m) }
+    ensures { (result ≡ bucket_of m (key_words key)) × (result < m) }
 {
-    let a = halved(x);
-    let b = halved(y);
-    let c = halved(g);
+    let a = halved(key.x);
+    let b = halved(key.y);
+    let c = halved(key.group);
     let t = halved(a * 739982445 + b * 1013904223 + c * 668265263);
     (t as usize) * m / 4294967296
 }
 
-// Whether ends e and f have one key.
-fn same_key(w: &[u64], keys: usize, e: usize, f: usize) -> bool
-    requires { (keys + e * key_size + 2 < length w.now) × (keys + f * key_size + 2 < length w.now) }
-    ensures { result ≡ same_words (words_at w.now keys e) (words_at w.now keys f) }
+// The key of end e, where all ends' keys stand from `keys` on.
+#[tactic(auto, unfolding(crate::specs::Group::words_at))]
+fn key_at(w: &[u64], keys: usize, e: usize) -> KeyWords
+    requires { keys + e * key_size + 2 < length w.now }
+    ensures { key_words result ≡ words_at w.now keys e }
 {
     let p = keys + e * KEY;
-    let q = keys + f * KEY;
-    if w[p] != w[q] {
-        return false;
+    KeyWords {
+        group: w[p],
+        x: w[p + 1],
+        y: w[p + 2],
     }
-    if w[p + 1] != w[q + 1] {
-        return false;
-    }
-    w[p + 2] == w[q + 2]
 }
 
-// One more than the leader of end e's key among the ends before e, or 0.
-fn find(w: &[u64], m: usize, e: usize, b: usize) -> usize
-    requires { GroupingRoom w.now m × (e < m) × (b < m) × (b ≡ bucket_of m (words_of w.now m e)) × GroupedIn w.now w.now m e }
+// The leader that a word names, which is one more than the leader, or 0 for none.
+fn named(word: u64) -> Option<usize>
+    ensures { word_of result ≡ word }
+{
+    (word as usize).checked_sub(1)
+}
+
+// The leader of a key among the ends before e: it stands in the bucket b.
+fn find(w: &[u64], m: usize, e: usize, key: KeyWords, b: usize) -> Option<usize>
+    requires { GroupingRoom w.now m × (e < m) × (b < m) × (key_words key ≡ words_of w.now m e) × (b ≡ bucket_of m (words_of w.now m e))
+        × GroupedIn w.now w.now m e }
     ensures { Found w.now m e result }
 {
-    let mut c = w[b] as usize;
-    while 0 < c {
-        let g = c - 1;
-        if same_key(w, m * KEYS, g, e) {
-            return c;
+    let mut leader = named(w[b]);
+    while let Some(f) = leader {
+        if key_at(w, m * KEYS, f) == key {
+            return Some(f);
         }
-        c = w[m + g] as usize;
+        leader = named(w[m + f]);
     }
-    0
+    None
 }
 
 // End e behind the last end of the leader f.
@@ -98,13 +120,11 @@ fn place(w: &mut [u64], m: usize, e: usize)
     requires { GroupingRoom w.old m × (e < m) × GroupedIn w.old w.old m e }
     ensures { EndPlaced w.new w.old m (e + 1) }
 {
-    let p = m * KEYS + e * KEY;
-    let b = bucket(w[p], w[p + 1], w[p + 2], m);
-    let f = find(w, m, e, b);
-    if 0 < f {
-        append(w, m, e, f - 1);
-    } else {
-        lead(w, m, e, b);
+    let key = key_at(w, m * KEYS, e);
+    let b = bucket(key, m);
+    match find(w, m, e, key, b) {
+        Some(f) => append(w, m, e, f),
+        None => lead(w, m, e, b),
     }
 }
 
@@ -114,9 +134,7 @@ pub fn group(w: &mut [u64], m: usize)
     ensures { Nodes w.new w.old m }
 {
     point_slices::clear(w, m);
-    let mut e = 0;
-    while e < m {
+    for e in 0..m {
         place(w, m, e);
-        e += 1;
     }
 }

@@ -15,17 +15,14 @@ pub fn list_node(w: &mut [u64], list: usize, at: usize, m: usize, e: usize) -> u
     ensures { HoldsFrom w.new w.old list result (node_of (drop at w.old) m e) }
 {
     let mut f = e;
-    let mut d: usize = 0;
-    while d < m {
+    for d in 0..m {
         w[list + d] = f as u64;
-        d += 1;
-        let g = w[at + m * NEXT + f] as usize;
-        if g == 0 {
-            return d;
-        }
-        f = g;
+        let Some(next) = chain_grouping::next_end(w[at + m * NEXT + f]) else {
+            return d + 1;
+        };
+        f = next;
     }
-    d
+    m
 }
 
 // The ends a and b joined, in the table of m ends from `joins` on.
@@ -51,13 +48,11 @@ pub fn put_joins(
     ensures { HoldsFrom w.new w.old joins m
         (fill (slice joins (joins + m) w.old) (named_pairs w.old list pairs r)) }
 {
-    let mut k: usize = 0;
-    while k < r {
+    for k in 0..r {
         let i = w[pairs + k * 2] as usize;
         let j = w[pairs + k * 2 + 1] as usize;
         let a = w[list + i] as usize;
         let b = w[list + j] as usize;
         put_join(w, joins, m, a, b);
-        k += 1;
     }
 }

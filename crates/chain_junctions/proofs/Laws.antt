@@ -1,6 +1,6 @@
 -- One end put into a pairing's part, and one end more of a list.
 use Prim.Native.Nat.{ℕ, ◌+◌, ◌-◌, ◌*◌, ◌/◌, ◌%◌, ◌≤◌, ◌<◌}
-use mathlib.Core.Path.{◌≡◌, refl, sym, ap, ap₂, subst, ◌∙◌}
+use mathlib.Core.Path.{◌≡◌, sym, ap, ap₂, subst, ◌∙◌}
 use mathlib.Core.Logic.{◌≢◌}
 use mathlib.Core.List.{List}
 use native.Mathlib.Omega.{arith}
@@ -9,8 +9,8 @@ use lib.Ieee.{Float}
 use lib.ListN.{length, get_or, set, take, drop, length-set, length-append, length-drop, get_or-append}
 use lib.Seq.{get_or-set_same, get_or-set_other, length-take-le, drop_at, get_or-take, get_or-drop}
 use borrow.Rule.Slice.PartMut.{mid_of, put_mid}
-use Rattle.rules.specs.declared.Direction.{Direction}
-use Rattle.rules.specs.declared.Direction.TheVariants.{Absent, Toward}
+use Rattle.rules.specs.Answers.{Direction}
+use Rattle.rules.specs.Answers.{Absent, Toward}
 use Rattle.rules.specs.Plane.{float, points, direction_of}
 use Rattle.rules.specs.Layout.{given}
 use Rattle.rules.specs.Refusals.{piece_size, source_of}
@@ -20,7 +20,7 @@ use Rattle.point_slices.proofs.Laws.{mid_rest, put_rest}
 use Rattle.pair_ends.specs.Ends.{direction_at, piece_at, EndsRoom}
 use Rattle.pair_ends.proofs.Reading.{direction_toward, direction_absent}
 use Rattle.chain_grouping.proofs.Space.{four, four_other, four_a, four_b, four_c, four_d}
-use Rattle.chain_junctions.specs.Junction.{way_at, EndPut, JunctionEnds, EndsPut}
+use Rattle.chain_junctions.specs.Junction.{way_at, EndPut, JunctionEnds}
 use Rattle.pair_ends.specs.Blocks.{pairs_from, pieces_from}
 
 -- ---- one end
@@ -136,16 +136,6 @@ module _ (width records list part d : ℕ) (input spare : List ℕ) where
     pub front : Same w w₀ part
     pub beyond : (j : ℕ) → part + d * pairs_from ≤ j → get_or w j 0 ≡ get_or w₀ j 0
 
-  pub ending_start : (w : List ℕ) → Ending w w 0
-  ending_start w =
-      record {
-        size = refl;
-        direction = λ k h. absurd (omega arith);
-        number = λ k h. absurd (omega arith);
-        front = λ j h. refl;
-        beyond = λ j h. refl;
-      }
-
   module _ (w w₀ : List ℕ) (i : ℕ) (G : Ending w w₀ i) (J : JunctionEnds width w₀ records list part d input spare) (h : i < d) where
     pub end_here : get_or w (list + i) 0 ≡ get_or w₀ (list + i) 0
     end_here = let l = J.listed in G.front (list + i) (omega arith)
@@ -154,23 +144,12 @@ module _ (width records list part d : ℕ) (input spare : List ℕ) where
     place_here : record_of records (get_or w (list + i) 0 / 2) ≡ record_of records (get_or w₀ (list + i) 0 / 2)
     place_here = ap (λ (e : ℕ). record_of records (e / 2)) end_here
 
-    pub ending_recorded : Recorded width w (record_of records (get_or w (list + i) 0 / 2)) input spare
-    ending_recorded =
-        subst (λ (p : ℕ). Recorded width w p input spare) (sym place_here)
-        (recorded_same width w w₀ part (record_of records (get_or w₀ (list + i) 0 / 2)) input spare G.front (J.below i h) G.size (J.recorded i h))
-
     way_here : way_at width w records input spare (get_or w (list + i) 0) ≡ way_at width w₀ records input spare (get_or w₀ (list + i) 0)
     unfolding way_at
     way_here =
         ap (way_at width w records input spare) end_here
         ∙ ap (λ (l : List ℕ). direction_of (seen (get_or w₀ (list + i) 0 % 2) (points width l)))
         (coordinates_same width w w₀ part (record_of records (get_or w₀ (list + i) 0 / 2)) input spare G.front (J.below i h))
-
-    pub ending_room : EndsRoom (mid_of part (length w - part) w) d
-    ending_room =
-        let r = J.room in
-        let z = G.size in
-        record { few = J.few; long = rw (mid_rest w part, length-drop part w) (omega arith) }
 
     pub ending_step : (sub : List ℕ) (way : Direction) (piece : ℕ)
         → EndPut sub (mid_of part (length w - part) w) d i way piece
@@ -213,12 +192,3 @@ module _ (width records list part d : ℕ) (input spare : List ℕ) where
               ∙ ap (λ (x : ℕ). get_or w x 0) p
               ∙ G.beyond j b;
         }
-
-  pub ending_done : {w w₀ : List ℕ} {i : ℕ} → Ending w w₀ i → d ≤ i → EndsPut width w w₀ records list part d input spare
-  ending_done G h =
-      record {
-        direction = λ k b. G.direction k (omega arith);
-        number = λ k b. G.number k (omega arith);
-        front = G.front;
-        beyond = G.beyond;
-      }

@@ -1,6 +1,6 @@
 -- The ends of a junction in the workspace: their numbers stand in a list, their pieces' records elsewhere, and a pairing's part takes their directions and pieces.
 use Rattle.std.specs.Prelude.{ℕ, ◌+◌, ◌*◌, ◌/◌, ◌%◌, ◌≤◌, ◌<◌, ◌≡◌, ◌≢◌, List, length, get_or, drop}
-use Rattle.rules.specs.declared.Direction.{Direction}
+use Rattle.rules.specs.Answers.{Direction}
 use Rattle.rules.specs.Plane.{points, direction_of}
 use Rattle.rules.specs.Refusals.{most_ends, end_room, piece_size}
 use Rattle.point_direction.specs.Seen.{seen}

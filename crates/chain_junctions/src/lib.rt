@@ -9,7 +9,7 @@ ghost use Rattle.pair_ends.specs.Ends.{EndsRoom};
 ghost use Rattle.chain_junctions.specs.Junction.{EndPut, JunctionEnds, EndsPut};
 
 use pair_ends::PIECES;
-use rules::Direction;
+use rules::{Direction, PIECE};
 
 // The direction at a side of the piece whose record stands at p.
 fn side_direction<'a>(
@@ -33,13 +33,14 @@ fn put_end(w: &mut [u64], d: usize, i: usize, direction: Direction, piece: u64)
     ensures { EndPut w.new w.old d i direction piece }
 {
     w[d * PIECES + i] = piece;
-    let Direction::Toward(x, y) = direction else {
-        w[i] = 0;
-        return;
-    };
-    w[d + i * 2] = float_bits::bits_of(x);
-    w[d + i * 2 + 1] = float_bits::bits_of(y);
-    w[i] = 1;
+    match direction {
+        Some((x, y)) => {
+            w[d + i * 2] = float_bits::bits_of(x);
+            w[d + i * 2 + 1] = float_bits::bits_of(y);
+            w[i] = 1;
+        }
+        None => w[i] = 0,
+    }
 }
 
 // The d ends whose numbers stand from `list` on, as those of a pairing from `part` on.
@@ -56,11 +57,10 @@ pub fn put_ends<'a>(
     requires { JunctionEnds width w.old records list part d input.now spare.now }
     ensures { EndsPut width w.new w.old records list part d input.now spare.now }
 {
-    let mut i = 0;
-    while i < d {
+    for i in 0..d {
         let e = w[list + i];
-        let direction = side_direction(w, records + e as usize / 2 * 5, width, e % 2, input, spare);
+        let p = records + e as usize / 2 * PIECE;
+        let direction = side_direction(w, p, width, e % 2, input, spare);
         put_end(&mut w[part..], d, i, direction, e / 2);
-        i += 1;
     }
 }

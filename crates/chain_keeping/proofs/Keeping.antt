@@ -6,7 +6,7 @@ use mathlib.Core.Option.{none}
 use native.Mathlib.Omega.{arith}
 use lib.ListN.{length, get_or}
 use lib.Seq.{slice}
-use Rattle.rules.specs.declared.Grid.TheVariants.{Exact}
+use Rattle.rules.specs.Answers.{Exact}
 use Rattle.rules.specs.Chaining.{Piece, Rule, merge}
 use Rattle.chain_pieces.specs.Held.{Held}
 use Rattle.chain_pieces.specs.Map.{join_block, taken_block}

@@ -12,10 +12,8 @@ fn walk_each(w: &mut [u64], at: usize, m: usize)
     requires { at + m + m ≤ length w.old }
     ensures { EachWalked w.new w.old at m }
 {
-    let mut q: usize = 0;
-    while q < m {
+    for q in 0..m {
         w[at + q] = (q * 2) as u64;
-        q += 1;
     }
     point_slices::fill_from(w, at + m, m, 1);
 }

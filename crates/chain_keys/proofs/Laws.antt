@@ -6,36 +6,21 @@ use mathlib.Core.Bool.{cond}
 use mathlib.Core.List.{List}
 use native.Mathlib.Omega.{arith}
 use native.Mathlib.Decide.{ℕ_discrete}
-use borrow.Author.Tests.{eq-eqb, ne_eqb}
 use lib.Dec.{eqb}
 use native.Mathlib.Nat.{mul-le-mul_right, one-mul}
 use lib.ListN.{length, get_or, take, drop, set, length-set}
 use lib.Seq.{get_or-set_same, get_or-set_other}
-use Rattle.rules.specs.declared.Grid.{Grid}
-use Rattle.rules.specs.declared.Grid.TheVariants.{Exact}
+use Rattle.rules.specs.Answers.{Grid}
 use Rattle.rules.specs.Refusals.{source_of}
 use Rattle.chain_pieces.specs.Held.{record_of, coordinates_at}
 use Rattle.chain_pieces.proofs.Source.{recorded_length}
 use Rattle.chain_grouping.specs.Group.{words, words_at}
-use Rattle.chain_keys.specs.Keys.{group_at, number_at, word_of, words_for, keyed_at, keyed, both_keyed, PiecePlaced, Grouping, Keyable, Keyed}
+use Rattle.chain_keys.specs.Keys.{group_at, number_at, word_of, words_for, keyed_at, keyed, both_keyed, PiecePlaced, Grouping, Keyable}
 use Rattle.chain_grouping.specs.Map.{key_size}
 use Rattle.chain_keys.specs.Map.{both_keys}
 
--- ---- a number of a record
-
-module _ (width : ℕ) (w : List ℕ) (p side axis : ℕ) (input spare : List ℕ) where
-  abbrev there : List ℕ
-  there = coordinates_at width w p input spare
-
-  pub number_first : side ≡ 0 → get_or (coordinates_at width w p input spare) axis 0 ≡ number_at width w p side axis input spare
-  unfolding number_at
-  number_first e = let z : axis ≡ 0 + axis = omega arith in rw (eq-eqb side 0 e) (ap (λ (i : ℕ). get_or there i 0) z)
-
-  pub number_last : (side ≡ 0 → ⊥) → get_or (coordinates_at width w p input spare) (length (coordinates_at width w p input spare) - width + axis) 0 ≡ number_at width w p side axis input spare
-  unfolding number_at
-  number_last e = rw (ne_eqb side 0 e)
-
-  -- there is a point
+-- a piece has a point
+module _ (width : ℕ) (w : List ℕ) (p : ℕ) (input spare : List ℕ) where
   pub number_long : PiecePlaced width w p input spare → width ≤ length (coordinates_at width w p input spare)
   number_long P = omega (arith, recorded_length width w p input spare P.recorded, mul-le-mul_right width P.long, one-mul width)
 
@@ -185,51 +170,46 @@ module _ (width records members keys count : ℕ) (groups input spare : List ℕ
     pub keying_step : (w' : List ℕ) → w' ≡ keyed_at width w (record_of records (of e / 2)) (of e % 2) members (keys + e * key_size) groups input spare grid → Keying w' w₀ (e + 1)
     keying_step w' q = subst (λ (v : List ℕ). Keying v w₀ (e + 1)) (sym q) step
 
--- each end at its own place
+-- ---- both ends of a piece
+
 module _ (width records members keys count : ℕ) (groups input spare : List ℕ) (grid : Grid) where
-  pub keying_done : {w w₀ : List ℕ} {e : ℕ} → Keying width records members keys count groups input spare grid (λ f. f) w w₀ e → count * 2 ≤ e → Keyed width w w₀ records members keys count groups input spare grid
-  keying_done K h = record { each = λ f l. K.each f (omega arith); kept = K.kept }
-
--- ---- both ends of a piece, by their bits
-
-module _ (width records members keys count : ℕ) (groups input spare : List ℕ) where
-  -- the exact key of end e is three stores
+  -- the key of end e is three stores
   first_keyed : (w : List ℕ) (q : ℕ)
-      → three w (keys + q * both_keys) (group_at w (record_of records q) members groups) (number_at width w (record_of records q) 0 0 input spare) (number_at width w (record_of records q) 0 1 input spare)
-      ≡ keyed width w records members keys (q * 2) groups input spare Exact
+      → three w (keys + q * both_keys) (group_at w (record_of records q) members groups) (word_of grid 0 (number_at width w (record_of records q) 0 0 input spare)) (word_of grid 1 (number_at width w (record_of records q) 0 1 input spare))
+      ≡ keyed width w records members keys (q * 2) groups input spare grid
   unfolding keyed_at word_of
   first_keyed w q =
       let a : keys + q * both_keys ≡ keys + q * 2 * 3 = omega arith in
       let p : q ≡ q * 2 / 2 = omega arith in
       let s : 0 ≡ q * 2 % 2 = omega arith in
-      λ i. three w (a i) (group_at w (record_of records (p i)) members groups) (number_at width w (record_of records (p i)) (s i) 0 input spare) (number_at width w (record_of records (p i)) (s i) 1 input spare)
+      λ i. three w (a i) (group_at w (record_of records (p i)) members groups) (word_of grid 0 (number_at width w (record_of records (p i)) (s i) 0 input spare)) (word_of grid 1 (number_at width w (record_of records (p i)) (s i) 1 input spare))
 
   second_keyed : (w : List ℕ) (q : ℕ)
-      → three w (keys + q * both_keys + 3) (group_at w (record_of records q) members groups) (number_at width w (record_of records q) 1 0 input spare) (number_at width w (record_of records q) 1 1 input spare)
-      ≡ keyed width w records members keys (q * 2 + 1) groups input spare Exact
+      → three w (keys + q * both_keys + 3) (group_at w (record_of records q) members groups) (word_of grid 0 (number_at width w (record_of records q) 1 0 input spare)) (word_of grid 1 (number_at width w (record_of records q) 1 1 input spare))
+      ≡ keyed width w records members keys (q * 2 + 1) groups input spare grid
   unfolding keyed_at word_of
   second_keyed w q =
       let a : keys + q * both_keys + 3 ≡ keys + (q * 2 + 1) * 3 = omega arith in
       let p : q ≡ (q * 2 + 1) / 2 = omega arith in
       let s : 1 ≡ (q * 2 + 1) % 2 = omega arith in
-      λ i. three w (a i) (group_at w (record_of records (p i)) members groups) (number_at width w (record_of records (p i)) (s i) 0 input spare) (number_at width w (record_of records (p i)) (s i) 1 input spare)
+      λ i. three w (a i) (group_at w (record_of records (p i)) members groups) (word_of grid 0 (number_at width w (record_of records (p i)) (s i) 0 input spare)) (word_of grid 1 (number_at width w (record_of records (p i)) (s i) 1 input spare))
 
-  module _ (w w₀ : List ℕ) (q : ℕ) (K : Keying width records members keys count groups input spare Exact (λ f. f) w w₀ (q * 2)) (Y : Keyable width w₀ records members keys count groups input spare) (h : q < count) where
+  module _ (w w₀ : List ℕ) (q : ℕ) (K : Keying width records members keys count groups input spare grid (λ f. f) w w₀ (q * 2)) (Y : Keyable width w₀ records members keys count groups input spare) (h : q < count) where
     pub both_placed : PiecePlaced width w (record_of records q) input spare
     both_placed =
         let p : q * 2 / 2 ≡ q = omega arith in
-        subst (λ (i : ℕ). PiecePlaced width w (record_of records i) input spare) p (keying_placed width records members keys count groups input spare Exact (λ f. f) w w₀ (q * 2) K Y (omega arith) (omega arith))
+        subst (λ (i : ℕ). PiecePlaced width w (record_of records i) input spare) p (keying_placed width records members keys count groups input spare grid (λ f. f) w w₀ (q * 2) K Y (omega arith) (omega arith))
 
     pub both_group : Grouping w (record_of records q) members groups
     both_group =
         let p : q * 2 / 2 ≡ q = omega arith in
-        subst (λ (i : ℕ). Grouping w (record_of records i) members groups) p (keying_group width records members keys count groups input spare Exact (λ f. f) w w₀ (q * 2) K Y (omega arith) (omega arith))
+        subst (λ (i : ℕ). Grouping w (record_of records i) members groups) p (keying_group width records members keys count groups input spare grid (λ f. f) w w₀ (q * 2) K Y (omega arith) (omega arith))
 
     abbrev once : List ℕ
-    once = keyed width w records members keys (q * 2) groups input spare Exact
+    once = keyed width w records members keys (q * 2) groups input spare grid
 
-    half : Keying width records members keys count groups input spare Exact (λ f. f) once w₀ (q * 2 + 1)
-    half = keying_step width records members keys count groups input spare Exact (λ f. f) w w₀ (q * 2) K Y (omega arith) (omega arith) once refl
+    half : Keying width records members keys count groups input spare grid (λ f. f) once w₀ (q * 2 + 1)
+    half = keying_step width records members keys count groups input spare grid (λ f. f) w w₀ (q * 2) K Y (omega arith) (omega arith) once refl
 
     -- what the second key reads is as it was before the first
     below : Same once w keys
@@ -238,7 +218,7 @@ module _ (width records members keys count : ℕ) (groups input spare : List ℕ
     member_in : members + get_or w (record_of records q) 0 < keys
     member_in = let b = Y.below in let e = K.kept (record_of records q) (omega arith) in omega (arith, Y.member q h)
 
-    twice : both_keyed width w records members keys q groups input spare ≡ keyed width once records members keys (q * 2 + 1) groups input spare Exact
+    twice : both_keyed width w records members keys q groups input spare grid ≡ keyed width once records members keys (q * 2 + 1) groups input spare grid
     unfolding both_keyed
     twice =
         let b = Y.below in
@@ -246,10 +226,10 @@ module _ (width records members keys count : ℕ) (groups input spare : List ℕ
         let g = group_same once w keys (record_of records q) members below u member_in groups in
         let x = number_same once w keys (record_of records q) members below u member_in width 1 0 input spare in
         let y = number_same once w keys (record_of records q) members below u member_in width 1 1 input spare in
-        (λ i. three (first_keyed w q i) (keys + q * both_keys + 3) (sym g i) (sym x i) (sym y i)) ∙ second_keyed once q
+        (λ i. three (first_keyed w q i) (keys + q * both_keys + 3) (sym g i) (word_of grid 0 (sym x i)) (word_of grid 1 (sym y i))) ∙ second_keyed once q
 
-    pub both_step : (w' : List ℕ) → w' ≡ both_keyed width w records members keys q groups input spare → Keying width records members keys count groups input spare Exact (λ f. f) w' w₀ ((q + 1) * 2)
+    pub both_step : (w' : List ℕ) → w' ≡ both_keyed width w records members keys q groups input spare grid → Keying width records members keys count groups input spare grid (λ f. f) w' w₀ ((q + 1) * 2)
     both_step w' e =
         let n : q * 2 + 1 + 1 ≡ (q + 1) * 2 = omega arith in
-        subst (λ (k : ℕ). Keying width records members keys count groups input spare Exact (λ f. f) w' w₀ k) n
-        (keying_step width records members keys count groups input spare Exact (λ f. f) once w₀ (q * 2 + 1) half Y (omega arith) (omega arith) w' (e ∙ twice))
+        subst (λ (k : ℕ). Keying width records members keys count groups input spare grid (λ f. f) w' w₀ k) n
+        (keying_step width records members keys count groups input spare grid (λ f. f) once w₀ (q * 2 + 1) half Y (omega arith) (omega arith) w' (e ∙ twice))

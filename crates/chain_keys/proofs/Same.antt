@@ -11,8 +11,9 @@ use borrow.Author.Tests.{eq-eqb, ne_eqb}
 use lib.Dec.{eqb}
 use lib.ListN.{length, get_or, take}
 use lib.Seq.{get_or-take, get_or-drop, take-suc, take-length}
-use Rattle.rules.specs.declared.Grid.{Grid}
-use Rattle.rules.specs.declared.Grid.TheVariants.{Exact, Cells}
+use Rattle.std.specs.Prelude.{Some}
+use Rattle.rules.specs.Answers.{Grid}
+use Rattle.rules.specs.Answers.{Exact}
 use Rattle.rules.specs.Plane.{Point, point, flat, same_key, exact_key, cell_key, key_of}
 use Rattle.rules.specs.Chaining.{Piece, Rule, nothing, piece_at, run, key_at}
 use Rattle.float_cell.proofs.Same.{cell_same_is}
@@ -113,8 +114,8 @@ words_told : (grid : Grid) (g k : ℕ) (p q : Point)
     → same_words (words g (word_of grid 0 p.x) (word_of grid 1 p.y)) (words k (word_of grid 0 q.x) (word_of grid 1 q.y)) ≡ same_key (key_of grid g p) (key_of grid k q)
 unfolding word_of same_words same_key key_of exact_key cell_key
 words_told Exact g k p q = refl
-words_told (Cells tolerance ox oy) g k p q =
-    ap₂ (λ (x y : Bool). eqb g k && (x && y)) (sym (cell_same_is tolerance ox p.x q.x)) (sym (cell_same_is tolerance oy p.y q.y))
+words_told (Some m) g k p q =
+    ap₂ (λ (x y : Bool). eqb g k && (x && y)) (sym (cell_same_is m.tolerance m.origin_x p.x q.x)) (sym (cell_same_is m.tolerance m.origin_y p.y q.y))
 
 -- ---- what collecting the keys asks
 

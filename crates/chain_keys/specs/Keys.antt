@@ -1,7 +1,8 @@
 -- The words of an end's key, read off its piece's record.
 use Rattle.std.specs.Prelude.{ℕ, ◌+◌, ◌-◌, ◌*◌, ◌/◌, ◌%◌, ◌≤◌, ◌<◌, ◌≡◌, cond, List, eqb, length, get_or, set}
-use Rattle.rules.specs.declared.Grid.{Grid}
-use Rattle.rules.specs.declared.Grid.TheVariants.{Exact, Cells}
+use Rattle.std.specs.Prelude.{Some}
+use Rattle.rules.specs.Answers.{Grid}
+use Rattle.rules.specs.Answers.{Exact}
 use Rattle.rules.specs.Cell.{cell}
 use Rattle.float_cell.specs.Lifted.{lifted}
 use Rattle.chain_pieces.specs.Held.{record_of, coordinates_at, Recorded}
@@ -24,7 +25,7 @@ number_at width w p side axis input spare =
 unfoldable pub word_of : Grid → ℕ → ℕ → ℕ
 unfolding cell
 word_of Exact axis bits = bits
-word_of (Cells tolerance ox oy) axis bits = lifted (cell tolerance (cond (eqb axis 0) ox oy) bits)
+word_of (Some m) axis bits = lifted (cell m.tolerance (cond (eqb axis 0) m.origin_x m.origin_y) bits)
 
 -- the words of the key at a side of the record at p
 unfoldable pub words_for : ℕ → List ℕ → ℕ → ℕ → ℕ → List ℕ → List ℕ → List ℕ → Grid → Words
@@ -49,17 +50,14 @@ abbrev pub keyed : ℕ → List ℕ → ℕ → ℕ → ℕ → ℕ → List ℕ
 keyed width w records members keys e groups input spare grid =
     keyed_at width w (record_of records (e / 2)) (e % 2) members (keys + e * key_size) groups input spare grid
 
--- the workspace with the exact keys of both ends of piece q
-unfoldable pub both_keyed : ℕ → List ℕ → ℕ → ℕ → ℕ → ℕ → List ℕ → List ℕ → List ℕ → List ℕ
-unfolding group_at number_at
-both_keyed width w records members keys q groups input spare =
+-- the workspace with the keys of both ends of piece q
+unfoldable pub both_keyed : ℕ → List ℕ → ℕ → ℕ → ℕ → ℕ → List ℕ → List ℕ → List ℕ → Grid → List ℕ
+unfolding group_at number_at word_of
+both_keyed width w records members keys q groups input spare grid =
     let group = group_at w (record_of records q) members groups in
-    let first =
-    set (set (set w (keys + q * both_keys) group) (keys + q * both_keys + 1) (number_at width w (record_of records q) 0 0 input spare)) (keys + q * both_keys + 2) (number_at width w (record_of records q) 0 1 input spare) in
-    set
-    (set (set first (keys + q * both_keys + 3) group) (keys + q * both_keys + 3 + 1) (number_at width w (record_of records q) 1 0 input spare))
-    (keys + q * both_keys + 3 + 2)
-    (number_at width w (record_of records q) 1 1 input spare)
+    let word = λ (side axis : ℕ). word_of grid axis (number_at width w (record_of records q) side axis input spare) in
+    let first = set (set (set w (keys + q * both_keys) group) (keys + q * both_keys + 1) (word 0 0)) (keys + q * both_keys + 2) (word 0 1) in
+    set (set (set first (keys + q * both_keys + 3) group) (keys + q * both_keys + 3 + 1) (word 1 0)) (keys + q * both_keys + 3 + 2) (word 1 1)
 
 -- the record at p has a coordinate, and all of them stand in its source
 pub record PiecePlaced (width : ℕ) (w : List ℕ) (p : ℕ) (input spare : List ℕ) : Type 0 where

@@ -1,19 +1,19 @@
 // The keys of a round's ends: for each end three words, its group and one word for each number of its coordinate. Equal words are equal keys.
 #![tactic(auto)]
 
-ghost use Rattle.std.specs.Prelude.{◌≡◌, ◌+◌, ◌*◌, ◌/◌, ◌%◌, ◌≤◌, ◌<◌, length, set};
-ghost use Rattle.rules.specs.declared.Grid.TheVariants.{Exact, Cells};
+ghost use Rattle.std.specs.Prelude.{◌≡◌, ◌+◌, ◌*◌, ◌/◌, ◌%◌, ◌≤◌, ◌<◌, length, set, Some};
 ghost use Rattle.chain_pieces.specs.Held.{record_of};
-ghost use Rattle.chain_keys.specs.Keys.{group_at, number_at, PiecePlaced, Grouping, Keyable, Keyed, keyed_at, both_keyed};
+ghost use Rattle.chain_keys.specs.Keys.{group_at, number_at, word_of, PiecePlaced, Grouping, Keyable, Keyed, keyed_at, both_keyed};
 ghost use Rattle.chain_keys.specs.Map.{both_keys};
 
 use chain_grouping::KEY;
-use rules::{Grid, PIECE};
+use rules::{Grid, Meeting, PIECE};
 
 // The words of the keys of a piece's two ends.
 pub const BOTH_KEYS: usize = 6;
 
 // The group of the piece whose record stands at p: that of its first member.
+#[tactic(auto, unfolding(crate::specs::Keys::group_at))]
 fn group_of(w: &[u64], p: usize, members: usize, groups: &[u32]) -> u64
     requires { Grouping w.now p members groups.now }
     ensures { result ≡ group_at w.now p members groups.now }
@@ -22,38 +22,52 @@ fn group_of(w: &[u64], p: usize, members: usize, groups: &[u32]) -> u64
     groups[line] as u64
 }
 
-// The x (axis 0) or y (axis 1) at a side of the piece whose record stands at p: that of its first point at side 0, and of its last at any other.
-fn number_at<'a>(
+// The x and y at a side of the piece whose record stands at p: those of its first point at side 0, and of its last at any other.
+fn point_at<'a>(
     w: &[u64],
     p: usize,
     width: usize,
     side: usize,
-    axis: usize,
     input: &'a [u64],
     spare: &'a [u64],
-) -> u64
-    requires { PiecePlaced width w.now p input.now spare.now × (axis < 2) }
-    ensures { result ≡ number_at width w.now p side axis input.now spare.now }
+) -> (u64, u64)
+    requires { PiecePlaced width w.now p input.now spare.now }
+    ensures x { result.0 ≡ number_at width w.now p side 0 input.now spare.now }
+    ensures y { result.1 ≡ number_at width w.now p side 1 input.now spare.now }
 {
     let c = chain_pieces::coordinates_of(w, p, width, input, spare);
-    if side == 0 {
-        return c[axis];
+    let at = if side == 0 { 0 } else { c.len() - width };
+    (c[at], c[at + 1])
+}
+
+// The words of a point: its bits, or the numbers of its cell.
+#[tactic(auto, unfolding(crate::specs::Keys::word_of))]
+fn words_of(grid: Grid, point: (u64, u64)) -> (u64, u64)
+    ensures x { result.0 ≡ word_of grid 0 point.0 }
+    ensures y { result.1 ≡ word_of grid 1 point.1 }
+{
+    let (x, y) = point;
+    match grid {
+        None => (x, y),
+        Some(cells) => (
+            float_cell::cell_key(x, cells.origin_x, cells.tolerance),
+            float_cell::cell_key(y, cells.origin_y, cells.tolerance),
+        ),
     }
-    c[c.len() - width + axis]
 }
 
 // Three words at `at`.
-fn put_words(w: &mut [u64], at: usize, group: u64, x: u64, y: u64)
+fn put_words(w: &mut [u64], at: usize, group: u64, words: (u64, u64))
     requires { at + 3 ≤ length w.old }
-    ensures { w.new ≡ set (set (set w.old at group) (at + 1) x) (at + 2) y }
+    ensures { w.new ≡ set (set (set w.old at group) (at + 1) words.0) (at + 2) words.1 }
 {
     w[at] = group;
-    w[at + 1] = x;
-    w[at + 2] = y;
+    w[at + 1] = words.0;
+    w[at + 2] = words.1;
 }
 
-// The exact keys of both ends of piece q: a number's word is its bits.
-fn put_exact<'a>(
+// The keys of both ends of piece q.
+fn put_both<'a>(
     w: &mut [u64],
     records: usize,
     members: usize,
@@ -63,24 +77,22 @@ fn put_exact<'a>(
     groups: &[u32],
     input: &'a [u64],
     spare: &'a [u64],
+    grid: Grid,
 )
     requires { PiecePlaced width w.old (record_of records q) input.now spare.now × Grouping w.old (record_of records q) members groups.now
         × (keys + q * both_keys + 6 ≤ length w.old) }
-    ensures { w.new ≡ both_keyed width w.old records members keys q groups.now input.now spare.now }
+    ensures { w.new ≡ both_keyed width w.old records members keys q groups.now input.now spare.now grid }
 {
     let p = records + q * PIECE;
     let at = keys + q * BOTH_KEYS;
-    let behind = at + 3;
     let group = group_of(w, p, members, groups);
-    let x = number_at(w, p, width, 0, 0, input, spare);
-    let y = number_at(w, p, width, 0, 1, input, spare);
-    let last_x = number_at(w, p, width, 1, 0, input, spare);
-    let last_y = number_at(w, p, width, 1, 1, input, spare);
-    put_words(w, at, group, x, y);
-    put_words(w, behind, group, last_x, last_y);
+    let first = point_at(w, p, width, 0, input, spare);
+    let last = point_at(w, p, width, 1, input, spare);
+    put_words(w, at, group, words_of(grid, first));
+    put_words(w, at + KEY, group, words_of(grid, last));
 }
 
-// The cell key at a side of the piece whose record stands at p, three words at `at`: a number's word is its cell.
+// The cell key at a side of the piece whose record stands at p, three words at `at`.
 pub fn put_cell<'a>(
     w: &mut [u64],
     p: usize,
@@ -91,82 +103,15 @@ pub fn put_cell<'a>(
     groups: &[u32],
     input: &'a [u64],
     spare: &'a [u64],
-    tolerance: f64,
-    origin_x: f64,
-    origin_y: f64,
+    cells: Meeting,
 )
     requires { PiecePlaced width w.old p input.now spare.now × Grouping w.old p members groups.now × (at + 3 ≤ length w.old) }
     ensures { w.new ≡ keyed_at width w.old p side members at groups.now input.now
-        spare.now (Cells tolerance origin_x origin_y) }
+        spare.now (Some cells) }
 {
     let group = group_of(w, p, members, groups);
-    let east = number_at(w, p, width, side, 0, input, spare);
-    let x = float_cell::cell_key(east, origin_x, tolerance);
-    let north = number_at(w, p, width, side, 1, input, spare);
-    let y = float_cell::cell_key(north, origin_y, tolerance);
-    put_words(w, at, group, x, y);
-}
-
-// The exact keys of the ends of `count` pieces, from `keys` on.
-fn collect_exact<'a>(
-    w: &mut [u64],
-    records: usize,
-    members: usize,
-    keys: usize,
-    count: usize,
-    width: usize,
-    groups: &[u32],
-    input: &'a [u64],
-    spare: &'a [u64],
-)
-    requires { Keyable width w.old records members keys count groups.now input.now spare.now }
-    ensures { Keyed width w.new w.old records members keys count
-        groups.now input.now spare.now Exact }
-{
-    let mut q = 0;
-    while q < count {
-        put_exact(w, records, members, keys, q, width, groups, input, spare);
-        q += 1;
-    }
-}
-
-// The cell keys of the ends of `count` pieces, from `keys` on.
-fn collect_cells<'a>(
-    w: &mut [u64],
-    records: usize,
-    members: usize,
-    keys: usize,
-    count: usize,
-    width: usize,
-    groups: &[u32],
-    input: &'a [u64],
-    spare: &'a [u64],
-    tolerance: f64,
-    origin_x: f64,
-    origin_y: f64,
-)
-    requires { Keyable width w.old records members keys count groups.now input.now spare.now }
-    ensures { Keyed width w.new w.old records members keys count groups.now input.now
-        spare.now (Cells tolerance origin_x origin_y) }
-{
-    let mut e = 0;
-    while e < count * 2 {
-        put_cell(
-            w,
-            records + e / 2 * PIECE,
-            e % 2,
-            members,
-            keys + e * KEY,
-            width,
-            groups,
-            input,
-            spare,
-            tolerance,
-            origin_x,
-            origin_y,
-        );
-        e += 1;
-    }
+    let point = point_at(w, p, width, side, input, spare);
+    put_words(w, at, group, words_of(Some(cells), point));
 }
 
 // The keys of the ends of `count` pieces, from `keys` on.
@@ -186,13 +131,9 @@ pub fn collect_keys<'a>(
     ensures { Keyed width w.new w.old records members keys count groups.now input.now
         spare.now grid }
 {
-    match grid {
-        Grid::Exact => collect_exact(
-            w, records, members, keys, count, width, groups, input, spare,
-        ),
-        Grid::Cells(tolerance, origin_x, origin_y) => collect_cells(
-            w, records, members, keys, count, width, groups, input, spare, tolerance, origin_x,
-            origin_y,
-        ),
+    for q in 0..count {
+        put_both(
+            w, records, members, keys, q, width, groups, input, spare, grid,
+        );
     }
 }

@@ -9,7 +9,7 @@ use native.Mathlib.Omega.{arith}
 use lib.Ieee.{lt}
 use lib.ListN.{length, get_or}
 use Rattle.rules.specs.declared.Settings.{Settings}
-use Rattle.rules.specs.declared.Grid.TheVariants.{Exact}
+use Rattle.rules.specs.Answers.{Exact}
 use Rattle.rules.specs.Lists.{count, from, upto, total}
 use Rattle.rules.specs.Plane.{nought}
 use Rattle.rules.specs.Walking.{piece_of, walks}

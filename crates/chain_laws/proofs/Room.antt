@@ -11,7 +11,7 @@ use lib.Dec.{eqb}
 use lib.Ieee.{lt}
 use lib.ListN.{drop, length-take, length, length-append, length-reverse}
 use Rattle.rules.specs.declared.Settings.{Settings}
-use Rattle.rules.specs.declared.Grid.TheVariants.{Exact}
+use Rattle.rules.specs.Answers.{Exact}
 use Rattle.rules.specs.Lists.{upto, total}
 use Rattle.rules.specs.Plane.{Point, points, equal, nought}
 use Rattle.rules.specs.Walking.{side_of, walks}

@@ -10,8 +10,9 @@ use native.Mathlib.Decide.{ℕ_discrete}
 use lib.Ieee.{lt}
 use lib.ListN.{length, get_or, length-append}
 use Rattle.rules.specs.declared.Settings.{Settings}
-use Rattle.rules.specs.declared.Grid.{Grid}
-use Rattle.rules.specs.declared.Grid.TheVariants.{Exact, Cells}
+use Rattle.std.specs.Prelude.{Some}
+use Rattle.rules.specs.Answers.{Grid}
+use Rattle.rules.specs.Answers.{Exact, Cells}
 use Rattle.rules.specs.Lists.{count}
 use Rattle.rules.specs.Plane.{Point, nought, exact_key, cell_key, key_of}
 use Rattle.rules.specs.Walking.{piece_of, other, walks}
@@ -37,7 +38,7 @@ pub record Sound (ls : List Line) (p : Piece) : Type 0 where
 pub key_tells : (grid : Grid) (g h : ℕ) (a b : Point) → key_of grid g a ≡ key_of grid h b → g ≡ h
 unfolding key_of exact_key cell_key
 key_tells Exact g h a b q = cc
-key_tells (Cells t ox oy) g h a b q = cc
+key_tells (Some m) g h a b q = cc
 
 module _ (rule : Rule) (ps : List Piece) where
   same_piece : (e f : ℕ) → piece_of e ≡ piece_of f → piece_at rule ps e ≡ piece_at rule ps f

@@ -4,7 +4,7 @@ use mathlib.Core.Path.{◌≡◌, sym, ap, ◌∙◌, subst}
 use mathlib.Core.List.{List}
 use native.Mathlib.Omega.{arith}
 use lib.ListN.{length, get_or}
-use Rattle.rules.specs.declared.Grid.{Grid}
+use Rattle.rules.specs.Answers.{Grid}
 use Rattle.chain_pieces.specs.Held.{record_of}
 use Rattle.chain_grouping.specs.Map.{key_size}
 use Rattle.chain_keys.specs.Keys.{keyed_at, PiecePlaced, Grouping}

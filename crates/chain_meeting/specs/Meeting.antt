@@ -4,7 +4,7 @@ use Rattle.std.specs.Prelude.{ℕ, ◌+◌, ◌*◌, ◌/◌, ◌%◌, ◌≤◌
 use mathlib.Core.List.{List, [], map, flatten}
 use Rattle.std.proofs.Math.Seq.{slice}
 use Rattle.rules.specs.declared.Settings.{Settings}
-use Rattle.rules.specs.declared.Grid.{Grid}
+use Rattle.rules.specs.Answers.{Grid}
 use Rattle.rules.specs.Plane.{same_key}
 use Rattle.rules.specs.Walking.{piece_of}
 use Rattle.rules.specs.Chaining.{Piece, Rule, key_at, join, rule_of, cells_of}

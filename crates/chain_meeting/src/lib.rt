@@ -1,8 +1,7 @@
 // Where the ends of a round's walks meet by the cells of the next one, before anything is laid: an end of a walk is an end of a line, and has its key.
 #![tactic(auto)]
 
-ghost use Rattle.std.specs.Prelude.{◌*◌};
-ghost use Rattle.rules.specs.declared.Grid.TheVariants.{Cells};
+ghost use Rattle.std.specs.Prelude.{◌*◌, Some};
 ghost use Rattle.chain_outer.specs.Outer.{outer_of};
 ghost use Rattle.point_slices.specs.Holds.{HoldsFrom};
 ghost use Rattle.chain_meeting.specs.Meeting.{OuterListable, Collectable, Collected, Meetable, Met};
@@ -10,7 +9,7 @@ ghost use Rattle.chain_meeting.specs.Meeting.{OuterListable, Collectable, Collec
 use chain_grouping::{KEY, KEYS};
 use chain_pieces::{JOINS, MEMBERS, NODE, TAKEN};
 use chain_walks::{ENTRIES, LENGTHS};
-use rules::{PIECE, Settings};
+use rules::{Meeting, PIECE, Settings};
 
 // The groups of the next round, as this round's part of the workspace counts: that part begins where the next round has the pieces that go in.
 pub const MEETING: usize = 138;
@@ -22,15 +21,13 @@ fn list_outer(w: &mut [u64], entries: usize, lengths: usize, r: usize, at: usize
     ensures { (y : OuterListable w.old entries lengths r at) → HoldsFrom w.new w.old at (r * 2) (outer_of y.ws) }
 {
     let mut from = entries;
-    let mut j: usize = 0;
-    while j < r {
+    for j in 0..r {
         let to = from + w[lengths + j] as usize;
         let first = w[from];
         let last = w[to - 1];
         w[at + j * 2] = first;
         w[at + j * 2 + 1] = last + 1 - 2 * (last % 2);
         from = to;
-        j += 1;
     }
 }
 
@@ -45,16 +42,13 @@ fn collect_outer(
     width: usize,
     groups: &[u32],
     input: &[u64],
-    tolerance: f64,
-    origin_x: f64,
-    origin_y: f64,
+    cells: Meeting,
 )
     requires { Collectable width w.old records members ends keys k groups.now input.now }
     ensures { Collected width w.new w.old records members ends keys k groups.now input.now
-        (Cells tolerance origin_x origin_y) }
+        (Some cells) }
 {
-    let mut t = 0;
-    while t < k {
+    for t in 0..k {
         let e = w[ends + t] as usize;
         chain_keys::put_cell(
             w,
@@ -66,11 +60,8 @@ fn collect_outer(
             groups,
             input,
             input,
-            tolerance,
-            origin_x,
-            origin_y,
+            cells,
         );
-        t += 1;
     }
 }
 
@@ -108,9 +99,11 @@ pub fn meet(
         width,
         groups,
         input,
-        settings.tolerance,
-        settings.origin_x,
-        settings.origin_y,
+        Meeting {
+            tolerance: settings.tolerance,
+            origin_x: settings.origin_x,
+            origin_y: settings.origin_y,
+        },
     );
     chain_grouping::group(&mut w[at..], ends);
 }

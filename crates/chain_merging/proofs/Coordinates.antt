@@ -9,7 +9,8 @@ use mathlib.Core.Option.{none}
 use native.Mathlib.Omega.{arith}
 use native.Mathlib.Nat.{add-mul}
 use lib.Dec.{eqb}
-use lib.ListN.{length, get_or, take, length-drop}
+use lib.ListN.{length, get_or, take, drop, length-drop}
+use Rattle.std.proofs.lemmas.List.{get_or-take, get_or-drop}
 use lib.Seq.{slice, slice-cons, slice_empty}
 use borrow.Rule.Slice.PartMut.{mid_of, put_mid}
 use Rattle.rules.specs.Lists.{total}
@@ -60,6 +61,10 @@ module _ (width : ℕ) (w : List ℕ) (old from to : ℕ) (input spare : List �
 
   pub entry_next : slice k to w ≡ get_or w k 0 ∷ slice (k + 1) to w
   entry_next = let q : suc k ≡ k + 1 = omega arith in slice-cons k to w 0 high y.inside ∙ ap (λ (i : ℕ). entry ∷ slice i to w) q
+
+-- an entry, read among those of its walk
+pub entry_read : (w : List ℕ) (from to i : ℕ) → i < to - from → get_or (take (to - from) (drop from w)) i 0 ≡ get_or w (from + i) 0
+entry_read w from to i h = get_or-take (to - from) (drop from w) i 0 h ∙ get_or-drop from w i 0
 
 -- ---- the loop of `append_walk`
 
@@ -125,20 +130,21 @@ module _ (width : ℕ) (w : List ℕ) (old from to : ℕ) (input spare m₀ : Li
       apart : (length pts + points_in z.rule z.ps (slice (k + 1) to w)) * width ≡ length pts * width + points_in z.rule z.ps (slice (k + 1) to w) * width
       apart = add-mul (length pts) (points_in z.rule z.ps (slice (k + 1) to w)) width
 
-      pub laying_asks : (2 ≤ width) × Recorded width w (record_of old (piece_of (get_or w k 0))) input spare
-          × (have + length (coordinates_at width w (record_of old (piece_of (get_or w k 0))) input spare) ≤ length (mid_of at (length m - at) m))
-      laying_asks = (
+      -- x is the entry, as it is read
+      pub laying_asks : (x : ℕ) → x ≡ get_or w k 0 → (2 ≤ width) × Recorded width w (record_of old (piece_of x)) input spare
+          × (have + length (coordinates_at width w (record_of old (piece_of x)) input spare) ≤ length (mid_of at (length m - at) m))
+      laying_asks x is = rw is (
         z.two,
         entered_recorded width w old from to input spare z k o.low h,
         rw (mid_rest m at) (simp length-drop (omega (arith, more, apart, o.size, ap length named, flat_length width pts))),
       )
 
-      pub laying_step : (p : List ℕ) (r : ℕ)
+      step : (p : List ℕ) (r : ℕ)
           → Holds p (mid_of at (length m - at) m) r
           (laid width (take have (mid_of at (length m - at) m)) (walked width (eqb (get_or w k 0 % 2) 1) (coordinates_at width w (record_of old (piece_of (get_or w k 0))) input spare)))
           → Laying (put_mid at (length m - at) m p) r (k + 1)
       unfolding flat_map
-      laying_step p r s =
+      step p r s =
           let c : at + have ≤ length m₀ = omega (arith, more) in
           let run_is : walked width (eqb (e % 2) 1) (coordinates_at width w at_record input spare) ≡ run z.rule z.ps e =
           run_walked width z.rule z.ps e (coordinates_at width w at_record input spare) (entered_points width w old from to input spare z k o.low h) in
@@ -159,6 +165,12 @@ module _ (width : ℕ) (w : List ℕ) (old from to : ℕ) (input spare m₀ : Li
             high = omega arith;
             size = from_length x (omega (arith, more, apart, g, v, s'.count, o.holds.count));
           }
+
+      pub laying_step : (x : ℕ) → x ≡ get_or w k 0 → (p : List ℕ) (r : ℕ)
+          → Holds p (mid_of at (length m - at) m) r
+          (laid width (take have (mid_of at (length m - at) m)) (walked width (eqb (x % 2) 1) (coordinates_at width w (record_of old (piece_of x)) input spare)))
+          → Laying (put_mid at (length m - at) m p) r (k + 1)
+      laying_step x is p r s = step p r (rw is at s)
 
 -- ---- a walk of one piece, and one of more
 

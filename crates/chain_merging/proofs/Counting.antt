@@ -1,5 +1,5 @@
 -- The members of a walk, counted: what is counted and what is left are the members of its piece.
-use Prim.Native.Nat.{ℕ, ◌+◌, ◌-◌, ◌≤◌, ◌<◌}
+use Prim.Native.Nat.{ℕ, ◌+◌, ◌≤◌, ◌<◌}
 use mathlib.Core.Path.{◌≡◌, sym, ap, ◌∙◌}
 use mathlib.Core.List.{List, [], flat_map}
 use native.Mathlib.Omega.{arith}
@@ -43,7 +43,7 @@ module _ (w : List ℕ) (old from to : ℕ) (y : Counted w old from to) where
     below : q < length z.ps
     below = z.below k o.low h
 
-    pub counted_inside : record_of old (piece_of (get_or w k 0)) + piece_size ≤ length w
+    counted_inside : record_of old (piece_of (get_or w k 0)) + piece_size ≤ length w
     counted_inside =
         omega (arith, record_inside y.width w old z.n y.input y.spare z.counts z.ps z.held q below, z.held.room)
 
@@ -58,8 +58,17 @@ module _ (w : List ℕ) (old from to : ℕ) (y : Counted w old from to) where
         ∙ length-append (lines_at (get_or w k 0)) (flat_map lines_at (slice (k + 1) to w))
         ∙ ap (λ (i : ℕ). i + length (flat_map lines_at (slice (k + 1) to w))) (sym count_is)
 
-    pub counting_fits : r + get_or w (record_of old (piece_of (get_or w k 0)) + 1) 0 ≤ length w
-    counting_fits = omega (arith, split, o.goes, z.listed, z.held.room)
+    -- the entry, as it is read, and the members of its piece
+    module _ (x : ℕ) (is : x ≡ get_or w k 0) where
+      pub counted_read : record_of old (piece_of x) + piece_size ≤ length w
+      counted_read = rw is counted_inside
 
-    pub counting_step : Counting (r + get_or w (record_of old (piece_of (get_or w k 0)) + 1) 0) (k + 1)
-    counting_step = record { goes = omega (arith, split, o.goes); low = omega (arith, o.low); high = omega arith }
+      module _ (b : ℕ) (members : b ≡ get_or w (record_of old (piece_of x) + 1) 0) where
+        counted : b ≡ get_or w (record_of old q + 1) 0
+        counted = members ∙ ap (λ (e : ℕ). get_or w (record_of old (piece_of e) + 1) 0) is
+
+        pub counting_fits : r + b ≤ length w
+        counting_fits = omega (arith, counted, split, o.goes, z.listed, z.held.room)
+
+        pub counting_step : (j : ℕ) → j ≡ k + 1 → Counting (r + b) j
+        counting_step j next = rw next (record { goes = omega (arith, counted, split, o.goes); low = omega (arith, o.low); high = omega arith })

@@ -1,6 +1,6 @@
 -- The pieces that come out: what `emit_walks` and `list_pieces` leave together is the block of the pieces that the walks make. A piece of one line is a
 -- piece that went in, and has its line's own points.
-use Prim.Native.Nat.{ℕ, ◌+◌, ◌-◌, ◌*◌, ◌≤◌, ◌<◌}
+use Prim.Native.Nat.{ℕ, ◌+◌, ◌*◌, ◌≤◌, ◌<◌}
 use mathlib.Core.Path.{◌≡◌, refl, sym, ap, ap₂, ◌∙◌, subst}
 use mathlib.Core.List.{List, [], ◌∷◌, ◌++◌, map, flat_map, flatten, append-nil}
 use native.Mathlib.Omega.{arith}

@@ -1,6 +1,6 @@
 -- The members, marks and listing of all walks, one piece after another: what stands at the front after k entries are those of their pieces. The pieces
 -- that went in stand beyond, and are read as they were; and the three blocks lie one behind another, so that writing in one leaves the others.
-use Prim.Native.Nat.{ℕ, ◌+◌, ◌-◌, ◌*◌, ◌%◌, ◌≤◌, ◌<◌}
+use Prim.Native.Nat.{ℕ, ◌+◌, ◌*◌, ◌%◌, ◌≤◌, ◌<◌}
 use mathlib.Core.Path.{◌≡◌, refl, sym, ap, ◌∙◌, subst}
 use mathlib.Core.List.{List, [], ◌∷◌, ◌++◌, flat_map, append-nil}
 use native.Mathlib.Omega.{arith}

@@ -13,7 +13,7 @@ ghost use Rattle.point_slices.specs.Run.{laid, walked};
 ghost use Rattle.chain_pieces.specs.Held.{coordinates_at, Recorded};
 ghost use Rattle.chain_merging.specs.Emit.{Counted, Mergeable, joined_of, Emittable, Emitted, turned_by, passed_by, Turnable, Listable, Members, PiecesListable, Listed, Walks, Tabled, Done};
 
-use chain_pieces::{LISTING, MARKS, MEMBERS};
+use chain_pieces::{LISTING, MARKS, MEMBERS, Record};
 use rules::PIECE;
 
 // The coordinates of the piece whose record stands at p, behind the first `have` numbers of `rest`. Returns how many numbers there are.
@@ -55,9 +55,8 @@ fn append_walk<'a>(
         (flat width (lay none (flat_map (run y.entered.rule y.entered.ps) (slice from to w.now)))) }
 {
     let mut have: usize = 0;
-    let mut k = from;
-    while k < to {
-        let e = w[k] as usize;
+    for e in &w[from..to] {
+        let e = *e as usize;
         have = append_piece(
             w,
             old + e / 2 * PIECE,
@@ -68,7 +67,6 @@ fn append_walk<'a>(
             have,
             e % 2 == 1,
         );
-        k += 1;
     }
     have
 }
@@ -94,9 +92,10 @@ fn lay_walk<'a>(
         let p = old + w[from] as usize / 2 * PIECE;
         let c = chain_pieces::coordinates_of(w, p, width, input, spare);
         point_slices::copy_into(merged, at, c);
-        return c.len();
+        c.len()
+    } else {
+        append_walk(w, old, from, to, width, input, spare, merged, at)
     }
-    append_walk(w, old, from, to, width, input, spare, merged, at)
 }
 
 // How many members the pieces of a walk have.
@@ -105,11 +104,8 @@ fn count_members(w: &[u64], old: usize, from: usize, to: usize) -> usize
     ensures { (y : Counted w.now old from to) → result ≡ length (joined_of y.entered).lines }
 {
     let mut r: usize = 0;
-    let mut k = from;
-    while k < to {
-        let e = w[k] as usize;
-        r += w[old + e / 2 * PIECE + 1] as usize;
-        k += 1;
+    for e in &w[from..to] {
+        r += Record::read(w, old + *e as usize / 2 * PIECE).members as usize;
     }
     r
 }
@@ -136,15 +132,27 @@ fn emit_walk<'a>(
         (joined_of y.laying.entered) at m c result }
 {
     if b == 1 {
-        let p = old + w[from] as usize / 2 * PIECE;
-        let first = w[p + 3];
-        let count = w[p + 4];
-        chain_pieces::put_record(w, at, m as u64, 1, 0, first, count);
+        let own = Record::read(w, old + w[from] as usize / 2 * PIECE);
+        let line = Record {
+            member: m as u64,
+            members: 1,
+            source: 0,
+            point: own.point,
+            points: own.points,
+        };
+        line.put(w, at);
         return c;
     }
     let h = lay_walk(w, old, from, to, width, input, spare, merged, c * width);
     let points = h / width;
-    chain_pieces::put_record(w, at, m as u64, b as u64, 1, c as u64, points as u64);
+    let copy = Record {
+        member: m as u64,
+        members: b as u64,
+        source: 1,
+        point: c as u64,
+        points: points as u64,
+    };
+    copy.put(w, at);
     c + points
 }
 
@@ -170,8 +178,7 @@ fn emit_walks<'a>(
     let mut from = entries;
     let mut members: usize = 0;
     let mut points: usize = 0;
-    let mut j: usize = 0;
-    while j < r {
+    for j in 0..r {
         let to = from + w[lengths + j] as usize;
         let b = count_members(w, old, from, to);
         points = emit_walk(
@@ -190,7 +197,6 @@ fn emit_walks<'a>(
         );
         members += b;
         from = to;
-        j += 1;
     }
 }
 
@@ -231,10 +237,8 @@ fn turn_marks(w: &mut [u64], from: usize, at: usize, count: usize, side: usize)
     requires { Turnable w.old from at count side }
     ensures { HoldsFrom w.new w.old at count (turned_by side (slice from (from + count) w.old)) }
 {
-    let mut i = 0;
-    while i < count {
+    for i in 0..count {
         w[at + i] = (w[from + i] + side as u64) % 2;
-        i += 1;
     }
 }
 
@@ -245,9 +249,9 @@ fn pass_lines(w: &mut [u64], from: usize, at: usize, count: usize, side: usize)
 {
     if side == 0 {
         point_slices::copy_down(w, from, at, count);
-        return;
+    } else {
+        point_slices::copy_back(w, from, at, count);
     }
-    point_slices::copy_back(w, from, at, count);
 }
 
 // The lines of one piece, `count` of them, from a block of pieces that went in into the block at the front: `from` and `at` say how far on in their blocks
@@ -256,17 +260,15 @@ fn list_members(w: &mut [u64], n: usize, from: usize, at: usize, count: usize, s
     requires { Listable w.old n from at count side }
     ensures { Members w.new w.old n from at count side }
 {
-    if count == 1 {
-        list_one(w, n, from, at, side);
-        return;
+    match count {
+        1 => list_one(w, n, from, at, side),
+        2 => list_two(w, n, from, at, side),
+        _ => {
+            point_slices::copy_down(w, from + n * MEMBERS, at + n * MEMBERS, count);
+            turn_marks(w, from + n * MARKS, at + n * MARKS, count, side);
+            pass_lines(w, from + n * LISTING, at + n * LISTING, count, side);
+        }
     }
-    if count == 2 {
-        list_two(w, n, from, at, side);
-        return;
-    }
-    point_slices::copy_down(w, from + n * MEMBERS, at + n * MEMBERS, count);
-    turn_marks(w, from + n * MARKS, at + n * MARKS, count, side);
-    pass_lines(w, from + n * LISTING, at + n * LISTING, count, side);
 }
 
 // The members of the pieces that are entered, piece by piece, their marks, and the lines in the order in which they are passed.
@@ -276,15 +278,12 @@ fn list_pieces(w: &mut [u64], n: usize, old: usize, entries: usize, m: usize)
         → Listed w.new w.old n (merge y.rule y.ps (slice entries (entries + m) w.old)) }
 {
     let mut r: usize = 0;
-    let mut k: usize = 0;
-    while k < m {
+    for k in 0..m {
         let e = w[entries + k] as usize;
-        let p = old + e / 2 * PIECE;
-        let count = w[p + 1] as usize;
-        let from = old + w[p] as usize;
-        list_members(w, n, from, r, count, e % 2);
+        let piece = Record::read(w, old + e / 2 * PIECE);
+        let count = piece.members as usize;
+        list_members(w, n, old + piece.member as usize, r, count, e % 2);
         r += count;
-        k += 1;
     }
 }
 

@@ -1,12 +1,12 @@
 -- What stays while joins are put: the pieces, the groups and their keys. So each node's step starts from the same ends.
 use Prim.Native.Nat.{ℕ, ◌+◌, ◌*◌, ◌≤◌, ◌<◌}
 use mathlib.Core.Path.{◌≡◌, refl, sym, ◌∙◌, subst}
-use mathlib.Core.Bool.{Bool}
 use mathlib.Core.List.{List}
 use native.Mathlib.Omega.{arith}
 use lib.Ieee.{Float}
 use lib.ListN.{length, get_or, drop}
 use lib.Seq.{slice}
+use Rattle.std.specs.Prelude.{Option as Maybe}
 use Rattle.rules.specs.Plane.{same_key}
 use Rattle.rules.specs.Chaining.{Piece, key_at}
 use Rattle.chain_pieces.specs.Held.{Held}
@@ -54,7 +54,7 @@ joined_put H h b =
       beyond = λ j a. from_beyond H h j (omega arith);
     }
 
-module _ {width : ℕ} {w : List ℕ} {n m : ℕ} {on : Bool} {limit : Float} {input spare : List ℕ} (y : Noded width w n m on limit input spare) where
+module _ {width : ℕ} {w : List ℕ} {n m : ℕ} {limit : Maybe Float} {input spare : List ℕ} (y : Noded width w n m limit input spare) where
   -- there are at most two ends for each line
   pub ends_few : m ≤ n * 2
   ends_few = omega (arith, y.ends, y.held.few)
@@ -64,7 +64,7 @@ module _ {width : ℕ} {w : List ℕ} {n m : ℕ} {on : Bool} {limit : Float} {i
 
   -- the same ends, where the block of the pieces and the groups stay
   unfoldable pub noded_kept : (w' : List ℕ) → length w' ≡ length w → ((j : ℕ) → n * taken_block ≤ j → j < n * node_block → get_or w' j 0 ≡ get_or w j 0)
-      → drop (n * group_block) w' ≡ drop (n * group_block) w → Noded width w' n m on limit input spare
+      → drop (n * group_block) w' ≡ drop (n * group_block) w → Noded width w' n m limit input spare
   noded_kept w' z s d =
       record {
         rule = y.rule;
@@ -90,5 +90,5 @@ module _ {width : ℕ} {w : List ℕ} {n m : ℕ} {on : Bool} {limit : Float} {i
     pub block_same : (i : ℕ) → n * taken_block ≤ i → i < n * node_block → get_or w' i 0 ≡ get_or w i 0
     block_same i a b = j.kept i (omega (arith, ends_few)) (omega arith)
 
-    abbrev pub noded_same : Noded width w' n m on limit input spare
+    abbrev pub noded_same : Noded width w' n m limit input spare
     noded_same = noded_kept w' j.size block_same groups_same

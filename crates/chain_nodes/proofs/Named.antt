@@ -9,7 +9,7 @@ use native.Mathlib.Decide.{dec_lt}
 use lib.Dec.{T, eqb}
 use lib.Ieee.{Float, binary64, is_nan, fits}
 use lib.ListN.{length, get_or, length-map, get_or-eq_default}
-use Rattle.rules.specs.declared.Direction.TheVariants.{Absent}
+use Rattle.rules.specs.Answers.{Absent}
 use Rattle.rules.specs.Selecting.{End, Pair, select}
 use Rattle.rules.specs.Chaining.{Piece, Rule, run, end_at}
 use Rattle.rules.specs.Plane.{direction_of}

@@ -2,15 +2,16 @@
 -- were, and the pairs are those that the book selects.
 use Prim.Native.Nat.{ℕ, zero, suc, ◌+◌, ◌-◌, ◌*◌, ◌/◌, ◌%◌, ◌≤◌, ◌<◌, zero-le}
 use mathlib.Core.Path.{◌≡◌, refl, sym, ap, ap₂, ◌∙◌}
-use mathlib.Core.Bool.{Bool, true, false, not, cond}
+use mathlib.Core.Bool.{Bool, true, false, not}
 use mathlib.Core.List.{List, ◌∷◌, map}
-use mathlib.Core.Option.{Option, none, some}
+use mathlib.Core.Option.{Option}
 use native.Mathlib.Omega.{arith}
 use lib.Dec.{T}
 use lib.Ieee.{Float, binary64, is_nan, fits}
 use lib.ListN.{length, get_or, drop, length-drop}
 use lib.Seq.{slice, get_or-drop}
 use borrow.Rule.Slice.PartMut.{mid_of, put_mid}
+use Rattle.std.specs.Prelude.{Some}
 use Rattle.rules.specs.Lists.{keep, from, upto}
 use Rattle.rules.specs.Plane.{Point, direction_of}
 use Rattle.rules.specs.Selecting.{Pair, select}
@@ -94,7 +95,7 @@ module _ (v : List ℕ) (m e : ℕ) where
 -- ---- the steps of a junction
 
 module _ {width : ℕ} {w₀ : List ℕ} {n m e : ℕ} {limit : Float} {input spare : List ℕ} (J : Junction width w₀ n m e limit input spare) where
-  abbrev y : Noded width w₀ n m J.on limit input spare
+  abbrev y : Noded width w₀ n m (Some limit) input spare
   y = J.noded
 
   abbrev rule : Rule
@@ -286,7 +287,7 @@ module _ {width : ℕ} {w₀ : List ℕ} {n m e : ℕ} {limit : Float} {input sp
 
         module _ (fitting : T (fits binary64 limit)) where
           number : T (not (is_nan limit))
-          number = limit_number limit (J.noded.fair J.switched)
+          number = limit_number limit (J.noded.fair limit refl)
 
           pub put_asks : Puttable w₃ (n * join_block) m (n * node_block) d (n * pair_block + d * pairs_from) r
           put_asks =
@@ -324,7 +325,7 @@ module _ {width : ℕ} {w₀ : List ℕ} {n m e : ℕ} {limit : Float} {input sp
               (ap (joined rule ps) k.2
               ∙ joined_many rule ps e (get_or (drop (n * group_block) w₀) (m * next_block + e) 0) k.0 k.1
               ∙ ap (λ (o : Option Float). map (λ (p : Pair). (p.i, p.j)) (chosen rule ps o (e ∷ get_or (drop (n * group_block) w₀) (m * next_block + e) 0 ∷ k.0 ∷ k.1)))
-              (J.noded.limited ∙ ap (λ (t : Bool). cond t (some limit) none) J.switched)
+              J.noded.limited
               ∙ ap (λ (l : List ℕ). map (λ (p : Pair). (p.i, p.j)) (select limit (map (end_at rule ps) l))) (sym k.2))
 
           -- THE JUNCTION'S PAIRS ARE JOINED, AND NOTHING ELSE HAS CHANGED

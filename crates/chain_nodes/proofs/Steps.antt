@@ -2,19 +2,18 @@
 use Prim.Native.Nat.{ℕ, ◌+◌, ◌*◌, ◌/◌, ◌≤◌, ◌<◌}
 use mathlib.Core.Path.{◌≡◌, sym, ap, ◌∙◌, subst}
 use mathlib.Core.Logic.{◌≢◌}
-use mathlib.Core.Bool.{Bool, true, false, cond}
 use mathlib.Core.List.{List, []}
-use mathlib.Core.Option.{none, some}
 use native.Mathlib.Omega.{arith}
 use lib.Ieee.{Float}
 use lib.ListN.{get_or, drop}
 use lib.Seq.{slice, get_or-drop}
+use Rattle.std.specs.Prelude.{Option as Maybe, Some, None}
 use Rattle.rules.specs.Chaining.{joined}
 use Rattle.chain_laws.specs.Table.{put, fill}
 use Rattle.point_slices.specs.Holds.{HoldsFrom}
 use Rattle.chain_joins.specs.Node.{node_of}
 use Rattle.chain_joins.proofs.Cases.{second}
-use Rattle.chain_nodes.specs.Noded.{Noded, Junction, Joined, joins_at}
+use Rattle.chain_nodes.specs.Noded.{limit_in, Noded, Junction, Joined, joins_at}
 use Rattle.chain_nodes.proofs.Frames.{joined_same, joined_put, joins_room, ends_few}
 use Rattle.chain_nodes.proofs.Turns.{fill_none, at_leader, at_other, at_alone, at_own, at_two, at_off}
 use Rattle.chain_grouping.specs.Map.{last_block, next_block}
@@ -24,7 +23,7 @@ use Rattle.chain_pieces.specs.Map.{group_block, join_block}
 pub word : (w : List ℕ) (a b i : ℕ) → get_or w (a + b + i) 0 ≡ get_or (drop a w) (b + i) 0
 word w a b i = let p : a + b + i ≡ a + (b + i) = omega arith in ap (λ (j : ℕ). get_or w j 0) p ∙ sym (get_or-drop a w (b + i) 0)
 
-module _ {width : ℕ} {w : List ℕ} {n m : ℕ} {on : Bool} {limit : Float} {input spare : List ℕ} (y : Noded width w n m on limit input spare) (e : ℕ) (he : e < m) where
+module _ {width : ℕ} {w : List ℕ} {n m : ℕ} {limit : Maybe Float} {input spare : List ℕ} (y : Noded width w n m limit input spare) (e : ℕ) (he : e < m) where
   abbrev v : List ℕ
   v = drop (n * group_block) w
 
@@ -67,18 +66,29 @@ module _ {width : ℕ} {w : List ℕ} {n m : ℕ} {on : Bool} {limit : Float} {i
           (sym (ap (fill before) (at_two y.rule y.ps v m e y.nodes he leads f at_v (omega arith) (next_word z) q)))
           (joined_put H (joins_room y) (omega (arith, ends_few y)))
 
-      pub step_off : (get_or w (n * group_block + m * next_block + f) 0 ≡ 0 → ⊥) → on ≡ false → Joined w w n m (fill before adds)
+      pub step_off : (get_or w (n * group_block + m * next_block + f) 0 ≡ 0 → ⊥) → limit ≡ None → Joined w w n m (fill before adds)
       step_off z o =
           stays
           (at_off y.rule y.ps v m e y.nodes he leads f at_v (omega arith) (λ q. z (word w (n * group_block) (m * next_block) f ∙ q))
-          (y.limited ∙ ap (λ (t : Bool). cond t (some limit) none) o))
+          (y.limited ∙ ap limit_in o))
 
-      unfoldable pub step_junction : (get_or w (n * group_block + m * next_block + f) 0 ≡ 0 → ⊥) → on ≡ true → Junction width w n m e limit input spare
-      step_junction z o =
+      unfoldable pub step_junction : (get_or w (n * group_block + m * next_block + f) 0 ≡ 0 → ⊥) → {x : Float} → limit ≡ Some x → Junction width w n m e x input spare
+      step_junction z {x} o =
           record {
-            on = on;
-            switched = o;
-            noded = y;
+            noded = record {
+              rule = y.rule;
+              counts = y.counts;
+              ps = y.ps;
+              two = y.two;
+              few = y.few;
+              ends = y.ends;
+              room = y.room;
+              held = y.held;
+              limited = y.limited ∙ ap limit_in o;
+              fair = λ z q. y.fair z (o ∙ q);
+              nodes = y.nodes;
+              keys = y.keys;
+            };
             within = he;
             leads = leads;
             more = omega (arith, at_v);

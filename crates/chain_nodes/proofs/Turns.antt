@@ -2,7 +2,6 @@
 use Prim.Native.Nat.{ℕ, ◌+◌, ◌*◌, ◌/◌, ◌≤◌, ◌<◌}
 use mathlib.Core.Path.{◌≡◌, refl, sym, ap, ◌∙◌, subst}
 use mathlib.Core.Logic.{◌≢◌}
-use mathlib.Core.Bool.{Bool}
 use mathlib.Core.List.{List, [], ◌∷◌, ◌++◌, map, flat_map, append-nil, append_assoc}
 use mathlib.Core.Option.{Option, none}
 use native.Mathlib.Omega.{arith}
@@ -11,6 +10,7 @@ use borrow.Author.Tests.{le-leb, lt-leb}
 use lib.Ieee.{Float}
 use lib.ListN.{get_or, drop}
 use lib.Seq.{slice}
+use Rattle.std.specs.Prelude.{Option as Maybe}
 use Rattle.rules.specs.Selecting.{Pair}
 use Rattle.rules.specs.Chaining.{Piece, Rule, chosen, joined}
 use Rattle.rules.specs.Lists.{keep, from, upto}
@@ -82,7 +82,7 @@ one_more rule ps v m i =
           ∙ ap (λ (l : List (ℕ × ℕ)). flat_map (joined rule ps) (runs_to v m i) ++ l) (sym (at_leader rule ps v m i (omega arith)))
     ]
 
-module _ {width : ℕ} {w₀ : List ℕ} {n m : ℕ} {on : Bool} {limit : Float} {input spare : List ℕ} (y : Noded width w₀ n m on limit input spare) where
+module _ {width : ℕ} {w₀ : List ℕ} {n m : ℕ} {limit : Maybe Float} {input spare : List ℕ} (y : Noded width w₀ n m limit input spare) where
   -- the joins of the nodes that the first e ends lead
   abbrev pub Joining : List ℕ → ℕ → Type 0
   Joining w e = Joined w w₀ n m (fill (slice (n * join_block) (n * join_block + m) w₀) (flat_map (joined y.rule y.ps) (runs_to (drop (n * group_block) w₀) m e)))

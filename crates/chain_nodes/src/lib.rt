@@ -38,20 +38,19 @@ fn join_junction<'a>(
     chain_joins::put_joins(w, n * JOINS, m, n * NODE, d, n * PAIRING + d * PAIRS, r);
 }
 
-// The joins of the node that e leads, if it leads one.
+// The joins of the node that e leads, if it leads one. Junctions are paired down to the limit, if there is one.
 fn join_node<'a>(
     w: &mut [u64],
     n: usize,
     m: usize,
     e: usize,
-    on: bool,
-    limit: f64,
+    limit: Option<f64>,
     width: usize,
     input: &'a [u64],
     spare: &'a [u64],
 )
-    requires { Noded width w.old n m on limit input.now spare.now × (e < m) }
-    ensures { (y : Noded width w.old n m on limit input.now spare.now)
+    requires { Noded width w.old n m limit input.now spare.now × (e < m) }
+    ensures { (y : Noded width w.old n m limit input.now spare.now)
         → Joined w.new w.old n m
         (fill (slice (n * join_block) (n * join_block + m) w.old)
         (joins_at y.rule y.ps (drop (n * group_block) w.old) m e)) }
@@ -60,19 +59,20 @@ fn join_node<'a>(
     if (w[groups + m * LAST + e] as usize) < e {
         return;
     }
-    let f = w[groups + m * NEXT + e] as usize;
-    if f == 0 {
+    let Some(f) = chain_grouping::next_end(w[groups + m * NEXT + e]) else {
         return;
-    }
-    if w[groups + m * NEXT + f] == 0 {
-        if e / 2 == f / 2 {
-            return;
+    };
+    match chain_grouping::next_end(w[groups + m * NEXT + f]) {
+        None => {
+            if e / 2 != f / 2 {
+                chain_joins::put_join(w, n * JOINS, m, e, f);
+            }
         }
-        chain_joins::put_join(w, n * JOINS, m, e, f);
-        return;
-    }
-    if on {
-        join_junction(w, n, m, e, limit, width, input, spare);
+        Some(_) => {
+            if let Some(limit) = limit {
+                join_junction(w, n, m, e, limit, width, input, spare);
+            }
+        }
     }
 }
 
@@ -81,21 +81,18 @@ pub fn join_nodes<'a>(
     w: &mut [u64],
     n: usize,
     m: usize,
-    on: bool,
-    limit: f64,
+    limit: Option<f64>,
     width: usize,
     input: &'a [u64],
     spare: &'a [u64],
 )
-    requires { Noded width w.old n m on limit input.now spare.now }
-    ensures { (y : Noded width w.old n m on limit input.now spare.now)
+    requires { Noded width w.old n m limit input.now spare.now }
+    ensures { (y : Noded width w.old n m limit input.now spare.now)
         → Joined w.new w.old n m
         (fill (slice (n * join_block) (n * join_block + m) w.old)
         (flat_map (joined y.rule y.ps) (runs_to (drop (n * group_block) w.old) m m))) }
 {
-    let mut e = 0;
-    while e < m {
-        join_node(w, n, m, e, on, limit, width, input, spare);
-        e += 1;
+    for e in 0..m {
+        join_node(w, n, m, e, limit, width, input, spare);
     }
 }

@@ -7,8 +7,8 @@ use mathlib.Core.List.{List, [], ◌∷◌, ◌++◌, map}
 use mathlib.Core.Option.{Option}
 use lib.Ieee.{Float, binary64, div, lt}
 use lib.ListN.{length}
-use Rattle.rules.specs.declared.Grid.{Grid}
-use Rattle.rules.specs.declared.Grid.TheVariants.{Cells}
+use Rattle.rules.specs.Answers.{Grid}
+use Rattle.rules.specs.Answers.{Cells}
 use Rattle.rules.specs.declared.Settings.{Settings}
 use Rattle.rules.specs.Lists.{keep, upto}
 use Rattle.rules.specs.Cell.{floor64}

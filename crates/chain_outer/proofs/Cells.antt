@@ -10,7 +10,7 @@ use lib.Dec.{T}
 use lib.Ieee.{Float, nan, inf, fin, binary64, neg, add, sub, div, eq}
 use lib.Ieee.Positive.{den, den_pos}
 use lib.Ieee.Scale.{finite}
-use Rattle.rules.specs.declared.Grid.TheVariants.{Cells}
+use Rattle.rules.specs.Answers.{Cells}
 use Rattle.rules.specs.Cell.{floor64, cell}
 use Rattle.rules.specs.Plane.{Point, key, float, equal, cell_key, key_of}
 use Rattle.float_order.proofs.Order.{plus, less, left, fin_eq}

@@ -11,8 +11,8 @@ use borrow.Author.Tests.{eqb-true, eqb-false, eq-eqb, ne_eqb}
 use lib.Dec.{eqb}
 use lib.Ieee.{Float}
 use lib.ListN.{length, get_or, length-map, length-reverse, get_or-map}
-use Rattle.rules.specs.declared.Grid.{Grid}
-use Rattle.rules.specs.declared.Grid.TheVariants.{Cells}
+use Rattle.rules.specs.Answers.{Grid}
+use Rattle.rules.specs.Answers.{Cells}
 use Rattle.rules.specs.Lists.{count}
 use Rattle.rules.specs.Plane.{Point, equal, key_of}
 use Rattle.rules.specs.Walking.{piece_of, side_of, other, walks}

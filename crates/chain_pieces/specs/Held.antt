@@ -12,6 +12,7 @@ use Rattle.rules.specs.Pieces.{LentPieces, lent_pieces, first_member, member_cou
 use Rattle.point_numbers.specs.Width.{AllWide}
 use Rattle.rules.specs.Refusals.{piece_size, source_of}
 use Rattle.chain_laws.proofs.Drawn.{Drawn}
+use Rattle.chain_pieces.specs.declared.Record.{Record}
 use Rattle.chain_pieces.specs.Map.{join_block, listing_block, mark_block, member_block}
 
 abbrev pub lines_of : List Piece → List ℕ
@@ -28,6 +29,14 @@ listing_of ps = flat_map (λ p. p.listing) ps
 -- the record of piece q, where the records start at `base`
 abbrev pub record_of : ℕ → ℕ → ℕ
 record_of base q = base + q * piece_size
+
+-- the record that is read there
+pub record Reads (w : List ℕ) (p : ℕ) (r : Record) : Type 0 where
+  pub member : r.member ≡ get_or w p 0
+  pub members : r.members ≡ get_or w (p + 1) 0
+  pub source : r.source ≡ get_or w (p + 2) 0
+  pub point : r.point ≡ get_or w (p + 3) 0
+  pub points : r.points ≡ get_or w (p + 4) 0
 
 -- the coordinates that it names, of the input or of the copies
 unfoldable pub coordinates_at : ℕ → List ℕ → ℕ → List ℕ → List ℕ → List ℕ

@@ -3,7 +3,7 @@
 
 ghost use Rattle.std.specs.Prelude.{[], ◌∷◌, ◌+◌, ◌≤◌, length, ◌≡◌};
 ghost use Rattle.point_slices.specs.Holds.{HoldsFrom};
-ghost use Rattle.chain_pieces.specs.Held.{coordinates_at, Recorded};
+ghost use Rattle.chain_pieces.specs.Held.{coordinates_at, Reads, Recorded};
 
 // The map of a round's part of the workspace, in words for each line of the call: where each block begins. specs/Map.antt has the same numbers.
 
@@ -34,24 +34,43 @@ pub const PAIRING: usize = 23;
 // The ends grouped by key, and their keys.
 pub const GROUPS: usize = 151;
 
-// Five numbers as the record at `at`.
-pub fn put_record(
-    w: &mut [u64],
-    at: usize,
-    member: u64,
-    members: u64,
-    source: u64,
-    point: u64,
-    points: u64,
-)
-    requires { at + 5 ≤ length w.old }
-    ensures { HoldsFrom w.new w.old at 5 (member ∷ members ∷ source ∷ point ∷ points ∷ []) }
-{
-    w[at] = member;
-    w[at + 1] = members;
-    w[at + 2] = source;
-    w[at + 3] = point;
-    w[at + 4] = points;
+// A piece's record: where its members begin and how many they are, the source of its coordinates (0 for the input, 1 for the copies, as a chain's record has
+// it), and where its points begin there and how many they are.
+#[derive(Clone, Copy)]
+pub struct Record {
+    pub member: u64,
+    pub members: u64,
+    pub source: u64,
+    pub point: u64,
+    pub points: u64,
+}
+
+impl Record {
+    // The record that stands at p.
+    pub fn read(w: &[u64], p: usize) -> Record
+        requires { p + 5 ≤ length w.now }
+        ensures { Reads w.now p result }
+    {
+        Record {
+            member: w[p],
+            members: w[p + 1],
+            source: w[p + 2],
+            point: w[p + 3],
+            points: w[p + 4],
+        }
+    }
+
+    // Five numbers as the record at `at`.
+    pub fn put(self, w: &mut [u64], at: usize)
+        requires { at + 5 ≤ length w.old }
+        ensures { HoldsFrom w.new w.old at 5 (self.member ∷ self.members ∷ self.source ∷ self.point ∷ self.points ∷ []) }
+    {
+        w[at] = self.member;
+        w[at + 1] = self.members;
+        w[at + 2] = self.source;
+        w[at + 3] = self.point;
+        w[at + 4] = self.points;
+    }
 }
 
 // The coordinates of the piece whose record stands at p, a part of the input or of the copies.
@@ -65,10 +84,12 @@ pub fn coordinates_of<'a>(
     requires { Recorded width w.now p input.now copies.now }
     ensures { result.now ≡ coordinates_at width w.now p input.now copies.now }
 {
-    let from = w[p + 3] as usize * width;
-    let to = from + w[p + 4] as usize * width;
-    if w[p + 2] == 0 {
-        return &input[from..to];
+    let r = Record::read(w, p);
+    let from = r.point as usize * width;
+    let to = from + r.points as usize * width;
+    if r.source == 0 {
+        &input[from..to]
+    } else {
+        &copies[from..to]
     }
-    &copies[from..to]
 }

@@ -8,7 +8,7 @@ use lib.ListN.{length, get_or, drop, length-drop}
 use lib.Seq.{get_or-drop}
 use borrow.Rule.Slice.PartMut.{mid_of, put_mid}
 use Rattle.rules.specs.declared.Settings.{Settings}
-use Rattle.rules.specs.declared.Grid.{Grid}
+use Rattle.rules.specs.Answers.{Grid}
 use Rattle.rules.specs.Plane.{same_key}
 use Rattle.rules.specs.Chaining.{key_at, rule_of}
 use Rattle.point_slices.proofs.Laws.{mid_rest}

@@ -1,6 +1,6 @@
 -- The round as a whole: what each phase asks of the one before, and what comes out.
 use Prim.Native.Nat.{ℕ, ◌+◌, ◌*◌, ◌≤◌}
-use mathlib.Core.Path.{◌≡◌, refl, sym, ◌∙◌, subst}
+use mathlib.Core.Path.{◌≡◌, refl, sym, ap, ◌∙◌, subst}
 use mathlib.Core.Bool.{Bool, true, false, cond}
 use mathlib.Core.Option.{Option, none, some}
 use mathlib.Core.List.{List, map}
@@ -9,13 +9,15 @@ use lib.Dec.{eqb}
 use lib.Ieee.{Float}
 use lib.ListN.{length, length-map}
 use Rattle.rules.specs.declared.Settings.{Settings}
-use Rattle.rules.specs.declared.Grid.{Grid}
+use Rattle.std.specs.Prelude.{Option as Maybe, Some, None}
+use Rattle.rules.specs.Refusals.{limit_bad}
+use Rattle.rules.specs.Answers.{Grid}
 use Rattle.rules.specs.Chaining.{Piece, limit_of, rule_of, merge, join, partner}
 use Rattle.rules.specs.Walking.{walks}
-use Rattle.chain_nodes.specs.Noded.{Noded}
+use Rattle.chain_nodes.specs.Noded.{limit_in, Noded}
 use Rattle.chain_merging.specs.Emit.{Walks, Done}
 use Rattle.chain_merging.proofs.Joined.{walks_held, joined_are, few_walks}
-use Rattle.chain_round.specs.Round.{EndsStand, RoundWalked, Walkable, Joinable, GroupedRound, RoundEmits, Rounded, RoundEmitted}
+use Rattle.chain_round.specs.Round.{paired_to, EndsStand, RoundWalked, Walkable, Joinable, GroupedRound, RoundEmits, Rounded, RoundEmitted}
 use Rattle.chain_pieces.specs.Map.{join_block, taken_block}
 use Rattle.chain_walks.specs.Map.{entry_block, length_block}
 
@@ -31,14 +33,30 @@ limit_is s = go (eqb s.switch 1)
     go true = refl
     go false = refl
 
+-- the same of the limit that is handed on, and that it is fair
+pub paired_is : (s : Settings) → limit_of s ≡ limit_in (paired_to s)
+unfolding limit_of
+paired_is s = go (eqb s.switch 1)
+  where
+    go : (t : Bool) → ◌≡◌ {A = Option Float} (elim t [ true ↦ some s.limit | false ↦ none ]) (limit_in (cond t (Some s.limit) None))
+    go true = refl
+    go false = refl
+
+pub fair_is : (s : Settings) → (eqb s.switch 1 ≡ true → limit_bad s.limit ≡ false) → (x : Float) → paired_to s ≡ Some x → limit_bad x ≡ false
+fair_is s h x = go (eqb s.switch 1) h
+  where
+    go : (t : Bool) → (t ≡ true → limit_bad s.limit ≡ false) → cond t (Some s.limit) None ≡ Some x → limit_bad x ≡ false
+    go true h e = let q : s.limit ≡ x = cc in subst (λ (y : Float). limit_bad y ≡ false) q (h refl)
+    go false h e = cc
+
 module _ (grid : Grid) {width : ℕ} {w₀ : List ℕ} {n m : ℕ} {s : Settings} {groups input spare : List ℕ}
     (y : Walkable width w₀ n m s groups input spare) where
   pub two_ends : m * 2 ≡ 2 * length y.rounding.ps
   two_ends = omega (arith, y.rounding.number)
 
   -- what walking asks
-  abbrev pub grouped_noded : {w₁ : List ℕ} → EndsStand width w₁ n (m * 2) (rule_of grid s) y.rounding.counts y.rounding.ps input spare → Noded width w₁ n (m * 2) (eqb s.switch 1) s.limit input spare
-  grouped_noded E =
+  abbrev pub grouped_noded : {l : Maybe Float} → l ≡ paired_to s → {w₁ : List ℕ} → EndsStand width w₁ n (m * 2) (rule_of grid s) y.rounding.counts y.rounding.ps input spare → Noded width w₁ n (m * 2) l input spare
+  grouped_noded q E =
       record {
         rule = rule_of grid s;
         counts = y.rounding.counts;
@@ -48,20 +66,20 @@ module _ (grid : Grid) {width : ℕ} {w₀ : List ℕ} {n m : ℕ} {s : Settings
         ends = two_ends;
         room = E.room;
         held = E.held;
-        limited = limit_is s;
-        fair = y.fair;
+        limited = paired_is s ∙ sym (ap limit_in q);
+        fair = λ x p. fair_is s y.fair x (sym q ∙ p);
         nodes = E.nodes;
         keys = E.keys;
       }
 
 -- the second half of a round
-abbrev pub grouped_round : (grid : Grid) {width : ℕ} {w₀ w₁ : List ℕ} {n m : ℕ} {s : Settings} {groups input spare merged : List ℕ}
-    (y : Joinable width w₀ n m s groups input spare merged) → EndsStand width w₁ n (m * 2) (rule_of grid s) y.walkable.rounding.counts y.walkable.rounding.ps input spare
-    → GroupedRound width w₁ n m (eqb s.switch 1) s.limit input spare merged
-grouped_round grid y E = record { noded = grouped_noded grid y.walkable E; fits = y.fits }
+abbrev pub grouped_round : (grid : Grid) {width : ℕ} {w₀ w₁ : List ℕ} {n m : ℕ} {s : Settings} {groups input spare merged : List ℕ} {l : Maybe Float} → l ≡ paired_to s
+    → (y : Joinable width w₀ n m s groups input spare merged) → EndsStand width w₁ n (m * 2) (rule_of grid s) y.walkable.rounding.counts y.walkable.rounding.ps input spare
+    → GroupedRound width w₁ n m l input spare merged
+grouped_round grid q y E = record { noded = grouped_noded grid y.walkable q E; fits = y.fits }
 
-abbrev pub walked_round : {width : ℕ} {w₀ w₁ : List ℕ} {n m r : ℕ} {on : Bool} {limit : Float} {input spare merged : List ℕ}
-    (y : GroupedRound width w₀ n m on limit input spare merged) → RoundWalked width w₁ n m r y.noded.rule y.noded.counts y.noded.ps input spare
+abbrev pub walked_round : {width : ℕ} {w₀ w₁ : List ℕ} {n m r : ℕ} {limit : Maybe Float} {input spare merged : List ℕ}
+    (y : GroupedRound width w₀ n m limit input spare merged) → RoundWalked width w₁ n m r y.noded.rule y.noded.counts y.noded.ps input spare
     → RoundEmits width w₁ n m r input spare merged
 walked_round {m = m} y W =
     record {

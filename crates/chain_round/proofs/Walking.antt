@@ -1,7 +1,6 @@
 -- From grouped ends to walks: a table of zeros, filled node by node, is that of the partners, and the walks over it are the book's.
 use Prim.Native.Nat.{ℕ, ◌+◌, ◌-◌, ◌*◌, ◌≤◌, ◌<◌}
 use mathlib.Core.Path.{◌≡◌, sym, ap, ◌∙◌, subst}
-use mathlib.Core.Bool.{Bool}
 use mathlib.Core.Option.{Option}
 use mathlib.Core.List.{List, map, flatten, flat_map}
 use native.Mathlib.Omega.{arith}
@@ -10,6 +9,7 @@ use lib.Ieee.{Float}
 use lib.ListN.{length, get_or, take, drop, replicate, length-drop, length-replicate, get_or-replicate, get_or-eq_default}
 use lib.Seq.{slice, get_or-drop, ext_get_or, drop-drop}
 use borrow.Rule.Slice.PartMut.{mid_of, put_mid}
+use Rattle.std.specs.Prelude.{Option as Maybe}
 use Rattle.rules.specs.Walking.{walks}
 use Rattle.rules.specs.Chaining.{Piece, Rule, joined, partner}
 use Rattle.rules.specs.Calls.{cleared}
@@ -43,7 +43,7 @@ zeros_are : (l : List ℕ) (k : ℕ) → length l ≡ k → ((i : ℕ) → i < k
 zeros_are l k e z =
     ext_get_or 0 l (replicate k 0) (e ∙ sym (length-replicate {A = ℕ} k 0)) (λ i h. z i (omega arith) ∙ sym (get_or-replicate k i 0 0 (omega arith)))
 
-module _ {width : ℕ} {w₀ : List ℕ} {n : ℕ} (m : ℕ) {on : Bool} {limit : Float} {input spare : List ℕ} (y : Noded width w₀ n (m * 2) on limit input spare) where
+module _ {width : ℕ} {w₀ : List ℕ} {n : ℕ} (m : ℕ) {limit : Maybe Float} {input spare : List ℕ} (y : Noded width w₀ n (m * 2) limit input spare) where
   abbrev rule : Rule
   rule = y.rule
 
@@ -87,7 +87,7 @@ module _ {width : ℕ} {w₀ : List ℕ} {n : ℕ} (m : ℕ) {on : Bool} {limit 
     pub groups_kept : drop (n * group_block) w₁ ≡ drop (n * group_block) w₀
     groups_kept = drop_same w₁ w₀ (n * group_block) size₁ (λ j a. same₁ j (omega (arith, few)))
 
-    abbrev pub noded₁ : Noded width w₁ n (m * 2) on limit input spare
+    abbrev pub noded₁ : Noded width w₁ n (m * 2) limit input spare
     noded₁ = noded_kept y w₁ size₁ block_kept groups_kept
 
     -- ---- the joins

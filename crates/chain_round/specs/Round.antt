@@ -1,6 +1,6 @@
 -- One round in its part w of the workspace, for n lines: what it asks, what stands after each phase, and what comes out. The pieces ps and the lines'
 -- counts are known to the caller alone.
-use Rattle.std.specs.Prelude.{ℕ, ◌+◌, ◌*◌, ◌≤◌, ◌<◌, ◌≡◌, Bool, true, false, eqb, Float, length, drop}
+use Rattle.std.specs.Prelude.{ℕ, ◌+◌, ◌*◌, ◌≤◌, ◌<◌, ◌≡◌, true, false, cond, Option, Some, None, eqb, Float, length, drop}
 use mathlib.Core.List.{List, map, flatten, flat_map}
 use Rattle.std.proofs.Math.Seq.{slice}
 use Rattle.rules.specs.declared.Settings.{Settings}
@@ -55,9 +55,13 @@ pub record Joinable (width : ℕ) (w : List ℕ) (n m : ℕ) (s : Settings) (gro
   pub walkable : Walkable width w n m s groups input spare
   pub fits : total (map (λ (p : Piece). length p.points) walkable.rounding.ps) * width ≤ length merged
 
+-- the limit of junction pairing, where it is on
+abbrev pub paired_to : Settings → Option Float
+paired_to s = cond (eqb s.switch 1) (Some s.limit) None
+
 -- its second half, where the ends are grouped
-pub record GroupedRound (width : ℕ) (w : List ℕ) (n m : ℕ) (on : Bool) (limit : Float) (input spare merged : List ℕ) : Type 0 where
-  pub noded : Noded width w n (m * 2) on limit input spare
+pub record GroupedRound (width : ℕ) (w : List ℕ) (n m : ℕ) (limit : Option Float) (input spare merged : List ℕ) : Type 0 where
+  pub noded : Noded width w n (m * 2) limit input spare
   pub fits : total (map (λ (p : Piece). length p.points) noded.ps) * width ≤ length merged
 
 -- and its end, where r walks stand

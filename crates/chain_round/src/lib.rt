@@ -2,11 +2,11 @@
 // in the block at its front. chain_pieces has the map.
 #![tactic(auto)]
 
-ghost use Rattle.std.specs.Prelude.{◌*◌};
+ghost use Rattle.std.specs.Prelude.{◌≡◌, ◌*◌};
 ghost use Rattle.rules.specs.declared.Settings.{Settings};
 ghost use Rattle.rules.specs.Chaining.{rule_of, join};
 ghost use Rattle.chain_nodes.specs.Noded.{Noded};
-ghost use Rattle.chain_round.specs.Round.{Rounding, EndsStand, RoundWalked, Walkable, RoundEmits, RoundEmitted, GroupedRound, Joinable, Rounded};
+ghost use Rattle.chain_round.specs.Round.{paired_to, Rounding, EndsStand, RoundWalked, Walkable, RoundEmits, RoundEmitted, GroupedRound, Joinable, Rounded};
 
 use chain_grouping::KEYS;
 use chain_pieces::{GROUPS, JOINS, MEMBERS, TAKEN};
@@ -46,24 +46,30 @@ fn group_ends<'a>(
     chain_grouping::group(&mut w[at..], ends);
 }
 
+// Down to which limit junctions are paired, where they are.
+pub fn pairing_limit(settings: Settings) -> Option<f64>
+    ensures { result ≡ paired_to settings }
+{
+    (settings.switch == 1).then_some(settings.limit)
+}
+
 // The walks of m pieces whose ends are grouped: their entries and their lengths. Returns how many there are.
 fn walk_pieces<'a>(
     w: &mut [u64],
     n: usize,
     m: usize,
-    on: bool,
-    limit: f64,
+    limit: Option<f64>,
     width: usize,
     input: &'a [u64],
     spare: &'a [u64],
 ) -> usize
-    requires { Noded width w.old n (m * 2) on limit input.now spare.now }
-    ensures { (y : Noded width w.old n (m * 2) on limit input.now spare.now)
+    requires { Noded width w.old n (m * 2) limit input.now spare.now }
+    ensures { (y : Noded width w.old n (m * 2) limit input.now spare.now)
         → RoundWalked width w.new n m result y.rule y.counts y.ps input.now spare.now }
 {
     let joins = n * JOINS;
     point_slices::clear(&mut w[joins..], m * ENTRIES);
-    chain_nodes::join_nodes(w, n, m * 2, on, limit, width, input, spare);
+    chain_nodes::join_nodes(w, n, m * 2, limit, width, input, spare);
     chain_walks::walk_all(&mut w[joins..], m)
 }
 
@@ -83,9 +89,8 @@ pub fn walk_round<'a>(
     ensures { (y : Walkable width w.old n m settings groups.now input.now spare.now)
         → RoundWalked width w.new n m result (rule_of grid settings) y.rounding.counts y.rounding.ps input.now spare.now }
 {
-    let on = settings.switch == 1;
     group_ends(w, n, m, grid, width, groups, input, spare);
-    walk_pieces(w, n, m, on, settings.limit, width, input, spare)
+    walk_pieces(w, n, m, pairing_limit(settings), width, input, spare)
 }
 
 // The pieces of the r walks of m pieces.
@@ -124,19 +129,18 @@ pub fn join_grouped<'a>(
     w: &mut [u64],
     n: usize,
     m: usize,
-    on: bool,
-    limit: f64,
+    limit: Option<f64>,
     width: usize,
     input: &'a [u64],
     spare: &'a [u64],
     merged: &mut [u64],
 ) -> usize
-    requires { GroupedRound width w.old n m on limit input.now spare.now merged.old }
-    ensures { (y : GroupedRound width w.old n m on limit input.now spare.now merged.old)
+    requires { GroupedRound width w.old n m limit input.now spare.now merged.old }
+    ensures { (y : GroupedRound width w.old n m limit input.now spare.now merged.old)
         → Rounded width w.new w.old n result input.now merged.new merged.old
         y.noded.counts (join y.noded.rule y.noded.ps) }
 {
-    let r = walk_pieces(w, n, m, on, limit, width, input, spare);
+    let r = walk_pieces(w, n, m, limit, width, input, spare);
     emit_round(w, n, m, r, width, input, spare, merged);
     r
 }
@@ -159,7 +163,15 @@ pub fn join_pieces<'a>(
         → Rounded width w.new w.old n result input.now merged.new merged.old
         y.walkable.rounding.counts (join (rule_of grid settings) y.walkable.rounding.ps) }
 {
-    let on = settings.switch == 1;
     group_ends(w, n, m, grid, width, groups, input, spare);
-    join_grouped(w, n, m, on, settings.limit, width, input, spare, merged)
+    join_grouped(
+        w,
+        n,
+        m,
+        pairing_limit(settings),
+        width,
+        input,
+        spare,
+        merged,
+    )
 }

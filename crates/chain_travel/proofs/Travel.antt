@@ -12,7 +12,7 @@ use lib.Dec.{eqb}
 use lib.Ieee.{lt}
 use lib.ListN.{length, get_or}
 use Rattle.rules.specs.declared.Settings.{Settings}
-use Rattle.rules.specs.declared.Grid.TheVariants.{Exact}
+use Rattle.rules.specs.Answers.{Exact}
 use Rattle.rules.specs.Lists.{count, upto, first_place}
 use Rattle.rules.specs.Plane.{nought}
 use Rattle.rules.specs.Chaining.{Piece, Line, lay, plain, alone, pieces, rule_of, cells_of, join, round_one, round_two, chains}

@@ -1,5 +1,5 @@
 -- The loop of `walk_on`: an entry and a mark are stored, the table names the next entry, and the walk that is left is one entry shorter.
-use Prim.Native.Nat.{ℕ, zero, suc, ◌+◌, ◌-◌, ◌*◌, ◌/◌, ◌≤◌, ◌<◌}
+use Prim.Native.Nat.{ℕ, suc, ◌+◌, ◌-◌, ◌*◌, ◌/◌, ◌≤◌, ◌<◌}
 use mathlib.Core.Path.{◌≡◌, refl, sym, ap, ap₂, ◌∙◌, subst}
 use mathlib.Core.Logic.{◌≢◌}
 use mathlib.Core.List.{List, [], ◌∷◌, ◌++◌, append_assoc, append-nil}
@@ -28,20 +28,14 @@ module _ (t : List ℕ) (n : ℕ) (seen : List ℕ) (e k : ℕ) (h : k < n) wher
   unfolding forward_m decode
   step_free q = rw left (rw (read t (other e) 0 q))
 
-  step_seen : (f : ℕ) → get_or t (other e) 0 ≡ f → f ≢ 0 → get_or (set seen (e / 2) 1) ((f - 1) / 2) 0 ≡ 1 → forward_m t (n - k) seen e ≡ e ∷ []
+  step_seen : (g : ℕ) → get_or t (other e) 0 ≡ suc g → get_or (set seen (e / 2) 1) (g / 2) 0 ≡ 1 → forward_m t (n - k) seen e ≡ e ∷ []
   unfolding forward_m decode
-  step_seen zero q d m = absurd (d refl)
-  step_seen (suc g) q d m =
-      let same : suc g - 1 ≡ g = omega arith in
-      rw left (rw (read t (other e) (suc g) q, eq-eqb (get_or (set seen (e / 2) 1) (piece_of g) 0) 1 (rw same at m)))
+  step_seen g q m = rw left (rw (read t (other e) (suc g) q, eq-eqb (get_or (set seen (e / 2) 1) (piece_of g) 0) 1 m))
 
-  step_on : (f : ℕ) → get_or t (other e) 0 ≡ f → f ≢ 0 → get_or (set seen (e / 2) 1) ((f - 1) / 2) 0 ≢ 1
-      → forward_m t (n - k) seen e ≡ e ∷ forward_m t (n - (k + 1)) (set seen (e / 2) 1) (f - 1)
+  step_on : (g : ℕ) → get_or t (other e) 0 ≡ suc g → get_or (set seen (e / 2) 1) (g / 2) 0 ≢ 1
+      → forward_m t (n - k) seen e ≡ e ∷ forward_m t (n - (k + 1)) (set seen (e / 2) 1) g
   unfolding forward_m decode
-  step_on zero q d m = absurd (d refl)
-  step_on (suc g) q d m =
-      let same : suc g - 1 ≡ g = omega arith in
-      rw left (rw (read t (other e) (suc g) q, ne_eqb (get_or (set seen (e / 2) 1) (piece_of g) 0) 1 (λ z. m (rw same z)), same))
+  step_on g q m = rw left (rw (read t (other e) (suc g) q, ne_eqb (get_or (set seen (e / 2) 1) (piece_of g) 0) 1 m))
 
 -- k entries of the walk are written, and it goes on at e
 pub record Going (w₀ : List ℕ) (n first at : ℕ) (w : List ℕ) (e k : ℕ) : Type 0 where
@@ -149,35 +143,32 @@ module _ (w₀ : List ℕ) (n first at : ℕ) (a : Walkable w₀ n first at) whe
           (ap (λ (l : List ℕ). o.out ++ l) (sym q) ∙ o.goes)
           (ap (marked o.seen) (sym q) ∙ o.marks) out_long
 
-      abbrev pub f : ℕ
-      f = get_or after (other e) 0
+      join_is : get_or after (other e) 0 ≡ get_or (joins_of n w₀) (other e) 0
+      join_is = read_join (other e) (omega (arith, o.low))
 
-      f_is : f ≡ get_or (joins_of n w₀) (other e) 0
-      f_is = read_join (other e) (omega (arith, o.low))
+      pub at_free : get_or after (other e) 0 ≡ 0 → Walked after w₀ n first at (k + 1)
+      at_free q = last (step_free (joins_of n w₀) n o.seen e k h (sym join_is ∙ q))
 
-      pub f_small : f ≤ 2 * n
-      f_small = omega (arith, f_is, a.table.named (other e))
+      module _ (g : ℕ) (q : get_or after (other e) 0 ≡ suc g) where
+        pub partner_in : g < 2 * n
+        partner_in = omega (arith, join_is, a.table.named (other e))
 
-      pub at_free : f ≡ 0 → Walked after w₀ n first at (k + 1)
-      at_free q = last (step_free (joins_of n w₀) n o.seen e k h (sym f_is ∙ q))
+        pub at_seen : get_or after (2 * n + g / 2) 0 ≡ 1 → Walked after w₀ n first at (k + 1)
+        at_seen m = last (step_seen (joins_of n w₀) n o.seen e k h g (sym join_is ∙ q) (sym (read_mark (g / 2) (omega (arith, partner_in))) ∙ m))
 
-      pub at_seen : f ≢ 0 → get_or after (2 * n + (f - 1) / 2) 0 ≡ 1 → Walked after w₀ n first at (k + 1)
-      at_seen d q =
-          last (step_seen (joins_of n w₀) n o.seen e k h f (sym f_is) d (sym (read_mark ((f - 1) / 2) (omega (arith, f_small, d))) ∙ q))
-
-      pub at_next : f ≢ 0 → get_or after (2 * n + (f - 1) / 2) 0 ≢ 1 → Going w₀ n first at after (f - 1) (k + 1)
-      unfolding marked
-      at_next d q =
-          let on = step_on (joins_of n w₀) n o.seen e k h f (sym f_is) d (λ z. q (read_mark ((f - 1) / 2) (omega (arith, f_small, d)) ∙ z)) in
-          record {
-            seen = set o.seen (e / 2) 1;
-            out = o.out ++ (e ∷ []);
-            seen_size = length-set o.seen (e / 2) 1 ∙ o.seen_size;
-            out_size = out_long;
-            low = omega (arith, f_small, d);
-            turns = omega arith;
-            size = after_size;
-            whole = after_whole;
-            goes = append_assoc o.out (e ∷ []) (forward_m (joins_of n w₀) (n - (k + 1)) (set o.seen (e / 2) 1) (f - 1)) ∙ ap (λ (l : List ℕ). o.out ++ l) (sym on) ∙ o.goes;
-            marks = ap (marked o.seen) (sym on) ∙ o.marks;
-          }
+        pub at_next : get_or after (2 * n + g / 2) 0 ≢ 1 → Going w₀ n first at after g (k + 1)
+        unfolding marked
+        at_next m =
+            let on = step_on (joins_of n w₀) n o.seen e k h g (sym join_is ∙ q) (λ z. m (read_mark (g / 2) (omega (arith, partner_in)) ∙ z)) in
+            record {
+              seen = set o.seen (e / 2) 1;
+              out = o.out ++ (e ∷ []);
+              seen_size = length-set o.seen (e / 2) 1 ∙ o.seen_size;
+              out_size = out_long;
+              low = partner_in;
+              turns = omega arith;
+              size = after_size;
+              whole = after_whole;
+              goes = append_assoc o.out (e ∷ []) (forward_m (joins_of n w₀) (n - (k + 1)) (set o.seen (e / 2) 1) g) ∙ ap (λ (l : List ℕ). o.out ++ l) (sym on) ∙ o.goes;
+              marks = ap (marked o.seen) (sym on) ∙ o.marks;
+            }

@@ -1,11 +1,16 @@
 -- Walks in a workspace of n pieces: 2 n joins, n marks of visited pieces, n entries, n lengths. What stands beyond these 5 n words stays.
-use Rattle.std.specs.Prelude.{ℕ, ◌+◌, ◌*◌, ◌≤◌, ◌<◌, ◌≡◌, length, take, drop, replicate}
+use Rattle.std.specs.Prelude.{ℕ, suc, Option, Some, None, ◌+◌, ◌*◌, ◌≤◌, ◌<◌, ◌≡◌, length, take, drop, replicate}
 use mathlib.Core.List.{List, ◌++◌, map, flatten}
 use Rattle.std.proofs.Math.Seq.{slice}
 use Rattle.chain_laws.specs.Joins.{Joins}
 use Rattle.rules.specs.Walking.{walks}
 use Rattle.chain_laws.specs.Table.{from_table, Table, forward_m, marked}
 use Rattle.chain_walks.specs.Map.{visited_block, entry_block, length_block, walk_room}
+
+-- the word of a partner in the table of joins: 1 more than its number, or 0 for none
+abbrev pub join_word : Option ℕ → ℕ
+join_word None = 0
+join_word (Some f) = suc f
 
 abbrev pub joins_of : ℕ → List ℕ → List ℕ
 joins_of n w = take (2 * n) w

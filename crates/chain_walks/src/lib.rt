@@ -1,9 +1,10 @@
 // From a table of partners to walks, in one workspace of n pieces: 2 n joins, n marks of visited pieces, n entries, n lengths.
 #![tactic(auto)]
 
-ghost use Rattle.std.specs.Prelude.{◌≡◌, ◌<◌};
+ghost use Rattle.std.specs.Prelude.{◌≡◌, ◌<◌, ◌^◌};
+ghost use Rattle.rules.specs.Walking.{other};
 ghost use Rattle.chain_laws.specs.Table.{Table, head_of};
-ghost use Rattle.chain_walks.specs.Walks.{Walkable, Walked, WalksReady, AllWalked};
+ghost use Rattle.chain_walks.specs.Walks.{join_word, Walkable, Walked, WalksReady, AllWalked};
 
 // Where the blocks of the part in which pieces are walked begin, in words for each piece. The joins stand first, two a piece.
 pub const VISITED: usize = 2;
@@ -12,24 +13,35 @@ pub const ENTRIES: usize = 3;
 
 pub const LENGTHS: usize = 4;
 
+// The end that a word of the table of joins names: the word is one more than the end, or 0 for none.
+fn partner(word: u64) -> Option<usize>
+    ensures { join_word result ≡ word }
+{
+    (word as usize).checked_sub(1)
+}
+
+// The other end of the same piece.
+fn other(e: usize) -> usize
+    requires { e < 2 ^ 63 }
+    ensures { result ≡ other e }
+{
+    e + 1 - 2 * (e % 2)
+}
+
 // The head of the walk of `start`: back over the joins to a free end, or the start's end 0 in a ring.
 fn head(joins: &[u64], n: usize, start: usize) -> usize
     requires { Table n joins.now × (start < n) }
     ensures { result ≡ head_of joins.now n start }
 {
     let mut e = 2 * start;
-    let mut k: usize = 0;
-    while k < n {
-        let f = joins[e] as usize;
-        if f == 0 {
+    for _k in 0..n {
+        let Some(g) = partner(joins[e]) else {
             return e;
-        }
-        let g = f - 1;
+        };
         if g / 2 == start {
             return 2 * start;
         }
-        e = g + 1 - 2 * (g % 2);
-        k += 1;
+        e = other(g);
     }
     2 * start
 }
@@ -40,22 +52,18 @@ fn walk_on(w: &mut [u64], n: usize, first: usize, at: usize) -> usize
     ensures { Walked w.new w.old n first at result }
 {
     let mut e = first;
-    let mut k: usize = 0;
-    while k < n {
+    for k in 0..n {
         w[ENTRIES * n + at + k] = e as u64;
         w[VISITED * n + e / 2] = 1;
-        k += 1;
-        let f = w[e + 1 - 2 * (e % 2)] as usize;
-        if f == 0 {
-            return k;
-        }
-        let g = f - 1;
+        let Some(g) = partner(w[other(e)]) else {
+            return k + 1;
+        };
         if w[VISITED * n + g / 2] == 1 {
-            return k;
+            return k + 1;
         }
         e = g;
     }
-    k
+    n
 }
 
 // All walks, in order of their starts: their entries one behind another, and the length of each. Returns how many there are.
@@ -63,10 +71,9 @@ pub fn walk_all(w: &mut [u64], n: usize) -> usize
     requires { WalksReady w.old n }
     ensures { AllWalked w.new w.old n result }
 {
-    let mut s: usize = 0;
     let mut at: usize = 0;
     let mut c: usize = 0;
-    while s < n {
+    for s in 0..n {
         if w[VISITED * n + s] != 1 {
             let e = head(&w[..VISITED * n], n, s);
             let r = walk_on(w, n, e, at);
@@ -74,7 +81,6 @@ pub fn walk_all(w: &mut [u64], n: usize) -> usize
             at += r;
             c += 1;
         }
-        s += 1;
     }
     c
 }

@@ -8,8 +8,8 @@ use native.Mathlib.Omega.{arith}
 use lib.Dec.{ltb, leb}
 use lib.ListN.{length, get_or, take, drop}
 use borrow.Author.Tests.{le-ltb, lt-leb}
-use Rattle.rules.specs.declared.Answer.{Answer}
-use Rattle.rules.specs.declared.Answer.TheVariants.{Accepted}
+use Rattle.rules.specs.Answers.{Answer}
+use Rattle.rules.specs.Answers.{Accepted}
 use Rattle.rules.specs.declared.Settings.{Settings}
 use Rattle.rules.specs.Lists.{count, total, upto, any_of}
 use Rattle.rules.specs.Plane.{points, flat}

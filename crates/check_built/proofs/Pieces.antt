@@ -10,8 +10,9 @@ use lib.Dec.{eqb}
 use lib.IntN.{ℤ}
 use lib.Ieee.{lt}
 use Rattle.rules.specs.declared.Meeting.{Meeting}
-use Rattle.rules.specs.declared.Grid.{Grid}
-use Rattle.rules.specs.declared.Grid.TheVariants.{Exact, Cells}
+use Rattle.std.specs.Prelude.{Some}
+use Rattle.rules.specs.Answers.{Grid}
+use Rattle.rules.specs.Answers.{Exact, Cells}
 use Rattle.rules.specs.Lists.{count}
 use Rattle.rules.specs.Plane.{Point, Key, key, same_int, same_key, exact_key, cell_key, key_of, nought}
 use Rattle.rules.specs.Chaining.{Piece, Line}
@@ -33,7 +34,7 @@ key_parts g h a b c d e = (cc, cc)
 pub bare_key : (grid : Grid) (g h : ℕ) (p q : Point) → key_of grid g p ≡ key_of grid h q → key_of grid 0 p ≡ key_of grid 0 q
 unfolding key_of exact_key cell_key
 bare_key Exact g h p q e = let t = key_parts g h _ _ _ _ e in ap₂ (λ (a b : ℤ). key 0 a b) t.0 t.1
-bare_key (Cells t ox oy) g h p q e = let s = key_parts g h _ _ _ _ e in ap₂ (λ (a b : ℤ). key 0 a b) s.0 s.1
+bare_key (Some m) g h p q e = let s = key_parts g h _ _ _ _ e in ap₂ (λ (a b : ℤ). key 0 a b) s.0 s.1
 
 int_self : (a : ℤ) → same_int a a ≡ true
 int_self (lib.IntN.pos a) = borrow.Author.Tests.eq-eqb a a refl

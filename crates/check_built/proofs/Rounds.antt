@@ -14,7 +14,7 @@ use lib.ListN.{length, get_or, length-append, length-reverse}
 use borrow.Author.Tests.{leb-true}
 use Rattle.rules.specs.declared.Meeting.{Meeting}
 use Rattle.rules.specs.declared.Settings.{Settings}
-use Rattle.rules.specs.declared.Grid.TheVariants.{Exact, Cells}
+use Rattle.rules.specs.Answers.{Exact, Cells}
 use Rattle.rules.specs.Lists.{count, first_place}
 use Rattle.rules.specs.Plane.{Point, point, key, float, equal, key_of, cell_key, nought}
 use Rattle.rules.specs.Walking.{piece_of, side_of}

@@ -10,7 +10,7 @@ use lib.Ieee.{lt}
 use lib.ListN.{length, get_or}
 use borrow.Author.Tests.{eqb-true, eq-eqb, ne_eqb, eqb-false}
 use Rattle.rules.specs.declared.Meeting.{Meeting}
-use Rattle.rules.specs.declared.Grid.TheVariants.{Exact, Cells}
+use Rattle.rules.specs.Answers.{Exact, Cells}
 use Rattle.rules.specs.Plane.{Point, Key, key, same_int, same_key, key_of, nought}
 use Rattle.rules.specs.Check.{one_key, meet}
 use Rattle.check_built.specs.Runs.{first_of, last_of, meets_all, turned_runs}

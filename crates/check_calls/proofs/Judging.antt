@@ -1,6 +1,6 @@
 -- Chains one after another: the marks are how often each line was listed, so that at the end each line stands once exactly if each has its mark and none was
 -- met again.
-use Prim.Native.Nat.{ℕ, suc, ◌+◌, ◌-◌, ◌≤◌, ◌<◌}
+use Prim.Native.Nat.{ℕ, suc, ◌+◌, ◌≤◌, ◌<◌}
 use mathlib.Core.Path.{◌≡◌, refl, sym, ap, ap₂, ◌∙◌}
 use mathlib.Core.Bool.{Bool, true, false, ◌&&◌, true≢false}
 use mathlib.Core.Logic.{◌⊎◌, inl, inr}
@@ -8,10 +8,10 @@ use mathlib.Core.List.{List, [], ◌∷◌, ◌++◌, map, flat_map}
 use native.Mathlib.Omega.{arith}
 use native.Mathlib.Numerals.{add-one}
 use lib.Dec.{eqb}
-use lib.ListN.{length, get_or, drop, replicate, length-replicate, get_or-replicate}
+use lib.ListN.{length, get_or, drop, replicate, get_or-replicate}
 use borrow.Author.Tests.{eq-eqb, ne_eqb}
 use Rattle.rules.specs.declared.Meeting.{Meeting}
-use Rattle.rules.specs.Lists.{count, upto, all_of}
+use Rattle.rules.specs.Lists.{one, count, upto, all_of}
 use Rattle.rules.specs.Plane.{points}
 use Rattle.rules.specs.Chaining.{Line}
 use Rattle.rules.specs.Layout.{lent, lines_in}
@@ -21,8 +21,8 @@ use Rattle.chain_laws.proofs.Counts.{upto_length}
 use Rattle.chain_laws.proofs.Room.{lines_length}
 use Rattle.lent_laws.proofs.Tests.{flat_suc, flat_none, flat_part}
 use Rattle.check_laws.proofs.Rows.{all_next, all_stop, all_end, all_fails, each_all, all_map, upto_at}
-use Rattle.check_lines.specs.Lines.{AllSeen}
-use Rattle.check_calls.specs.Deliveries.{RecordFine, SeenMarked, fits_at, ChainJudged, delivered_by}
+use Rattle.check_lines.specs.Lines.{mark, AllSeen}
+use Rattle.check_calls.specs.Deliveries.{RecordFine, fits_at, ChainJudged, delivered_by}
 use Rattle.check_calls.proofs.Records.{flat_below}
 
 flat_map_lem : {A : Type 0} (f : A → List ℕ) (g : ℕ → A) (l : List ℕ) → flat_map f (map g l) ≡ flat_map (λ (k : ℕ). f (g k)) l
@@ -61,25 +61,18 @@ module _ (m : Meeting) (w : ℕ) (coordinates counts groups kinds merged table l
       (all_map (λ (c : Delivered). fits m (lines_of all c) c.coordinates) (delivered_by w coordinates merged table listing) (upto n))
 
   -- with the first k looked at
-  pub record Judging (n : ℕ) (seen : List ℕ) (k : ℕ) : Type 0 where
+  pub record Judging (n : ℕ) (seen : List Bool) (k : ℕ) : Type 0 where
     pub within : k ≤ n
-    pub long : length seen ≡ most_lines
-    pub counted : (y : ℕ) → y < most_lines → get_or seen y 0 ≡ listings k y
-    pub small : (y : ℕ) → y < most_lines → get_or seen y 0 ≤ 1
+    pub counted : (y : ℕ) → y < most_lines → mark seen y ≡ listings k y
     pub fit : all_of fitting (drop k (upto n)) ≡ all_of fitting (upto n)
 
-  pub judging_start : (n : ℕ) → Judging n (replicate 4096 0) 0
+  pub judging_start : (n : ℕ) → Judging n (replicate 4096 false) 0
   judging_start n =
       record {
         within = omega arith;
-        long = length-replicate {A = ℕ} 4096 0;
-        counted = λ y h. get_or-replicate {A = ℕ} 4096 y 0 0 h ∙ sym (flat_none listed y);
-        small = λ y h. omega (arith, get_or-replicate {A = ℕ} 4096 y 0 0 h);
+        counted = λ y h. ap one (get_or-replicate {A = Bool} 4096 y false false h) ∙ sym (flat_none listed y);
         fit = refl;
       }
-
-  pub judging_marked : (n : ℕ) (seen : List ℕ) (k : ℕ) → Judging n seen k → SeenMarked seen
-  judging_marked n seen k j = record { long = j.long; small = j.small }
 
   module _ (n : ℕ) (few : length counts ≤ most_lines) (good : (k : ℕ) → k < n → RecordFine w (length counts) coordinates merged table listing k) where
     -- a line that isn't listed once
@@ -94,7 +87,7 @@ module _ (m : Meeting) (w : ℕ) (coordinates counts groups kinds merged table l
     listed_below : (y : ℕ) → 0 < listings n y → y < length counts
     listed_below y h = flat_below (length counts) listed n (λ j b. (good j b).below) y h
 
-    module _ (seen seen' : List ℕ) (k : ℕ) (j : Judging n seen k) (h : k < n) (r : Bool) (d : ChainJudged m w coordinates counts groups kinds merged table listing k seen seen' r) where
+    module _ (seen seen' : List Bool) (k : ℕ) (j : Judging n seen k) (h : k < n) (r : Bool) (d : ChainJudged m w coordinates counts groups kinds merged table listing k seen seen' r) where
       this : get_or (upto n) k 0 ≡ k
       this = upto_at n k h
 
@@ -105,16 +98,14 @@ module _ (m : Meeting) (w : ℕ) (coordinates counts groups kinds merged table l
       judging_next e =
           record {
             within = omega arith;
-            long = d.long;
             counted = λ y b. d.added e y b ∙ ap (λ (i : ℕ). i + count y (listed k)) (j.counted y b) ∙ sym (flat_suc listed k y) ∙ ap (λ (i : ℕ). listings i y) (sym (add-one k));
-            small = λ y b. d.small e y b;
             fit = sym (all_next fitting (upto n) k 0 there (ap fitting this ∙ d.fitting e)) ∙ j.fit;
           }
 
       pub judging_stop : r ≡ false → false ≡ acceptable m all (chains n)
       judging_stop e = go (d.wrong e)
         where
-          go : ((y : ℕ) × (y < most_lines) × (1 < get_or seen y 0 + count y (listed k))) ⊎ (fitting k ≡ false) → false ≡ acceptable m all (chains n)
+          go : ((y : ℕ) × (y < most_lines) × (1 < mark seen y + count y (listed k))) ⊎ (fitting k ≡ false) → false ≡ acceptable m all (chains n)
           go (inl t) =
               let y = t.0 in
               let c : 1 < listings n y = omega (arith, t.2, j.counted y t.1, flat_suc listed k y, flat_part listed y (suc k) n (omega arith)) in
@@ -127,10 +118,10 @@ module _ (m : Meeting) (w : ℕ) (coordinates counts groups kinds merged table l
               ∙ and_right (all_of (λ (y : ℕ). eqb (listings n y) 1) (upto (length counts))))
 
     -- all were looked at
-    pub judged_all : (seen : List ℕ) (k : ℕ) → Judging n seen k → n ≤ k → (r : Bool) → AllSeen seen (length counts) r → r ≡ acceptable m all (chains n)
+    pub judged_all : (seen : List Bool) (k : ℕ) → Judging n seen k → n ≤ k → (r : Bool) → AllSeen seen (length counts) r → r ≡ acceptable m all (chains n)
     judged_all seen k j h r a = go r refl
       where
-        same : (y : ℕ) → y < length counts → get_or seen y 0 ≡ listings n y
+        same : (y : ℕ) → y < length counts → mark seen y ≡ listings n y
         same y b = let q : k ≡ n = omega (arith, j.within) in j.counted y (omega arith) ∙ ap (λ (i : ℕ). listings i y) q
 
         go : (b : Bool) → r ≡ b → r ≡ acceptable m all (chains n)
@@ -144,30 +135,25 @@ module _ (m : Meeting) (w : ℕ) (coordinates counts groups kinds merged table l
             (λ i b.
             let c : i < length counts = omega (arith, upto_length (length counts)) in
             ap (λ (z : ℕ). eqb (listings n z) 1) (upto_at (length counts) i c)
-            ∙ eq-eqb (listings n i) 1 (omega (arith, same i c, a.every e i c, j.small i (omega arith)))))
+            ∙ eq-eqb (listings n i) 1 (omega (arith, same i c, a.every e i c))))
             (sym j.fit ∙ all_end fitting (upto n) k (omega (arith, upto_length n))))
 
   -- ---- one chain
 
-  module _ (k : ℕ) (seen seen' : List ℕ) (long : length seen' ≡ most_lines) where
+  module _ (k : ℕ) (seen seen' : List Bool) where
     -- a line was met again
-    pub judged_twice : ((y : ℕ) × (y < most_lines) × (1 < get_or seen y 0 + count y (listed k))) → ChainJudged m w coordinates counts groups kinds merged table listing k seen seen' false
+    pub judged_twice : ((y : ℕ) × (y < most_lines) × (1 < mark seen y + count y (listed k))) → ChainJudged m w coordinates counts groups kinds merged table listing k seen seen' false
     judged_twice t =
         record {
           added = λ e. absurd (true≢false (sym e));
-          small = λ e. absurd (true≢false (sym e));
           fitting = λ e. absurd (true≢false (sym e));
           wrong = λ e. inl t;
-          long = long;
         }
 
-    pub judged_fit : (r : Bool) → ((y : ℕ) → y < most_lines → get_or seen' y 0 ≡ get_or seen y 0 + count y (listed k)) → ((y : ℕ) → y < most_lines → get_or seen' y 0 ≤ 1)
-        → r ≡ fitting k → ChainJudged m w coordinates counts groups kinds merged table listing k seen seen' r
-    judged_fit r a s f =
+    pub judged_fit : (r : Bool) → ((y : ℕ) → y < most_lines → mark seen' y ≡ mark seen y + count y (listed k)) → r ≡ fitting k → ChainJudged m w coordinates counts groups kinds merged table listing k seen seen' r
+    judged_fit r a f =
         record {
           added = λ e. a;
-          small = λ e. s;
           fitting = λ e. sym f ∙ e;
           wrong = λ e. inr (sym f ∙ e);
-          long = long;
         }

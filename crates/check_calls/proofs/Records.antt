@@ -9,7 +9,7 @@ use native.Mathlib.Nat.{add-mul}
 use lib.Dec.{leb, ltb}
 use lib.ListN.{length, get_or, take, drop, length-take, length-drop}
 use borrow.Author.Tests.{lt-ltb, le-ltb, ltb-false, leb-false}
-use Rattle.rules.specs.Lists.{count, upto, any_of}
+use Rattle.rules.specs.Lists.{one, count, upto, any_of}
 use Rattle.rules.specs.Refusals.{entry, no_chain, source_of, record_size, most_lines}
 use Rattle.rules.specs.Check.{listed_at}
 use Rattle.point_numbers.specs.Width.{Whole}
@@ -19,7 +19,7 @@ use Rattle.build_question.proofs.Laws.{stands, part_there}
 use Rattle.lent_laws.proofs.Tests.{flat_suc, flat_none}
 use Rattle.check_laws.proofs.Rows.{none_each, upto_at}
 use Rattle.check_laws.proofs.Tests.{or_no, or_yes}
-use Rattle.check_lines.specs.Lines.{Below}
+use Rattle.check_lines.specs.Lines.{Below, mark}
 use Rattle.check_calls.specs.Deliveries.{bad_at, RecordFine}
 
 -- ---- a line that is listed is below n
@@ -56,6 +56,14 @@ few_listed n l h b o =
                 | no c ↦ omega arith
               ]
         ]
+
+-- a mark stands for one line at most
+pub mark_few : (seen : List Bool) (y : ℕ) → mark seen y ≤ 1
+mark_few seen y = one_few (get_or seen y false)
+  where
+    one_few : (b : Bool) → one b ≤ 1
+    one_few true = omega arith
+    one_few false = omega arith
 
 -- ---- a good record
 

@@ -1,12 +1,12 @@
 -- A delivery of chains by its numbers: lines of points of w numbers, and a table of records whose chains are looked at one after another.
-use Rattle.std.specs.Prelude.{ℕ, ◌+◌, ◌≤◌, ◌<◌, ◌≡◌, Bool, true, false, ◌||◌, ◌⊎◌, List, leb, ltb, length, get_or}
+use Rattle.std.specs.Prelude.{ℕ, ◌+◌, ◌≤◌, ◌<◌, ◌≡◌, Bool, true, false, ◌||◌, ◌⊎◌, List, leb, ltb, length}
 use Rattle.rules.specs.declared.Meeting.{Meeting}
 use Rattle.rules.specs.Lists.{count, any_of}
 use Rattle.rules.specs.Plane.{points}
 use Rattle.rules.specs.Refusals.{entry, no_chain, most_lines}
 use Rattle.rules.specs.Check.{Delivered, listed_at, fits}
 use Rattle.build_question.specs.Parts.{part_of}
-use Rattle.check_lines.specs.Lines.{Below}
+use Rattle.check_lines.specs.Lines.{Below, mark}
 use Rattle.check_fits.specs.Fits.{chosen}
 
 -- ---- records
@@ -27,22 +27,15 @@ delivered_by w coordinates merged table listing k = record { listed = listed_at 
 
 -- ---- chains
 
--- the marks of lines are 0 or 1
-pub record SeenMarked (seen : List ℕ) : Type 0 where
-  pub long : length seen ≡ most_lines
-  pub small : (y : ℕ) → y < most_lines → get_or seen y 0 ≤ 1
-
 -- whether chain k fits
 abbrev pub fits_at : Meeting → ℕ → (coordinates counts groups kinds merged table listing : List ℕ) → ℕ → Bool
 fits_at m w coordinates counts groups kinds merged table listing k =
     fits m (chosen w coordinates counts groups kinds (listed_at table listing k)) (points w (part_of w coordinates merged table k))
 
 -- r tells whether chain k fits and lists no line again; then its lines have their marks
-pub record ChainJudged (m : Meeting) (w : ℕ) (coordinates counts groups kinds merged table listing : List ℕ) (k : ℕ) (seen seen' : List ℕ) (r : Bool) : Type 0 where
-  pub added : r ≡ true → (y : ℕ) → y < most_lines → get_or seen' y 0 ≡ get_or seen y 0 + count y (listed_at table listing k)
-  pub small : r ≡ true → (y : ℕ) → y < most_lines → get_or seen' y 0 ≤ 1
+pub record ChainJudged (m : Meeting) (w : ℕ) (coordinates counts groups kinds merged table listing : List ℕ) (k : ℕ) (seen seen' : List Bool) (r : Bool) : Type 0 where
+  pub added : r ≡ true → (y : ℕ) → y < most_lines → mark seen' y ≡ mark seen y + count y (listed_at table listing k)
   pub fitting : r ≡ true → fits_at m w coordinates counts groups kinds merged table listing k ≡ true
   pub wrong : r ≡ false
-      → ((y : ℕ) × (y < most_lines) × (1 < get_or seen y 0 + count y (listed_at table listing k)))
+      → ((y : ℕ) × (y < most_lines) × (1 < mark seen y + count y (listed_at table listing k)))
       ⊎ (fits_at m w coordinates counts groups kinds merged table listing k ≡ false)
-  pub long : length seen' ≡ most_lines

@@ -2,115 +2,88 @@
 #![tactic(auto)]
 
 ghost use Rattle.std.specs.Prelude.{◌≡◌, [], ◌∷◌, ◌++◌, map, ℕ, ◌*◌, ◌≤◌, ◌<◌, ltb, length};
+ghost use Rattle.rules.specs.Answers.{answered, found};
 ghost use Rattle.rules.specs.Lists.{upto, any_of};
 ghost use Rattle.rules.specs.Layout.{lent, lines_in};
 ghost use Rattle.rules.specs.Refusals.{line_room, first_of, line_tests, origin_bad};
 ghost use Rattle.rules.specs.Check.{acceptable as acceptable_all, delivery, Checked};
-ghost use Rattle.check_chains.specs.Chains.{MarkRooms};
-ghost use Rattle.check_fits.specs.Fits.{Lined, LinesTabled};
-ghost use Rattle.check_calls.specs.Deliveries.{bad_at, RecordFine, SeenMarked, ChainJudged, delivered_by};
+ghost use Rattle.check_fits.specs.Fits.{Lined};
+ghost use Rattle.check_calls.specs.Deliveries.{bad_at, RecordFine, ChainJudged, delivered_by};
 
-use rules::{Answer, LINE_ROOM, MOST_LINES, Meeting, RECORD};
+use check_chains::Tables;
+use check_fits::Lines;
+use rules::{Answer, LINE_ROOM, MOST_LINES, Meeting, RECORD, Refusal};
+
+// The chains that are delivered: their table, the listing of their lines, and the coordinates that are theirs alone.
+#[derive(Clone, Copy)]
+struct Chains<'a> {
+    table: &'a [u32],
+    listing: &'a [u32],
+    merged: &'a [u64],
+}
 
 // ---- all chains
 
 // Whether chain k is acceptable, and none of its lines was listed before; each gets its mark.
-fn chain_at<'a>(
-    seen: &mut [u8; MOST_LINES],
-    marks: &mut [u8; MOST_LINES],
-    drawn_fits: &mut [u8; MOST_LINES],
-    turned_fits: &mut [u8; MOST_LINES],
-    near: &mut [u32; MOST_LINES],
-    coordinates: &'a [u64],
-    width: usize,
-    firsts: &[u32; MOST_LINES],
-    counts: &[u32],
-    groups: &[u32],
-    kinds: &[u8],
-    table: &[u32],
-    listing: &[u32],
-    merged: &'a [u64],
+fn chain_at(
+    seen: &mut [bool; MOST_LINES],
+    tables: &mut Tables,
+    lines: &Lines,
+    chains: &Chains,
     k: usize,
     m: Meeting,
 ) -> bool
-    requires { LinesTabled width coordinates.now firsts.now counts.now groups.now kinds.now
-        × RecordFine width (length counts.now) coordinates.now merged.now table.now listing.now k
-        × SeenMarked seen.old × MarkRooms marks.old drawn_fits.old turned_fits.old near.old }
-    ensures { ChainJudged m width coordinates.now counts.now groups.now kinds.now
-        merged.now table.now listing.now k seen.old seen.new result
-        × MarkRooms marks.new drawn_fits.new turned_fits.new near.new }
+    requires { RecordFine lines.now.width (length lines.now.counts.now) lines.now.coordinates.now chains.now.merged.now chains.now.table.now chains.now.listing.now k }
+    ensures { ChainJudged m lines.now.width lines.now.coordinates.now lines.now.counts.now lines.now.groups.now lines.now.kinds.now
+        chains.now.merged.now chains.now.table.now chains.now.listing.now k seen.old seen.new result }
 {
-    let from = table[k * RECORD] as usize;
-    let to = from + table[k * RECORD + 1] as usize;
-    if !check_lines::note(seen, &listing[from..to]) {
+    let from = chains.table[k * RECORD] as usize;
+    let to = from + chains.table[k * RECORD + 1] as usize;
+    if !check_lines::note(seen, &chains.listing[from..to]) {
         return false;
     }
-    let chain = build_question::part(coordinates, merged, table, width, k);
-    check_fits::chain_fits(
-        marks,
-        drawn_fits,
-        turned_fits,
-        near,
-        coordinates,
-        width,
-        firsts,
-        counts,
-        groups,
-        kinds,
-        &listing[from..to],
-        chain,
-        m,
-    )
+    let chain = build_question::part(
+        lines.coordinates,
+        chains.merged,
+        chains.table,
+        lines.width,
+        k,
+    );
+    check_fits::chain_fits(tables, lines, &chains.listing[from..to], chain, m)
 }
 
 // Whether the first n chains of a table are acceptable.
-fn acceptable<'a>(
-    coordinates: &'a [u64],
+fn acceptable(
+    coordinates: &[u64],
     width: usize,
     counts: &[u32],
     groups: &[u32],
     kinds: &[u8],
-    table: &[u32],
+    chains: &Chains,
     n: usize,
-    listing: &[u32],
-    merged: &'a [u64],
     m: Meeting,
 ) -> bool
     requires { Lined width coordinates.now counts.now groups.now kinds.now
-        × ((k : ℕ) → k < n → RecordFine width (length counts.now) coordinates.now merged.now table.now listing.now k) }
+        × ((k : ℕ) → k < n → RecordFine width (length counts.now) coordinates.now chains.now.merged.now chains.now.table.now chains.now.listing.now k) }
     ensures { result ≡ acceptable_all m (lines_in width (lent coordinates.now counts.now groups.now kinds.now))
-        (map (delivered_by width coordinates.now merged.now table.now listing.now) (upto n)) }
+        (map (delivered_by width coordinates.now chains.now.merged.now chains.now.table.now chains.now.listing.now) (upto n)) }
 {
     let mut firsts = [0u32; MOST_LINES];
-    let mut seen = [0u8; MOST_LINES];
-    let mut marks = [0u8; MOST_LINES];
-    let mut drawn_fits = [0u8; MOST_LINES];
-    let mut turned_fits = [0u8; MOST_LINES];
-    let mut near = [0u32; MOST_LINES];
     check_lines::first_places(counts, &mut firsts);
-    let mut k: usize = 0;
-    while k < n {
-        if !chain_at(
-            &mut seen,
-            &mut marks,
-            &mut drawn_fits,
-            &mut turned_fits,
-            &mut near,
-            coordinates,
-            width,
-            &firsts,
-            counts,
-            groups,
-            kinds,
-            table,
-            listing,
-            merged,
-            k,
-            m,
-        ) {
+    let lines = Lines {
+        coordinates,
+        width,
+        firsts: &firsts,
+        counts,
+        groups,
+        kinds,
+    };
+    let mut seen = [false; MOST_LINES];
+    let mut tables = Tables::new();
+    for k in 0..n {
+        if !chain_at(&mut seen, &mut tables, &lines, chains, k, m) {
             return false;
         }
-        k += 1;
     }
     check_lines::all_seen(&seen, counts.len())
 }
@@ -118,53 +91,27 @@ fn acceptable<'a>(
 // ---- refusals
 
 // Whether record k is no chain, or its lines leave the listing or name one that isn't there.
-fn bad_record(
-    coordinates: &[u64],
-    merged: &[u64],
-    table: &[u32],
-    width: usize,
-    listing: &[u32],
-    n: usize,
-    k: usize,
-) -> bool
+fn bad_record(coordinates: &[u64], chains: &Chains, width: usize, n: usize, k: usize) -> bool
     requires { width ≤ 4 }
-    ensures { result ≡ bad_at width n coordinates.now merged.now table.now listing.now k }
+    ensures { result ≡ bad_at width n coordinates.now chains.now.merged.now chains.now.table.now chains.now.listing.now k }
 {
-    if build_question::no_chain(coordinates, merged, table, width, k) {
+    if build_question::no_chain(coordinates, chains.merged, chains.table, width, k) {
         return true;
     }
-    let from = table[k * RECORD] as usize;
-    let to = from + table[k * RECORD + 1] as usize;
-    if listing.len() < to {
-        return true;
-    }
-    check_lines::any_beyond(&listing[from..to], n)
+    let from = chains.table[k * RECORD] as usize;
+    let to = from + chains.table[k * RECORD + 1] as usize;
+    chains.listing.len() < to || check_lines::any_beyond(&chains.listing[from..to], n)
 }
 
 // Whether one of the first k records is.
-fn any_bad(
-    coordinates: &[u64],
-    merged: &[u64],
-    table: &[u32],
-    width: usize,
-    listing: &[u32],
-    n: usize,
-    k: u64,
-) -> bool
+fn any_bad(coordinates: &[u64], chains: &Chains, width: usize, n: usize, k: u64) -> bool
     requires { width ≤ 4 }
-    ensures { result ≡ any_of (bad_at width n coordinates.now merged.now table.now listing.now) (upto k) }
+    ensures { result ≡ any_of (bad_at width n coordinates.now chains.now.merged.now chains.now.table.now chains.now.listing.now) (upto k) }
 {
-    let mut j: u64 = 0;
-    while j < k {
-        if bad_record(coordinates, merged, table, width, listing, n, j as usize) {
-            return true;
-        }
-        j += 1;
-    }
-    false
+    (0..k).any(|j| bad_record(coordinates, chains, width, n, j as usize))
 }
 
-// The refusals of the lines, of the corner and of the room, in their order, or 0.
+// Why the lines, the corner or the room are refused, in this order.
 fn refusal(
     wkb_type: u32,
     coordinates: &[u64],
@@ -173,21 +120,18 @@ fn refusal(
     kinds: &[u8],
     m: Meeting,
     room: usize,
-) -> u64
-    ensures { result ≡ first_of (line_tests wkb_type (lent coordinates.now counts.now groups.now kinds.now)
+) -> Result<(), Refusal>
+    ensures { found result ≡ first_of (line_tests wkb_type (lent coordinates.now counts.now groups.now kinds.now)
         ++ ((17, origin_bad m.origin_x m.origin_y) ∷ (7, ltb room (length counts.now * line_room)) ∷ [])) }
 {
-    let refused = build_refusals::line_refusal(wkb_type, coordinates, counts, groups, kinds);
-    if refused != 0 {
-        return refused;
-    }
+    build_refusals::line_refusal(wkb_type, coordinates, counts, groups, kinds)?;
     if build_refusals::origin_bad(m.origin_x, m.origin_y) {
-        return 17;
+        return Err(Refusal::BadOrigin);
     }
     if room < counts.len() * LINE_ROOM {
-        return 7;
+        return Err(Refusal::RoomTooShort);
     }
-    0
+    Ok(())
 }
 
 // Whether a delivery of chains is acceptable: accepted with 0. A refused call changes no slice.
@@ -206,9 +150,9 @@ pub fn check<'a>(
 ) -> Answer
     ensures { Checked (delivery wkb_type (lent coordinates.now counts.now groups.now kinds.now) m
         table.now k listing.now merged.now workspace.old)
-        result workspace.new }
+        (answered result) workspace.new }
 {
-    let refused = refusal(
+    refusal(
         wkb_type,
         coordinates,
         counts,
@@ -216,14 +160,16 @@ pub fn check<'a>(
         kinds,
         m,
         workspace.len(),
-    );
-    if refused != 0 {
-        return Answer::Refused(refused);
-    }
+    )?;
     let n = counts.len();
     let width = point_numbers::width_of(wkb_type);
-    if any_bad(coordinates, merged, table, width, listing, n, k) {
-        return Answer::Refused(23);
+    let chains = Chains {
+        table,
+        listing,
+        merged,
+    };
+    if any_bad(coordinates, &chains, width, n, k) {
+        return Err(Refusal::BadRecord);
     }
     if !acceptable(
         coordinates,
@@ -231,14 +177,12 @@ pub fn check<'a>(
         counts,
         groups,
         kinds,
-        table,
+        &chains,
         k as usize,
-        listing,
-        merged,
         m,
     ) {
-        return Answer::Refused(24);
+        return Err(Refusal::NotAcceptable);
     }
     point_slices::clear(workspace, n * LINE_ROOM);
-    Answer::Accepted(0)
+    Ok(0)
 }

@@ -2,16 +2,13 @@
 -- other mark comes to be there.
 use Prim.Native.Nat.{ℕ, suc, ◌+◌, ◌-◌, ◌*◌, ◌≤◌, ◌<◌}
 use mathlib.Core.Path.{◌≡◌, refl, sym, ap, ◌∙◌, subst}
-use mathlib.Core.Bool.{Bool, true, false, not, ◌&&◌, ◌||◌, cond, and-eq-true_iff}
+use mathlib.Core.Bool.{Bool, true, false, ◌&&◌, ◌||◌, cond, and-eq-true_iff}
 use mathlib.Core.Logic.{◌⊎◌, inl, inr}
 use mathlib.Core.List.{List}
 use native.Mathlib.Decide.{dec_lt}
 use native.Mathlib.Omega.{arith}
-use lib.Dec.{eqb}
 use lib.ListN.{get_or}
-use borrow.Author.Tests.{ne_eqb, eqb-false, not-true}
 use Rattle.rules.specs.declared.Meeting.{Meeting}
-use Rattle.rules.specs.Lists.{one}
 use Rattle.rules.specs.Plane.{Point}
 use Rattle.rules.specs.Refusals.{most_points}
 use Rattle.check_laws.specs.Standing.{size_of, fit_at, fresh_at, joint_at, LineLeads}
@@ -24,39 +21,32 @@ use Rattle.check_chains.specs.Chains.{Live, Steady, Steps}
 -- ---- where a mark comes from
 
 -- a line that fits goes on from the mark before or from the mark here
-goes : (fit opened : ℕ) (fresh : Bool) (here before : ℕ) → goes_on fit opened fresh here before ≡ true
-    → (fit ≡ 0 → ⊥) × ((shared opened before ≡ true) ⊎ ((fresh ≡ true) × (shared opened here ≡ true)))
+goes : (fit : Bool) (opened : ℕ) (fresh : Bool) (here before : ℕ) → goes_on fit opened fresh here before ≡ true
+    → (fit ≡ true) × ((shared opened before ≡ true) ⊎ ((fresh ≡ true) × (shared opened here ≡ true)))
 unfolding goes_on
 goes fit opened fresh here before e =
-    let a = (and-eq-true_iff (not (eqb fit 0)) (shared opened before || (fresh && shared opened here))).0 e in
-    (eqb-false fit 0 (not-true (eqb fit 0) a.0), go (shared opened before) refl a.1)
+    let a = (and-eq-true_iff fit (shared opened before || (fresh && shared opened here))).0 e in
+    (a.0, go (shared opened before) refl a.1)
   where
     go : (b : Bool) → shared opened before ≡ b → (shared opened before || (fresh && shared opened here)) ≡ true
         → (shared opened before ≡ true) ⊎ ((fresh ≡ true) × (shared opened here ≡ true))
     go true q f = inl q
     go false q f = inr (let t = (and-eq-true_iff fresh (shared opened here)).0 (sym (ap (λ (x : Bool). x || (fresh && shared opened here)) q) ∙ f) in (t.0, t.1))
 
-goes_before : (fit opened : ℕ) (fresh : Bool) (here before : ℕ) → fit ≡ 1 → shared opened before ≡ true → goes_on fit opened fresh here before ≡ true
+goes_before : (fit : Bool) (opened : ℕ) (fresh : Bool) (here before : ℕ) → fit ≡ true → shared opened before ≡ true → goes_on fit opened fresh here before ≡ true
 unfolding goes_on
 goes_before fit opened fresh here before e s =
-    (and-eq-true_iff (not (eqb fit 0)) (shared opened before || (fresh && shared opened here))).1
-    (ap not (ne_eqb fit 0 (λ z. omega arith)), ap (λ (x : Bool). x || (fresh && shared opened here)) s)
+    (and-eq-true_iff fit (shared opened before || (fresh && shared opened here))).1 (e, ap (λ (x : Bool). x || (fresh && shared opened here)) s)
 
-goes_here : (fit opened : ℕ) (fresh : Bool) (here before : ℕ) → fit ≡ 1 → fresh ≡ true → shared opened here ≡ true → goes_on fit opened fresh here before ≡ true
+goes_here : (fit : Bool) (opened : ℕ) (fresh : Bool) (here before : ℕ) → fit ≡ true → fresh ≡ true → shared opened here ≡ true → goes_on fit opened fresh here before ≡ true
 unfolding goes_on
 goes_here fit opened fresh here before e f s =
-    (and-eq-true_iff (not (eqb fit 0)) (shared opened before || (fresh && shared opened here))).1 (
-      ap not (ne_eqb fit 0 (λ z. omega arith)),
-      ap (λ (x : Bool). shared opened before || x) ((and-eq-true_iff fresh (shared opened here)).1 (f, s)) ∙ last (shared opened before),
-    )
+    (and-eq-true_iff fit (shared opened before || (fresh && shared opened here))).1
+    (e, ap (λ (x : Bool). shared opened before || x) ((and-eq-true_iff fresh (shared opened here)).1 (f, s)) ∙ last (shared opened before))
   where
     last : (x : Bool) → (x || true) ≡ true
     last true = refl
     last false = refl
-
-one_there : (b : Bool) → (one b ≡ 0 → ⊥) → b ≡ true
-one_there true h = refl
-one_there false h = absurd (h refl)
 
 -- ---- the marks before and after
 
@@ -68,8 +58,8 @@ module _ (m : Meeting) (chain p l : List Point) (i : ℕ) (marks : List ℕ) (h 
   opened e = open_to m p l e
 
   -- in a direction in which the line may be taken, a row tells where it fits, and the sizes told are its own
-  pub record Fits (e : Bool) (fits : List ℕ) (size : ℕ) : Type 0 where
-    pub told : (opened e ≡ 0 → ⊥) → (x : ℕ) → x < h.end - h.low + 1 → get_or fits x 0 ≡ one (fit_at chain e l (from + x))
+  pub record Fits (e : Bool) (fits : List Bool) (size : ℕ) : Type 0 where
+    pub told : (opened e ≡ 0 → ⊥) → (x : ℕ) → x < h.end - h.low + 1 → get_or fits x false ≡ fit_at chain e l (from + x)
     pub sized : (opened e ≡ 0 → ⊥) → (x : ℕ) → x < h.end - h.low + 1 → fit_at chain e l (from + x) ≡ true → size ≡ size_of l
     pub most : size ≤ size_of l
 
@@ -81,7 +71,7 @@ module _ (m : Meeting) (chain p l : List Point) (i : ℕ) (marks : List ℕ) (h 
       which true = refl
       which false = refl
 
-  module _ (drawnFits turnedFits : List ℕ) (a b size : ℕ) (fd : Fits false drawnFits a) (ft : Fits true turnedFits b)
+  module _ (drawnFits turnedFits : List Bool) (a b size : ℕ) (fd : Fits false drawnFits a) (ft : Fits true turnedFits b)
       (greater : (a ≤ size) × (b ≤ size) × ((size ≡ a) ⊎ (size ≡ b)))
       (marks' : List ℕ) (h' : Held) (base-is : h'.base ≡ h.base + size)
       (moves : (j : ℕ) → h.low ≤ j → j ≤ h.end → get_or marks' j 0 ≡ moved chain h.base h.low h.end (opened false) (opened true) drawnFits turnedFits marks j)
@@ -89,11 +79,11 @@ module _ (m : Meeting) (chain p l : List Point) (i : ℕ) (marks : List ℕ) (h 
       (low-none : (j : ℕ) → h.low ≤ j → j < h'.low → get_or marks' j 0 ≡ 0)
       (high-none : (j : ℕ) → h'.end ≤ j → j < h.end + 1 → get_or marks' j 0 ≡ 0)
       (low_there : h'.low < h.end + 1 → get_or marks' h'.low 0 ≡ 0 → ⊥) where
-    abbrev fits_of : Bool → List ℕ
+    abbrev fits_of : Bool → List Bool
     fits_of e = cond e turnedFits drawnFits
 
     -- what is told of both directions
-    told : (e : Bool) → (opened e ≡ 0 → ⊥) → (x : ℕ) → x < h.end - h.low + 1 → get_or (fits_of e) x 0 ≡ one (fit_at chain e l (from + x))
+    told : (e : Bool) → (opened e ≡ 0 → ⊥) → (x : ℕ) → x < h.end - h.low + 1 → get_or (fits_of e) x false ≡ fit_at chain e l (from + x)
     told true = ft.told
     told false = fd.told
 
@@ -114,7 +104,7 @@ module _ (m : Meeting) (chain p l : List Point) (i : ℕ) (marks : List ℕ) (h 
 
     -- the mark j in a direction
     abbrev on_mark : Bool → ℕ → Bool
-    on_mark e j = goes_on (get_or (fits_of e) (h.end - j) 0) (opened e) (fresh_at chain (h.base - j)) (mark_here marks h.end j) (mark_before marks h.low j)
+    on_mark e j = goes_on (get_or (fits_of e) (h.end - j) false) (opened e) (fresh_at chain (h.base - j)) (mark_here marks h.end j) (mark_before marks h.low j)
 
     mark_has : (e : Bool) (j : ℕ) → h.low ≤ j → j ≤ h.end → has e (get_or marks' j 0) ≡ on_mark e j
     unfolding moved
@@ -148,9 +138,9 @@ module _ (m : Meeting) (chain p l : List Point) (i : ℕ) (marks : List ℕ) (h 
         ways : opened e ≡ 0 → ⊥
         ways = has_there d (opened e) joint
 
-        fit_one : (j : ℕ) → h.low ≤ j → j ≤ h.end → h.base - j ≡ y.place → get_or (fits_of e) (h.end - j) 0 ≡ 1
+        fit_one : (j : ℕ) → h.low ≤ j → j ≤ h.end → h.base - j ≡ y.place → get_or (fits_of e) (h.end - j) false ≡ true
         fit_one j b c q =
-            told e ways (h.end - j) (room_of j b c) ∙ ap (λ (n : ℕ). one (fit_at chain e l n)) (place_of j b c ∙ q) ∙ ap one y.stands
+            told e ways (h.end - j) (room_of j b c) ∙ ap (fit_at chain e l) (place_of j b c ∙ q) ∙ y.stands
 
         done : (j : ℕ) → h.low ≤ j → j ≤ h.end → h.base - j ≡ y.place → j ≤ h.base → on_mark e j ≡ true → Live marks' h' e k'
         done j b c q z s =
@@ -172,7 +162,7 @@ module _ (m : Meeting) (chain p l : List Point) (i : ℕ) (marks : List ℕ) (h 
             let b : h.low ≤ j = omega (arith, v.low) in
             let c : j ≤ h.end = omega (arith, v.high) in
             done j b c r (omega (arith, v.place))
-            (goes_before (get_or (fits_of e) (h.end - j) 0) (opened e) (fresh_at chain (h.base - j)) (mark_here marks h.end j) (mark_before marks h.low j) (fit_one j b c r)
+            (goes_before (get_or (fits_of e) (h.end - j) false) (opened e) (fresh_at chain (h.base - j)) (mark_here marks h.end j) (mark_before marks h.low j) (fit_one j b c r)
             (way_shared d (opened e) (mark_before marks h.low j) joint
             (ap (has d) (sym (before_yes marks h.low j (omega (arith, v.low))) ∙ ap (λ (n : ℕ). get_or marks n 0) (less v.mark)) ∙ v.way)))
           where
@@ -184,13 +174,13 @@ module _ (m : Meeting) (chain p l : List Point) (i : ℕ) (marks : List ℕ) (h 
             let b : h.low ≤ j = v.low in
             let c : j ≤ h.end = omega (arith, v.high) in
             done j b c r (omega (arith, v.place))
-            (goes_here (get_or (fits_of e) (h.end - j) 0) (opened e) (fresh_at chain (h.base - j)) (mark_here marks h.end j) (mark_before marks h.low j) (fit_one j b c r)
+            (goes_here (get_or (fits_of e) (h.end - j) false) (opened e) (fresh_at chain (h.base - j)) (mark_here marks h.end j) (mark_before marks h.low j) (fit_one j b c r)
             (ap (fresh_at chain) r ∙ q.1) (way_shared d (opened e) (mark_here marks h.end j) joint (ap (has d) (sym (here_yes marks h.end j v.high)) ∙ v.way)))
 
     -- ---- and back
 
     back : (e : Bool) (k' : ℕ) → Live marks' h' e k' → (d : Bool) × (k : ℕ) × Live marks h d k × LineLeads m chain p l d e k k'
-    back e k' v = go (goes (get_or (fits_of e) (h.end - j) 0) (opened e) (fresh_at chain (h.base - j)) (mark_here marks h.end j) (mark_before marks h.low j) there)
+    back e k' v = go (goes (get_or (fits_of e) (h.end - j) false) (opened e) (fresh_at chain (h.base - j)) (mark_here marks h.end j) (mark_before marks h.low j) there)
       where
         j : ℕ
         j = v.mark
@@ -208,16 +198,16 @@ module _ (m : Meeting) (chain p l : List Point) (i : ℕ) (marks : List ℕ) (h 
         inside = steady.behind live
 
         -- the line stands at the place of the mark
-        stands : (opened e ≡ 0 → ⊥) → (get_or (fits_of e) (h.end - v.mark) 0 ≡ 0 → ⊥) → fit_at chain e l (h.base - v.mark) ≡ true
+        stands : (opened e ≡ 0 → ⊥) → get_or (fits_of e) (h.end - v.mark) false ≡ true → fit_at chain e l (h.base - v.mark) ≡ true
         stands o f =
             ap (fit_at chain e l) (sym (place_of v.mark at_least at_most))
-            ∙ one_there (fit_at chain e l (from + (h.end - v.mark))) (λ z. f (told e o (h.end - v.mark) (room_of v.mark at_least at_most) ∙ z))
+            ∙ sym (told e o (h.end - v.mark) (room_of v.mark at_least at_most)) ∙ f
 
         ends : (opened e ≡ 0 → ⊥) → fit_at chain e l (h.base - v.mark) ≡ true → k' ≡ h.base - v.mark + size_of l
         ends o f =
             omega (arith, v.place, base-is, inside, size_is e o (h.end - v.mark) (room_of v.mark at_least at_most) (ap (fit_at chain e l) (place_of v.mark at_least at_most) ∙ f))
 
-        go : ((get_or (fits_of e) (h.end - v.mark) 0 ≡ 0 → ⊥)
+        go : ((get_or (fits_of e) (h.end - v.mark) false ≡ true)
             × ((shared (opened e) (mark_before marks h.low v.mark) ≡ true) ⊎ ((fresh_at chain (h.base - v.mark) ≡ true) × (shared (opened e) (mark_here marks h.end v.mark) ≡ true))))
             → (d : Bool) × (k : ℕ) × Live marks h d k × LineLeads m chain p l d e k k'
         go s = which s.1
@@ -286,10 +276,10 @@ module _ (m : Meeting) (chain p l : List Point) (i : ℕ) (marks : List ℕ) (h 
         told_by e q =
             let j = h'.low in
             let c : j ≤ h.end = omega arith in
-            let g = goes (get_or (fits_of e) (h.end - j) 0) (opened e) (fresh_at chain (h.base - j)) (mark_here marks h.end j) (mark_before marks h.low j) q in
+            let g = goes (get_or (fits_of e) (h.end - j) false) (opened e) (fresh_at chain (h.base - j)) (mark_here marks h.end j) (mark_before marks h.low j) q in
             let o = ways e g.1 in
             size_is e o (h.end - j) (room_of j low-in c)
-            (one_there (fit_at chain e l (from + (h.end - j))) (λ z. g.0 (told e o (h.end - j) (room_of j low-in c) ∙ z)))
+            (sym (told e o (h.end - j) (room_of j low-in c)) ∙ g.0)
           where
             ways : (e : Bool) → (shared (opened e) (mark_before marks h.low h'.low) ≡ true) ⊎ ((fresh_at chain (h.base - h'.low) ≡ true) × (shared (opened e) (mark_here marks h.end h'.low) ≡ true))
                 → opened e ≡ 0 → ⊥

@@ -1,5 +1,5 @@
 -- The places that are still possible behind a line, and how a line leads from those to the next.
-use Rattle.std.specs.Prelude.{ℕ, ◌+◌, ◌-◌, ◌*◌, ◌≤◌, ◌<◌, ◌≡◌, Bool, true, not, ◌&&◌, ◌⊎◌, List, map, leb, ltb, eqb, length, get_or, take, drop}
+use Rattle.std.specs.Prelude.{ℕ, ◌+◌, ◌-◌, ◌*◌, ◌≤◌, ◌<◌, ◌≡◌, Bool, true, not, ◌&&◌, List, map, leb, ltb, eqb, length, get_or, take, drop}
 use Rattle.rules.specs.declared.Meeting.{Meeting}
 use Rattle.rules.specs.Plane.{Point, points}
 use Rattle.rules.specs.Refusals.{most_lines, most_points}
@@ -17,6 +17,14 @@ part l a b = take (b - a) (drop a l)
 
 abbrev pub line_at : ℕ → List ℕ → List ℕ → List ℕ → ℕ → List ℕ
 line_at w coordinates firsts counts y = part coordinates (get_or firsts y 0 * w) (get_or firsts y 0 * w + get_or counts y 0 * w)
+
+-- line y has its numbers among the coordinates
+pub record LineThere (w : ℕ) (coordinates firsts counts : List ℕ) (y : ℕ) : Type 0 where
+  pub few : y < most_lines
+  pub count_there : y < length counts
+  pub inside : get_or firsts y 0 * w + get_or counts y 0 * w ≤ length coordinates
+  pub short : length coordinates ≤ 262144
+  pub two : 2 ≤ w
 
 -- the place k is possible, with the last line in the direction d: its mark is looked at and has it
 pub record Live (marks : List ℕ) (h : Held) (d : Bool) (k : ℕ) : Type 0 where
@@ -87,22 +95,9 @@ ended_at marks h have =
     leb have h.base && (leb h.low (h.base - have) && (ltb (h.base - have) h.end && not (eqb (get_or marks (h.base - have) 0) 0)))
 
 -- where a line fits in a direction in which it may be taken
-pub record FilledOpen (opened w : ℕ) (chain line : List ℕ) (turned : Bool) (from n : ℕ) (fits' : List ℕ) (r : ℕ) : Type 0 where
+pub record FilledOpen (opened w : ℕ) (chain line : List ℕ) (turned : Bool) (from n : ℕ) (fits' : List Bool) (r : ℕ) : Type 0 where
   pub told : (opened ≡ 0 → ⊥) → PlacesFilled w chain line turned from n fits' r
   pub most : r ≤ length (laid_run turned (points w line))
-
--- the greater of two
-pub record Greater (a b r : ℕ) : Type 0 where
-  pub first : a ≤ r
-  pub second : b ≤ r
-  pub either : (r ≡ a) ⊎ (r ≡ b)
-
--- the tables' room
-pub record MarkRooms (marks drawnFits turnedFits near : List ℕ) : Type 0 where
-  pub marks_long : length marks ≡ most_lines
-  pub drawn_long : length drawnFits ≡ most_lines
-  pub turned_long : length turnedFits ≡ most_lines
-  pub near_long : length near ≡ most_lines
 
 -- what is known where a line goes on behind another
 pub record Advancing (w : ℕ) (chain p l marks : List ℕ) (h : Held) : Type 0 where

@@ -1,5 +1,5 @@
 -- A chain by its numbers: whether its lines may be joined, and the three kinds of chains.
-use Prim.Native.Nat.{ℕ, zero, suc, ◌+◌, ◌-◌, ◌*◌, ◌≤◌, ◌<◌}
+use Prim.Native.Nat.{ℕ, zero, suc, ◌+◌, ◌*◌, ◌≤◌, ◌<◌}
 use mathlib.Core.Path.{◌≡◌, refl, sym, ap, ap₂, ◌∙◌, subst}
 use mathlib.Core.Bool.{Bool, true, false}
 use mathlib.Core.List.{List, [], ◌∷◌, map}
@@ -20,12 +20,12 @@ use Rattle.check_laws.proofs.Tests.{and_no, and_yes}
 use Rattle.check_laws.proofs.Rows.{all_map, all_same}
 use Rattle.check_laws.proofs.Ways.{Sized}
 use Rattle.check_laws.proofs.Choosing.{points_of, choice_begun, begun_choice}
-use Rattle.check_chains.specs.Chains.{line_at, line_points, ChainDecided}
+use Rattle.check_chains.specs.Chains.{line_at, line_points, LineThere, ChainDecided}
 use Rattle.check_chains.proofs.Choosing.{part_length}
 use Rattle.check_lines.specs.Lines.{Below, plain_at, group_is}
 use Rattle.check_fits.specs.Fits.{LinesTabled, ChainLent, chosen}
 use Rattle.check_fits.proofs.Untouched.{untouched_numbers}
-use Rattle.check_fits.proofs.Lines.{line_of, line_inside, line_points_lem, line_group, line_plain, line_size, numbers_of, count_some}
+use Rattle.check_fits.proofs.Listed.{line_of, line_inside, coordinates_near, line_points_lem, line_group, line_plain, line_size, numbers_of, count_some}
 
 -- ---- two tests that hold in the same cases are one
 
@@ -54,7 +54,7 @@ fits_none m ps = go (agree [] ps)
 module _ (w : ℕ) (coordinates firsts counts groups kinds : List ℕ) (g : LinesTabled w coordinates firsts counts groups kinds) where
   -- ---- none
 
-  pub none_fits : (m : Meeting) (listed chain : List ℕ) → ChainLent w counts listed chain → length listed ≡ 0
+  pub none_fits : (m : Meeting) (listed chain : List ℕ) → ChainLent w counts listed chain → length listed < 1
       → eqb (length chain) 0 ≡ fits m (chosen w coordinates counts groups kinds listed) (points w chain)
   unfolding agree
   none_fits m [] chain c e = go (eqb (length chain) 0) refl ∙ sym (fits_none m (points w chain))
@@ -74,12 +74,10 @@ module _ (w : ℕ) (coordinates firsts counts groups kinds : List ℕ) (g : Line
 
   -- ---- one
 
-  pub lone_fits : (m : Meeting) (listed chain : List ℕ) → ChainLent w counts listed chain → length listed ≡ 1
-      → same_numbers (line_at w coordinates firsts counts (get_or listed 0 0)) chain ≡ fits m (chosen w coordinates counts groups kinds listed) (points w chain)
+  pub lone_fits : (m : Meeting) (y : ℕ) (chain : List ℕ) → ChainLent w counts (y ∷ []) chain
+      → same_numbers (line_at w coordinates firsts counts y) chain ≡ fits m (chosen w coordinates counts groups kinds (y ∷ [])) (points w chain)
   unfolding fits
-  lone_fits m [] chain c e = absurd (omega arith)
-  lone_fits m (y ∷ z ∷ listed) chain c e = absurd (omega arith)
-  lone_fits m (y ∷ []) chain c e =
+  lone_fits m y chain c =
       let b : y < length counts = c.below 0 (omega arith) in
       sym
       (ap (λ (p : List Point). untouched p (points w chain)) (line_points_lem w coordinates firsts counts groups kinds g y b)
@@ -88,6 +86,16 @@ module _ (w : ℕ) (coordinates firsts counts groups kinds : List ℕ) (g : Line
         number = get_or counts y 0;
         long = part_length coordinates (get_or firsts y 0 * w) (get_or counts y 0 * w) (line_inside w coordinates firsts counts groups kinds g y b);
       }) c.whole)
+
+  pub line_there : (y : ℕ) → y < length counts → LineThere w coordinates firsts counts y
+  line_there y b =
+      record {
+        few = omega (arith, g.lined.few);
+        count_there = b;
+        inside = line_inside w coordinates firsts counts groups kinds g y b;
+        short = coordinates_near w coordinates firsts counts groups kinds g;
+        two = g.lined.two;
+      }
 
   -- ---- more
 

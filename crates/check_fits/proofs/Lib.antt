@@ -1,3 +1,3 @@
 pub mod Untouched
-pub mod Lines
+pub mod Listed
 pub mod Joining

@@ -1,6 +1,6 @@
 -- Laws of the first elements that two lists have in common. A list has the other's first elements as far as they are in common; and lists that begin alike
 -- have as many in common with a third, as far as they do: this is what spares the points from being looked at once more.
-use Prim.Native.Nat.{ℕ, zero, suc, ◌+◌, ◌-◌, ◌≤◌, ◌<◌}
+use Prim.Native.Nat.{ℕ, zero, suc, ◌+◌, ◌≤◌, ◌<◌}
 use mathlib.Core.Path.{◌≡◌, refl, sym, ap, ap₂, ◌∙◌}
 use mathlib.Core.Bool.{Bool, true, false}
 use mathlib.Core.List.{List, [], ◌∷◌, ◌++◌, map}

@@ -5,3 +5,4 @@ pub mod Points
 pub mod Ways
 pub mod Going
 pub mod Choosing
+pub mod Iterating

@@ -1,6 +1,6 @@
 -- Points by what they are: two points are equal by `==` exactly where their values are the same, if one of them is no NaN. So a line, whose points are
 -- places, stands in a chain, whose points may be anything, exactly where its values do.
-use Prim.Native.Nat.{ℕ, zero, suc, ◌-◌, ◌≤◌}
+use Prim.Native.Nat.{ℕ, zero, suc, ◌≤◌}
 use mathlib.Core.Path.{◌≡◌, refl, sym, ap, ap₂, ◌∙◌, subst}
 use mathlib.Core.Bool.{Bool, true, false, not, ◌&&◌, and-eq-true_iff}
 use mathlib.Core.Logic.{◌⊎◌, inl, inr}

@@ -38,19 +38,9 @@ module _ {A : Type 0} (t : A → Bool) where
     pub all_stop : t (get_or l i d) ≡ false → all_of t (drop i l) ≡ false
     all_stop e = first (all_of t) ∙ all_no (get_or l i d) (drop (i + 1) l) e
 
-    pub any_next : t (get_or l i d) ≡ false → any_of t (drop i l) ≡ any_of t (drop (i + 1) l)
-    any_next e = first (any_of t) ∙ any_no (get_or l i d) (drop (i + 1) l) e
-
-    pub any_stop : t (get_or l i d) ≡ true → any_of t (drop i l) ≡ true
-    any_stop e = first (any_of t) ∙ any_yes (get_or l i d) (drop (i + 1) l) e
-
   pub all_end : (l : List A) (i : ℕ) → length l ≤ i → all_of t (drop i l) ≡ true
   unfolding all_of
   all_end l i h = ap (all_of t) (drop_of_length-le l h)
-
-  pub any_end : (l : List A) (i : ℕ) → length l ≤ i → any_of t (drop i l) ≡ false
-  unfolding any_of
-  any_end l i h = ap (any_of t) (drop_of_length-le l h)
 
   -- ---- what they tell
 

@@ -1,7 +1,7 @@
 -- A way from place to place is a choice of directions that lays the rest of the chain. A line stands whole where it is laid, but for its first point where
 -- that repeats the last one laid: there it stands one place before. So behind what is laid already, the lines of a choice lay the rest of the chain exactly
 -- if each leads from place to place, the last one to the end.
-use Prim.Native.Nat.{ℕ, suc, ◌+◌, ◌-◌, ◌≤◌, ◌<◌}
+use Prim.Native.Nat.{ℕ, suc, ◌+◌, ◌≤◌, ◌<◌}
 use mathlib.Core.Path.{◌≡◌, refl, sym, ap, ap₂, ◌∙◌}
 use mathlib.Core.Bool.{Bool, true, false, ◌&&◌}
 use mathlib.Core.List.{List, [], ◌∷◌, ◌++◌, map-append}

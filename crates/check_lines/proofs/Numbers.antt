@@ -1,47 +1,35 @@
 -- Rows of numbers that are the same; and where the coordinates of lines begin.
-use Prim.Native.Nat.{ℕ, suc, ◌+◌, ◌≤◌, ◌<◌}
-use mathlib.Core.Path.{◌≡◌, refl, sym, ap, ap₂, ◌∙◌}
-use mathlib.Core.Bool.{Bool, true, false, ◌&&◌}
+use Prim.Native.Nat.{ℕ, suc, ◌+◌, ◌-◌, ◌≤◌, ◌<◌}
+use mathlib.Core.Path.{◌≡◌, refl, sym, ap, ◌∙◌}
+use mathlib.Core.Bool.{Bool}
 use mathlib.Core.List.{List, [], ◌∷◌}
 use native.Mathlib.Decide.{ℕ_discrete, dec_lt}
 use native.Mathlib.Omega.{arith}
 use native.Mathlib.Numerals.{add-one}
 use lib.Dec.{eqb}
-use lib.ListN.{length, get_or, set, take, drop, length-set, drop_of_length-le, take-append-drop}
-use lib.Seq.{drop-cons, take-suc, get_or-set_same, get_or-set_other}
-use borrow.Author.Tests.{eq-eqb, ne_eqb}
+use lib.ListN.{length, get_or, set, take, drop, length-set, length-drop, take-append-drop}
+use lib.Seq.{take-suc, take_all, get_or-set_same, get_or-set_other}
+use Rattle.std.specs.Bool.{Decides}
+use Rattle.std.proofs.lemmas.Bool.{false≢true}
+use Rattle.std.proofs.lemmas.Bool.Decides.{same_from_decides, Decides-like, Decides-and, Decides-eqb}
+use Rattle.std.proofs.lemmas.List.{get_or_default}
 use Rattle.rules.specs.Lists.{total}
 use Rattle.rules.specs.Refusals.{most_lines}
 use Rattle.rules.specs.Check.{same_numbers}
+use Rattle.check_lines.specs.Lines.{Below}
 use Rattle.chain_laws.proofs.Totals.{total_append}
 
 -- ---- rows that are the same
 
-pub other_length : (a b : List ℕ) → (length a ≡ length b → ⊥) → false ≡ same_numbers a b
+same_decided : (a b : List ℕ) → Decides (same_numbers a b) (a ≡ b)
 unfolding same_numbers
-other_length [] [] h = absurd (h refl)
-other_length [] (y ∷ b) h = refl
-other_length (x ∷ a) [] h = refl
-other_length (x ∷ a) (y ∷ b) h = go (eqb x y) (other_length a b (λ e. h (ap suc e)))
-  where
-    go : (t : Bool) → false ≡ same_numbers a b → false ≡ (t && same_numbers a b)
-    go true e = e
-    go false e = refl
+same_decided [] [] = (λ e. refl, λ e. refl)
+same_decided [] (y ∷ b) = (λ e. absurd (false≢true e), λ e. cc)
+same_decided (x ∷ a) [] = (λ e. absurd (false≢true e), λ e. cc)
+same_decided (x ∷ a) (y ∷ b) = Decides-like _ (λ p. cc) (λ e. (cc, cc)) (Decides-and (eqb x y) (same_numbers a b) (Decides-eqb x y) (same_decided a b))
 
-module _ (a b : List ℕ) (i : ℕ) (h : i < length a) (k : i < length b) where
-  both_from : same_numbers (drop i a) (drop i b) ≡ (eqb (get_or a i 0) (get_or b i 0) && same_numbers (drop (i + 1) a) (drop (i + 1) b))
-  unfolding same_numbers
-  both_from = rw (drop-cons a i 0 h, drop-cons b i 0 k, add-one)
-
-  pub same_next : get_or a i 0 ≡ get_or b i 0 → same_numbers (drop i a) (drop i b) ≡ same_numbers (drop (i + 1) a) (drop (i + 1) b)
-  same_next e = both_from ∙ ap (λ (t : Bool). t && same_numbers (drop (i + 1) a) (drop (i + 1) b)) (eq-eqb (get_or a i 0) (get_or b i 0) e)
-
-  pub same_stop : (get_or a i 0 ≡ get_or b i 0 → ⊥) → same_numbers (drop i a) (drop i b) ≡ false
-  same_stop d = both_from ∙ ap (λ (t : Bool). t && same_numbers (drop (i + 1) a) (drop (i + 1) b)) (ne_eqb (get_or a i 0) (get_or b i 0) d)
-
-pub same_end : (a b : List ℕ) (i : ℕ) → length a ≤ i → length b ≤ i → same_numbers (drop i a) (drop i b) ≡ true
-unfolding same_numbers
-same_end a b i h k = ap₂ same_numbers (drop_of_length-le a h) (drop_of_length-le b k)
+pub same_is : (r : Bool) (a b : List ℕ) → Decides r (a ≡ b) → r ≡ same_numbers a b
+same_is r a b d = same_from_decides r (same_numbers a b) d (same_decided a b)
 
 -- ---- first coordinates
 
@@ -86,3 +74,15 @@ placing_next firsts counts sum i p h few =
   where
     earlier : (y : ℕ) → (y ≡ i → ⊥) → y < i + 1 → y < i
     earlier y q b = elim (dec_lt y i) [ yes l ↦ l | no n ↦ absurd (q (omega arith)) ]
+
+-- ---- an element of a row below n
+
+pub below_at : (n : ℕ) (l : List ℕ) (k y : ℕ) → Below n l → k < length l → y ≡ get_or l k y → y < n
+below_at n l k y b h e = omega (arith, b k h, e, get_or_default l k y 0 h)
+
+pub all_behind : (l : List ℕ) → take (length l - 1) (drop 1 l) ≡ drop 1 l
+all_behind l = take_all (length l - 1) (drop 1 l) (omega (arith, length-drop 1 l))
+
+pub below_drop : (n : ℕ) (l : List ℕ) → Below n l → Below n (drop 1 l)
+below_drop n [] b i h = absurd (omega arith)
+below_drop n (a ∷ l) b i h = b (suc i) (omega arith)

@@ -1,17 +1,21 @@
 -- Lines listed once: the marks are how often each line was listed, so that a line met again is listed twice, and one without a mark not at all.
 use Prim.Native.Nat.{ℕ, zero, suc, ◌+◌, ◌≤◌, ◌<◌}
 use mathlib.Core.Path.{◌≡◌, refl, sym, ap, ◌∙◌}
+use mathlib.Core.Bool.{Bool, true, false, true≢false}
 use mathlib.Core.List.{List, [], ◌∷◌}
-use native.Mathlib.Decide.{ℕ_discrete, dec_lt}
+use native.Mathlib.Decide.{ℕ_discrete}
 use native.Mathlib.Omega.{arith}
 use native.Mathlib.Numerals.{add-one}
 use lib.Dec.{eqb}
 use lib.ListN.{length, get_or, set, take, length-set}
-use lib.Seq.{get_or-set_same, get_or-set_other, take_all}
+use lib.Seq.{get_or-set_same, get_or-set_other}
 use Rattle.rules.specs.Lists.{one, count}
 use Rattle.rules.specs.Refusals.{most_lines}
 use Rattle.chain_laws.proofs.Counts.{one_same, one_other}
-use Rattle.check_lines.specs.Lines.{Markable}
+use Rattle.std.proofs.lemmas.List.{length-take, get_or-take}
+use Rattle.std.specs.Bool.{MatchBool}
+use Rattle.std.specs.List.{AllWithin, HoldsAt}
+use Rattle.check_lines.specs.Lines.{mark, AllSeen}
 
 count_next : (p : ℕ) (l : List ℕ) (i : ℕ) → i < length l → count p (take (suc i) l) ≡ count p (take i l) + one (eqb p (get_or l i 0))
 unfolding count
@@ -31,58 +35,56 @@ unfolding count
 count_none p l = refl
 
 -- the marks, with the first i of a row listed
-pub record Noting (seen seen₀ listed : List ℕ) (i : ℕ) : Type 0 where
+pub record Noting (seen seen₀ : List Bool) (listed : List ℕ) (i : ℕ) : Type 0 where
   pub long : length seen ≡ most_lines
-  pub counted : (y : ℕ) → y < most_lines → get_or seen y 0 ≡ get_or seen₀ y 0 + count y (take i listed)
-  pub small : (y : ℕ) → y < most_lines → get_or seen y 0 ≤ 1
+  pub counted : (y : ℕ) → y < most_lines → mark seen y ≡ mark seen₀ y + count y (take i listed)
 
-pub noting_start : (seen listed : List ℕ) → Markable seen listed → Noting seen seen listed 0
-noting_start seen listed m = record { long = m.long; counted = λ y h. omega (arith, count_none y listed); small = m.small }
+pub noting_start : (seen : List Bool) (listed : List ℕ) → length seen ≡ most_lines → Noting seen seen listed 0
+noting_start seen listed l = record { long = l; counted = λ y h. omega (arith, count_none y listed) }
 
-module _ (seen seen₀ listed : List ℕ) (i : ℕ) (h : Noting seen seen₀ listed i) (k : i < length listed) (b : get_or listed i 0 < most_lines) where
+module _ (seen seen₀ : List Bool) (listed : List ℕ) (i : ℕ) (h : Noting seen seen₀ listed i) (k : i < length listed) (b : get_or listed i 0 < most_lines) where
   abbrev it : ℕ
   it = get_or listed i 0
 
-  marked_now : (y : ℕ) → y ≡ it → get_or (set seen it 1) y 0 ≡ 1
-  marked_now y q = ap (λ (n : ℕ). get_or (set seen it 1) n 0) q ∙ get_or-set_same seen it 1 0 (omega (arith, h.long))
+  marked_now : (y : ℕ) → y ≡ it → mark (set seen it true) y ≡ 1
+  marked_now y q = ap one (ap (λ (n : ℕ). get_or (set seen it true) n false) q ∙ get_or-set_same seen it true false (omega (arith, h.long)))
+
+  marked_else : (y : ℕ) → (y ≡ it → ⊥) → mark (set seen it true) y ≡ mark seen y
+  marked_else y q = ap one (get_or-set_other seen it y true false q)
 
   count_now : (y : ℕ) → count y (take (i + 1) listed) ≡ count y (take i listed) + one (eqb y it)
   count_now y = rw add-one (count_next y listed i k)
 
-  pub noting_next : get_or seen it 0 ≡ 0 → Noting (set seen it 1) seen₀ listed (i + 1)
+  pub noting_next : get_or seen it false ≡ false → Noting (set seen it true) seen₀ listed (i + 1)
   noting_next z =
       record {
-        long = length-set seen it 1 ∙ h.long;
+        long = length-set seen it true ∙ h.long;
         counted = λ y c.
             elim (ℕ_discrete y it) [
               | yes q ↦
-                  let f : get_or seen y 0 ≡ 0 = ap (λ (n : ℕ). get_or seen n 0) q ∙ z in
+                  let f : mark seen y ≡ 0 = ap one (ap (λ (n : ℕ). get_or seen n false) q ∙ z) in
                   omega (arith, h.counted y c, one_same y it q, marked_now y q, count_now y)
-              | no q ↦ omega (arith, h.counted y c, one_other y it q, get_or-set_other seen it y 1 0 q, count_now y)
-            ];
-        small = λ y c.
-            elim (ℕ_discrete y it) [
-              | yes q ↦ omega (arith, marked_now y q)
-              | no q ↦ omega (arith, h.small y c, get_or-set_other seen it y 1 0 q)
+              | no q ↦ omega (arith, h.counted y c, one_other y it q, marked_else y q, count_now y)
             ];
       }
 
-  pub noting_twice : (get_or seen it 0 ≡ 0 → ⊥) → 1 < get_or seen₀ it 0 + count it listed
-  noting_twice z = omega (arith, h.counted it b, one_same it it refl, count_part it listed (i + 1), count_now it)
+  pub noting_twice : get_or seen it false ≡ true → 1 < mark seen₀ it + count it listed
+  noting_twice z =
+      let f : mark seen it ≡ 1 = ap one z in
+      omega (arith, h.counted it b, one_same it it refl, count_part it listed (i + 1), count_now it)
 
-pub noting_all : (seen seen₀ listed : List ℕ) (i : ℕ) → Noting seen seen₀ listed i → length listed ≤ i → (y : ℕ) → y < most_lines
-    → get_or seen y 0 ≡ get_or seen₀ y 0 + count y listed
-noting_all seen seen₀ listed i h k y c = h.counted y c ∙ ap (λ (l : List ℕ). get_or seen₀ y 0 + count y l) (take_all i listed k)
+-- ---- marks looked at by `all`
 
--- ---- marks looked at one after another
-
-pub seen_more : (seen : List ℕ) (i : ℕ) → ((y : ℕ) → y < i → 0 < get_or seen y 0) → (get_or seen i 0 ≡ 0 → ⊥) → (y : ℕ) → y < i + 1 → 0 < get_or seen y 0
-seen_more seen i f d y h =
-    elim (dec_lt y i) [
-      | yes l ↦ f y l
-      | no n ↦ let q : y ≡ i = omega arith in some (get_or seen y 0) (λ z. d (ap (λ (j : ℕ). get_or seen j 0) (sym q) ∙ z))
-    ]
-  where
-    some : (k : ℕ) → (k ≡ 0 → ⊥) → 0 < k
-    some zero d = absurd (d refl)
-    some (suc k) d = omega arith
+pub seen_told : (seen : List Bool) (n : ℕ) (r : Bool) → n ≤ length seen
+    → MatchBool r (AllWithin (λ m. m ≡ true) (take n seen) 0 (length (take n seen))) ((k : ℕ) × (k < length (take n seen)) × HoldsAt (λ m. m ≡ false) (take n seen) k)
+    → AllSeen seen n r
+seen_told seen n true l h =
+    record {
+      every = λ e y b. ap one (sym (get_or-take n seen y false b) ∙ h y false (omega arith) (omega (arith, length-take n seen)));
+      missing = λ e. absurd (true≢false e);
+    }
+seen_told seen n false l h =
+    record {
+      every = λ e. absurd (true≢false (sym e));
+      missing = λ e. let b : h.0 < n = omega (arith, h.1, length-take n seen) in (h.0, b, ap one (sym (get_or-take n seen h.0 false b) ∙ h.2 false));
+    }

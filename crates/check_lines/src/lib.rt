@@ -5,7 +5,7 @@ ghost use Rattle.std.specs.Prelude.{◌≡◌, ℕ, ◌≤◌, ◌<◌, leb, len
 ghost use Rattle.rules.specs.Lists.{total, any_of, all_of};
 ghost use Rattle.rules.specs.Refusals.{most_lines, most_points};
 ghost use Rattle.rules.specs.Check.{same_numbers};
-ghost use Rattle.check_lines.specs.Lines.{Below, plain_at, group_is, Noted, Markable, AllSeen};
+ghost use Rattle.check_lines.specs.Lines.{Below, plain_at, group_is, Noted, AllSeen};
 
 use rules::MOST_LINES;
 
@@ -14,15 +14,7 @@ pub fn all_plain(listed: &[u32], counts: &[u32], kinds: &[u8]) -> bool
     requires { Below (length counts.now) listed.now × Below (length kinds.now) listed.now }
     ensures { result ≡ all_of (plain_at counts.now kinds.now) listed.now }
 {
-    let mut i: usize = 0;
-    while i < listed.len() {
-        let y = listed[i] as usize;
-        if !build_lines::is_plain(counts[y], kinds[y]) {
-            return false;
-        }
-        i += 1;
-    }
-    true
+    listed.iter().all(|y| build_lines::is_plain(counts[*y as usize], kinds[*y as usize]))
 }
 
 // Whether all lines that are listed have the group of the first.
@@ -32,60 +24,37 @@ pub fn one_group(listed: &[u32], groups: &[u32]) -> bool
         (drop 1 listed.now) }
 {
     let group = groups[listed[0] as usize];
-    let mut i: usize = 1;
-    while i < listed.len() {
-        if groups[listed[i] as usize] != group {
-            return false;
-        }
-        i += 1;
-    }
-    true
+    listed[1..].iter().all(|y| groups[*y as usize] == group)
 }
 
 // Whether a line that is listed isn't below n.
 pub fn any_beyond(listed: &[u32], n: usize) -> bool
     ensures { result ≡ any_of (leb n) listed.now }
 {
-    let mut i: usize = 0;
-    while i < listed.len() {
-        if n <= listed[i] as usize {
-            return true;
-        }
-        i += 1;
-    }
-    false
+    listed.iter().any(|y| n <= *y as usize)
 }
 
 // Marks the lines of a chain as listed, unless one was before.
-pub fn note(seen: &mut [u8; MOST_LINES], listed: &[u32]) -> bool
-    requires { Markable seen.old listed.now }
+pub fn note(seen: &mut [bool; MOST_LINES], listed: &[u32]) -> bool
+    requires { Below most_lines listed.now }
     ensures { Noted seen.new seen.old listed.now result }
 {
-    let mut i: usize = 0;
-    while i < listed.len() {
-        let y = listed[i] as usize;
-        if seen[y] != 0 {
+    for y in listed {
+        let y = *y as usize;
+        if seen[y] {
             return false;
         }
-        seen[y] = 1;
-        i += 1;
+        seen[y] = true;
     }
     true
 }
 
 // Whether the first n lines are marked.
-pub fn all_seen(seen: &[u8; MOST_LINES], n: usize) -> bool
+pub fn all_seen(seen: &[bool; MOST_LINES], n: usize) -> bool
     requires { n ≤ most_lines }
     ensures { AllSeen seen.now n result }
 {
-    let mut i: usize = 0;
-    while i < n {
-        if seen[i] == 0 {
-            return false;
-        }
-        i += 1;
-    }
-    true
+    seen[..n].iter().all(|mark| *mark)
 }
 
 // The first coordinate of each line.
@@ -94,11 +63,9 @@ pub fn first_places(counts: &[u32], firsts: &mut [u32; MOST_LINES])
     ensures { (y : ℕ) → y < length counts.now → get_or firsts.new y 0 ≡ total (take y counts.now) }
 {
     let mut sum: u32 = 0;
-    let mut i: usize = 0;
-    while i < counts.len() {
+    for (i, n) in counts.iter().enumerate() {
         firsts[i] = sum;
-        sum += counts[i];
-        i += 1;
+        sum += *n;
     }
 }
 
@@ -106,15 +73,5 @@ pub fn first_places(counts: &[u32], firsts: &mut [u32; MOST_LINES])
 pub fn same_numbers(a: &[u64], b: &[u64]) -> bool
     ensures { result ≡ same_numbers a.now b.now }
 {
-    if a.len() != b.len() {
-        return false;
-    }
-    let mut i: usize = 0;
-    while i < a.len() {
-        if a[i] != b[i] {
-            return false;
-        }
-        i += 1;
-    }
-    true
+    a == b
 }

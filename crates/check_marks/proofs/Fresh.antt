@@ -11,7 +11,7 @@ use Rattle.rules.specs.Plane.{Point, point, points, equal}
 use Rattle.point_numbers.specs.Width.{point_at, Whole}
 use Rattle.point_numbers.proofs.Points.{at_x, at_y, equal_at, points_length, points_at}
 use Rattle.check_laws.specs.Standing.{fresh_at}
-use Rattle.check_places.proofs.Reading.{whole_next, point_there}
+use Rattle.check_places.proofs.Reading.{point_there}
 
 pub fresh_first : (chain : List Point) (i : ℕ) → i ≡ 0 → false ≡ fresh_at chain i
 unfolding fresh_at
@@ -43,17 +43,6 @@ module _ (w : ℕ) (chain : List ℕ) (two : 2 ≤ w) (h : Whole w chain) where
   equal_both a b =
       equal_at w two (point_at w chain a) chain b
       ∙ ap₂ (λ (x y : ℕ). equal (point x y) (point (get_or chain b 0) (get_or chain (b + 1) 0))) (at_x w two chain a) (at_y w two chain a)
-
-  -- the point before begins w numbers before
-  pub before_inside : (i : ℕ) → (i ≡ 0 → ⊥) → w ≤ i * w
-  before_inside zero d = absurd (d refl)
-  before_inside (suc k) d = sums k w
-    where
-      sums : (k w : ℕ) → w ≤ suc k * w
-      sums k w = omega arith
-
-  pub next_inside : (i : ℕ) → i * w < length chain → i * w + w ≤ length chain
-  next_inside i b = whole_next w chain h i b
 
   pub fresh_there : (i : ℕ) → (i ≡ 0 → ⊥) → i * w < length chain
       → not (equal (point (get_or chain (i * w - w) 0) (get_or chain (i * w - w + 1) 0)) (point (get_or chain (i * w) 0) (get_or chain (i * w + 1) 0))) ≡ fresh_at t i

@@ -8,7 +8,7 @@ use lib.Dec.{eqb}
 use lib.Ieee.{Float, lt}
 use lib.ListN.{length, get_or}
 use Rattle.rules.specs.declared.Meeting.{Meeting}
-use Rattle.rules.specs.declared.Grid.TheVariants.{Exact, Cells}
+use Rattle.rules.specs.Answers.{Exact, Cells}
 use Rattle.rules.specs.Plane.{Point, point, points, same_key, exact_key, cell_key, key_of, same_int, nought}
 use Rattle.rules.specs.Cell.{cell}
 use Rattle.rules.specs.Check.{one_key, meet}

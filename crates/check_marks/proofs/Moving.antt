@@ -1,5 +1,5 @@
 -- The marks from the last on: each is made of itself and of the one before it, which are as they were.
-use Prim.Native.Nat.{ℕ, suc, ◌+◌, ◌-◌, ◌≤◌, ◌<◌}
+use Prim.Native.Nat.{ℕ, suc, ◌-◌, ◌≤◌, ◌<◌}
 use mathlib.Core.Path.{◌≡◌, refl, sym, ap, ap₂, ◌∙◌, subst}
 use mathlib.Core.Bool.{Bool, true, false}
 use mathlib.Core.List.{List}
@@ -50,7 +50,7 @@ before_same a b low j e = go (ltb low j)
 
 -- ---- from the last mark down to j
 
-module _ (chain : List Point) (base low end drawn turned : ℕ) (drawnFits turnedFits old : List ℕ) where
+module _ (chain : List Point) (base low end drawn turned : ℕ) (drawnFits turnedFits : List Bool) (old : List ℕ) where
   pub record Moving (j : ℕ) (marks : List ℕ) : Type 0 where
     pub order : low ≤ j
     pub within : j ≤ suc end
@@ -58,34 +58,31 @@ module _ (chain : List Point) (base low end drawn turned : ℕ) (drawnFits turne
     pub done : (i : ℕ) → j ≤ i → i ≤ end → get_or marks i 0 ≡ moved chain base low end drawn turned drawnFits turnedFits old i
     pub left : (i : ℕ) → i < j → get_or marks i 0 ≡ get_or old i 0
 
-  pub moving_start : low ≤ end → length old ≡ 4096 → Moving (end + 1) old
-  moving_start h l = record { order = omega arith; within = omega arith; long = l; done = λ i a b. absurd (omega arith); left = λ i b. refl }
-
   module _ (j : ℕ) (marks : List ℕ) (m : Moving (suc j) marks) (h : low ≤ j) (inside : end < 4096) where
     -- the mark that is put there
     abbrev put : ℕ
     put =
         set_of
-        (goes_on (get_or drawnFits (end - j) 0) drawn (fresh_at chain (base - j)) (mark_here marks end j) (mark_before marks low j))
-        (goes_on (get_or turnedFits (end - j) 0) turned (fresh_at chain (base - j)) (mark_here marks end j) (mark_before marks low j))
+        (goes_on (get_or drawnFits (end - j) false) drawn (fresh_at chain (base - j)) (mark_here marks end j) (mark_before marks low j))
+        (goes_on (get_or turnedFits (end - j) false) turned (fresh_at chain (base - j)) (mark_here marks end j) (mark_before marks low j))
 
     pub put_told : (fresh : Bool) (here before : ℕ) (as-drawn as-turned : Bool) (r : ℕ) → fresh ≡ fresh_at chain (base - j) → here ≡ mark_here marks end j
-        → before ≡ mark_before marks low j → as-drawn ≡ goes_on (get_or drawnFits (end - j) 0) drawn fresh here before
-        → as-turned ≡ goes_on (get_or turnedFits (end - j) 0) turned fresh here before → r ≡ set_of as-drawn as-turned → r ≡ put
+        → before ≡ mark_before marks low j → as-drawn ≡ goes_on (get_or drawnFits (end - j) false) drawn fresh here before
+        → as-turned ≡ goes_on (get_or turnedFits (end - j) false) turned fresh here before → r ≡ set_of as-drawn as-turned → r ≡ put
     put_told fresh here before as-drawn as-turned r f h b d t e =
         e
         ∙ ap₂ set_of
-        (d ∙ ap₂ (λ (x y : ℕ). goes_on (get_or drawnFits (end - j) 0) drawn fresh x y) h b
-        ∙ ap (λ (x : Bool). goes_on (get_or drawnFits (end - j) 0) drawn x (mark_here marks end j) (mark_before marks low j)) f)
-        (t ∙ ap₂ (λ (x y : ℕ). goes_on (get_or turnedFits (end - j) 0) turned fresh x y) h b
-        ∙ ap (λ (x : Bool). goes_on (get_or turnedFits (end - j) 0) turned x (mark_here marks end j) (mark_before marks low j)) f)
+        (d ∙ ap₂ (λ (x y : ℕ). goes_on (get_or drawnFits (end - j) false) drawn fresh x y) h b
+        ∙ ap (λ (x : Bool). goes_on (get_or drawnFits (end - j) false) drawn x (mark_here marks end j) (mark_before marks low j)) f)
+        (t ∙ ap₂ (λ (x y : ℕ). goes_on (get_or turnedFits (end - j) false) turned fresh x y) h b
+        ∙ ap (λ (x : Bool). goes_on (get_or turnedFits (end - j) false) turned x (mark_here marks end j) (mark_before marks low j)) f)
 
     put_is : put ≡ moved chain base low end drawn turned drawnFits turnedFits old j
     unfolding moved
     put_is =
         ap₂
         (λ (x y : ℕ).
-        set_of (goes_on (get_or drawnFits (end - j) 0) drawn (fresh_at chain (base - j)) x y) (goes_on (get_or turnedFits (end - j) 0) turned (fresh_at chain (base - j)) x y))
+        set_of (goes_on (get_or drawnFits (end - j) false) drawn (fresh_at chain (base - j)) x y) (goes_on (get_or turnedFits (end - j) false) turned (fresh_at chain (base - j)) x y))
         (here_same marks old end j (m.left j (omega arith))) (before_same marks old low j (m.left (j - 1) (omega arith)))
 
     moving_put : Moving j (set marks j put)

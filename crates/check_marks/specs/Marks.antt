@@ -1,6 +1,6 @@
 -- The places that are still possible, as marks. A mark is a set of directions; the mark j is that of the place base - j, and those from `low` to before
 -- `end` are looked at.
-use Rattle.std.specs.Prelude.{ℕ, ◌+◌, ◌-◌, ◌*◌, ◌/◌, ◌%◌, ◌≤◌, ◌<◌, ◌≡◌, Bool, true, false, not, ◌&&◌, ◌||◌, List, eqb, ltb, length, get_or}
+use Rattle.std.specs.Prelude.{ℕ, ◌+◌, ◌-◌, ◌*◌, ◌/◌, ◌%◌, ◌≤◌, ◌<◌, ◌≡◌, Bool, true, false, ◌&&◌, ◌||◌, List, eqb, ltb, length, get_or}
 use Rattle.rules.specs.declared.Meeting.{Meeting}
 use Rattle.rules.specs.Lists.{one}
 use Rattle.rules.specs.Plane.{Point}
@@ -40,17 +40,17 @@ unfoldable pub mark_before : List ℕ → ℕ → ℕ → ℕ
 mark_before marks low j = elim (ltb low j) [ true ↦ get_or marks (j - 1) 0 | false ↦ 0 ]
 
 -- a line that fits goes on from the mark before, or from the one here where its first point doesn't repeat the chain's last
-unfoldable pub goes_on : ℕ → ℕ → Bool → ℕ → ℕ → Bool
-goes_on fit opened fresh here before = not (eqb fit 0) && (shared opened before || (fresh && shared opened here))
+unfoldable pub goes_on : Bool → ℕ → Bool → ℕ → ℕ → Bool
+goes_on fit opened fresh here before = fit && (shared opened before || (fresh && shared opened here))
 
 -- what a line makes of the mark j
-module _ (chain : List Point) (base low end : ℕ) (drawn turned : ℕ) (drawnFits turnedFits marks : List ℕ) where
+module _ (chain : List Point) (base low end : ℕ) (drawn turned : ℕ) (drawnFits turnedFits : List Bool) (marks : List ℕ) where
   unfoldable pub moved : ℕ → ℕ
   unfolding goes_on mark_here mark_before
   moved j =
       set_of
-      (goes_on (get_or drawnFits (end - j) 0) drawn (fresh_at chain (base - j)) (mark_here marks end j) (mark_before marks low j))
-      (goes_on (get_or turnedFits (end - j) 0) turned (fresh_at chain (base - j)) (mark_here marks end j) (mark_before marks low j))
+      (goes_on (get_or drawnFits (end - j) false) drawn (fresh_at chain (base - j)) (mark_here marks end j) (mark_before marks low j))
+      (goes_on (get_or turnedFits (end - j) false) turned (fresh_at chain (base - j)) (mark_here marks end j) (mark_before marks low j))
 
 -- the room, and the places of the marks
 pub record Movable (w : ℕ) (chain : List ℕ) (base low end : ℕ) : Type 0 where

@@ -2,7 +2,7 @@
 #![tactic(auto)]
 
 ghost use Rattle.std.specs.Prelude.{◌≡◌, ◌&&◌, cond, ℕ, ◌-◌, ◌≤◌, ◌<◌, length, get_or};
-ghost use Rattle.rules.specs.declared.Grid.TheVariants.{Exact, Cells};
+ghost use Rattle.rules.specs.Answers.{Exact, Cells};
 ghost use Rattle.rules.specs.Cell.{cell};
 ghost use Rattle.rules.specs.Plane.{point, points, same_int};
 ghost use Rattle.rules.specs.Check.{one_key, meet as meet_at};
@@ -19,46 +19,29 @@ use rules::{MOST_LINES, Meeting};
 fn has(set: u8, turned: bool) -> bool
     ensures { result ≡ has_way turned set }
 {
-    if turned {
-        return set / 2 == 1;
-    }
-    set % 2 == 1
+    if turned { set / 2 == 1 } else { set % 2 == 1 }
 }
 
 // The set of the directions that are told.
 pub fn set_of(drawn: bool, turned: bool) -> u8
     ensures { result ≡ set_of drawn turned }
 {
-    if drawn {
-        if turned {
-            return 3;
-        }
-        return 1;
-    }
-    if turned {
-        return 2;
-    }
-    0
+    u8::from(drawn) + u8::from(turned) * 2
 }
 
 // Whether both have a direction.
 fn both_have(a: u8, b: u8, turned: bool) -> bool
     ensures { result ≡ has_way turned a && has_way turned b }
 {
-    if has(a, turned) {
-        return has(b, turned);
-    }
-    false
+    has(a, turned) && has(b, turned)
 }
 
 // Whether two sets share a direction.
+#[tactic(auto, unfolding(crate::specs::Marks::shared))]
 fn shares(a: u8, b: u8) -> bool
     ensures { result ≡ shared a b }
 {
-    if both_have(a, b, false) {
-        return true;
-    }
-    both_have(a, b, true)
+    both_have(a, b, false) || both_have(a, b, true)
 }
 
 // ---- where lines meet
@@ -71,36 +54,26 @@ fn one_cell(tolerance: f64, origin: f64, a: u64, b: u64) -> bool
 }
 
 // Whether two points have.
+#[tactic(auto, using(crate::proofs::Meets::cells_key))]
 fn same_cell(m: Meeting, ax: u64, ay: u64, bx: u64, by: u64) -> bool
     ensures { result ≡ one_key (Cells m.tolerance m.origin_x m.origin_y) (point ax ay) (point bx by) }
 {
-    if one_cell(m.tolerance, m.origin_x, ax, bx) {
-        return one_cell(m.tolerance, m.origin_y, ay, by);
-    }
-    false
+    one_cell(m.tolerance, m.origin_x, ax, bx) && one_cell(m.tolerance, m.origin_y, ay, by)
 }
 
 // Whether two points have the same bits.
+#[tactic(auto, using(crate::proofs::Meets::bits_key))]
 fn same_bits(ax: u64, ay: u64, bx: u64, by: u64) -> bool
     ensures { result ≡ one_key Exact (point ax ay) (point bx by) }
 {
-    if ax == bx {
-        return ay == by;
-    }
-    false
+    ax == bx && ay == by
 }
 
 // Whether two points meet: in the same bits or, with a tolerance, in the same cell.
 fn meet(m: Meeting, ax: u64, ay: u64, bx: u64, by: u64) -> bool
     ensures { result ≡ meet_at m (point ax ay) (point bx by) }
 {
-    if same_bits(ax, ay, bx, by) {
-        return true;
-    }
-    if 0.0 < m.tolerance {
-        return same_cell(m, ax, ay, bx, by);
-    }
-    false
+    same_bits(ax, ay, bx, by) || 0.0 < m.tolerance && same_cell(m, ax, ay, bx, by)
 }
 
 // Where the first point of a line stands, or its last.
@@ -108,10 +81,7 @@ fn end_of(line: &[u64], width: usize, last: bool) -> usize
     requires { width ≤ length line.now }
     ensures { result ≡ cond last (length line.now - width) 0 }
 {
-    if last {
-        return line.len() - width;
-    }
-    0
+    if last { line.len() - width } else { 0 }
 }
 
 // Whether the line p in one direction meets the line l in one.
@@ -125,6 +95,7 @@ fn joint(p: &[u64], d: bool, l: &[u64], e: bool, width: usize, m: Meeting) -> bo
 }
 
 // The directions of the line p from which the line l may be taken in one.
+#[tactic(auto, unfolding(crate::specs::Marks::open_to))]
 pub fn open_to(p: &[u64], l: &[u64], e: bool, width: usize, m: Meeting) -> u8
     requires { LineMarked width p.now × LineMarked width l.now }
     ensures { result ≡ open_to m (points width p.now) (points width l.now) e }
@@ -138,41 +109,29 @@ pub fn open_to(p: &[u64], l: &[u64], e: bool, width: usize, m: Meeting) -> u8
 
 // Whether a line that fits goes on from one of two marks, by the directions that it may be taken from: from the one before, or, where its first point doesn't
 // repeat the chain's last, from the one here.
-fn goes_on(fit: u8, ways: u8, fresh: bool, here: u8, before: u8) -> bool
+#[tactic(auto, unfolding(crate::specs::Marks::goes_on))]
+fn goes_on(fit: bool, ways: u8, fresh: bool, here: u8, before: u8) -> bool
     ensures { result ≡ goes_on fit ways fresh here before }
 {
-    if fit == 0 {
-        return false;
-    }
-    if shares(ways, before) {
-        return true;
-    }
-    if fresh {
-        return shares(ways, here);
-    }
-    false
+    fit && (shares(ways, before) || fresh && shares(ways, here))
 }
 
 // The mark j, if it is before `end`.
+#[tactic(auto, unfolding(crate::specs::Marks::mark_here))]
 fn mark_here(marks: &[u8; MOST_LINES], end: usize, j: usize) -> u8
     requires { j < most_lines }
     ensures { result ≡ mark_here marks.now end j }
 {
-    if j < end {
-        return marks[j];
-    }
-    0
+    if j < end { marks[j] } else { 0 }
 }
 
 // The mark before j, if it is not before `low`.
+#[tactic(auto, unfolding(crate::specs::Marks::mark_before))]
 fn mark_before(marks: &[u8; MOST_LINES], low: usize, j: usize) -> u8
     requires { j < most_lines }
     ensures { result ≡ mark_before marks.now low j }
 {
-    if low < j {
-        return marks[j - 1];
-    }
-    0
+    if low < j { marks[j - 1] } else { 0 }
 }
 
 // Whether the chain's point at a place is another than the one before it; the first has none before.
@@ -180,15 +139,15 @@ fn fresh_at(chain: &[u64], width: usize, i: usize) -> bool
     requires { (2 ≤ width) × (width ≤ 4) × Whole width chain.now × (i ≤ 4294967296) }
     ensures { result ≡ fresh_at (points width chain.now) i }
 {
-    if i == 0 {
-        return false;
-    }
     let at = i * width;
-    if chain.len() <= at {
-        return false;
-    }
-    let last = at - width;
-    !point_numbers::equal(chain[last], chain[last + 1], chain[at], chain[at + 1])
+    0 < i
+        && at < chain.len()
+        && !point_numbers::equal(
+            chain[at - width],
+            chain[at - width + 1],
+            chain[at],
+            chain[at + 1],
+        )
 }
 
 // What a line makes of the marks from `low` to before `end`: the marks from `low` to `end`. The mark j is that of the place base - j; it stays where it is or moves
@@ -196,8 +155,8 @@ fn fresh_at(chain: &[u64], width: usize, i: usize) -> bool
 // `turned_fits` tell where it fits, from the place base - end on.
 pub fn move_on(
     marks: &mut [u8; MOST_LINES],
-    drawn_fits: &[u8; MOST_LINES],
-    turned_fits: &[u8; MOST_LINES],
+    drawn_fits: &[bool; MOST_LINES],
+    turned_fits: &[bool; MOST_LINES],
     drawn: u8,
     turned: u8,
     chain: &[u64],
@@ -206,14 +165,12 @@ pub fn move_on(
     low: usize,
     end: usize,
 )
-    requires { Movable width chain.now base low end × (length marks.old ≡ most_lines) }
-    ensures { (length marks.new ≡ most_lines) × ((j : ℕ) → low ≤ j → j ≤ end → get_or marks.new j 0
+    requires { Movable width chain.now base low end }
+    ensures { (j : ℕ) → low ≤ j → j ≤ end → get_or marks.new j 0
         ≡ moved (points width chain.now) base low end drawn turned
-        drawn_fits.now turned_fits.now marks.old j) }
+        drawn_fits.now turned_fits.now marks.old j }
 {
-    let mut j = end + 1;
-    while low < j {
-        j -= 1;
+    for j in (low..end + 1).rev() {
         let here = mark_here(marks, end, j);
         let before = mark_before(marks, low, j);
         let fresh = fresh_at(chain, width, base - j);
@@ -228,14 +185,12 @@ pub fn trim_low(marks: &[u8; MOST_LINES], low: usize, end: usize) -> usize
     requires { (low ≤ end) × (end ≤ most_lines) }
     ensures { TrimmedLow marks.now low end result }
 {
-    let mut i = low;
-    while i < end {
+    for i in low..end {
         if marks[i] != 0 {
             return i;
         }
-        i += 1;
     }
-    i
+    end
 }
 
 // One more than the last mark before `end` that is there, or `low`.
@@ -243,12 +198,10 @@ pub fn trim_high(marks: &[u8; MOST_LINES], low: usize, end: usize) -> usize
     requires { (low ≤ end) × (end ≤ most_lines) }
     ensures { TrimmedHigh marks.now low end result }
 {
-    let mut i = end;
-    while low < i {
-        if marks[i - 1] != 0 {
-            return i;
+    for i in (low..end).rev() {
+        if marks[i] != 0 {
+            return i + 1;
         }
-        i -= 1;
     }
-    i
+    low
 }

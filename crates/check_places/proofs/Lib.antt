@@ -1,4 +1,3 @@
-pub mod Keeping
 pub mod Reading
 pub mod Stretching
 pub mod Scanning

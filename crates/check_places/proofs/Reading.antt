@@ -5,9 +5,10 @@ use mathlib.Core.Path.{◌≡◌, refl, sym, ap, ap₂, ◌∙◌}
 use mathlib.Core.Bool.{Bool, true, false, ◌&&◌, cond, and-eq-true_iff}
 use mathlib.Core.List.{List, [], ◌∷◌, reverse}
 use mathlib.Core.Option.{Option, none, some}
+use Rattle.std.specs.Prelude.{Some, None}
+use Rattle.std.specs.Prelude as code
 use native.Mathlib.Omega.{arith}
 use native.Mathlib.Nat.{lt_of_mul-lt-mul_right, mul-le-mul_right}
-use native.Mathlib.Numerals.{add-one}
 use lib.Dec.{ltb}
 use lib.ListN.{length, take, drop, get_or, length-drop}
 use lib.Seq.{get_or-drop}
@@ -137,10 +138,6 @@ unfolding lay met
 lay_keep none p l e = refl
 lay_keep (some q) p l e = rw (e, lay)
 
-kept_next : (n x y : ℕ) → last_kept (n + 1) x y ≡ some (point x y)
-unfolding last_kept
-kept_next n x y = ap (λ (i : ℕ). last_kept i x y) (add-one n)
-
 met_last : (o : Option Point) (p : Point) → met o p ≡ met o (point p.x p.y)
 unfolding met equal
 met_last none p = refl
@@ -152,18 +149,18 @@ module _ (w : ℕ) (chain line : List ℕ) (turned : Bool) (at : ℕ) where
   abbrev pub run_laid : List Point
   run_laid = laid_run turned (points w line)
 
-  pub record Reading (c n last-x last-y left : ℕ) : Type 0 where
+  pub record Reading (c n : ℕ) (kept : code.Option (ℕ × ℕ)) (left : ℕ) : Type 0 where
     pub within : left ≤ length line
     pub left_whole : Multiple w left
     pub number : c ≡ (at + n) * w
-    pub counted : standing (points w chain) turned (points w line) at ≡ n + common equal (drop (at + n) (points w chain)) (lay (last_kept n last-x last-y) (rest_of w turned line left))
-    pub remains : drop n run_laid ≡ lay (last_kept n last-x last-y) (rest_of w turned line left)
+    pub counted : standing (points w chain) turned (points w line) at ≡ n + common equal (drop (at + n) (points w chain)) (lay (last_kept kept) (rest_of w turned line left))
+    pub remains : drop n run_laid ≡ lay (last_kept kept) (rest_of w turned line left)
     pub few : n + left ≤ length line
 
   module _ (g : PlaceGround w chain line) where
-    pub reading_start : (x y : ℕ) → Reading (at * w) 0 x y (length line)
-    unfolding standing laid_run last_kept
-    reading_start x y =
+    pub reading_start : Reading (at * w) 0 None (length line)
+    unfolding standing laid_run
+    reading_start =
         let z : at + 0 ≡ at = omega arith in
         record {
           within = omega arith;
@@ -177,7 +174,7 @@ module _ (w : ℕ) (chain line : List ℕ) (turned : Bool) (at : ℕ) where
         zeros : (n : ℕ) → n ≡ 0 + n
         zeros n = omega arith
 
-    module _ (c n last-x last-y left : ℕ) (r : Reading c n last-x last-y left) (h : 0 < left) where
+    module _ (c n : ℕ) (kept : code.Option (ℕ × ℕ)) (left : ℕ) (r : Reading c n kept left) (h : 0 < left) where
       abbrev next_at : ℕ
       next_at = cond turned (left - w) (length line - w - (left - w))
 
@@ -208,13 +205,13 @@ module _ (w : ℕ) (chain line : List ℕ) (turned : Bool) (at : ℕ) where
         same_point : point next_point.x next_point.y ≡ point x y
         same_point = ap₂ point same_x same_y
 
-        met_is : met (last_kept n last-x last-y) next_point ≡ met (last_kept n last-x last-y) (point x y)
-        met_is = met_last (last_kept n last-x last-y) next_point ∙ ap (met (last_kept n last-x last-y)) same_point
+        met_is : met (last_kept kept) next_point ≡ met (last_kept kept) (point x y)
+        met_is = met_last (last_kept kept) next_point ∙ ap (met (last_kept kept)) same_point
 
-        pub reading_repeat : met (last_kept n last-x last-y) (point x y) ≡ true → Reading c n last-x last-y (left - w)
+        pub reading_repeat : met (last_kept kept) (point x y) ≡ true → Reading c n kept (left - w)
         reading_repeat e =
-            let f : lay (last_kept n last-x last-y) (rest_of w turned line left) ≡ lay (last_kept n last-x last-y) (rest_of w turned line (left - w)) =
-            ap (lay (last_kept n last-x last-y)) next_is ∙ lay_repeat (last_kept n last-x last-y) next_point (rest_of w turned line (left - w)) (met_is ∙ e) in
+            let f : lay (last_kept kept) (rest_of w turned line left) ≡ lay (last_kept kept) (rest_of w turned line (left - w)) =
+            ap (lay (last_kept kept)) next_is ∙ lay_repeat (last_kept kept) next_point (rest_of w turned line (left - w)) (met_is ∙ e) in
             record {
               within = omega (arith, r.within);
               left_whole = left_next.1;
@@ -225,20 +222,20 @@ module _ (w : ℕ) (chain line : List ℕ) (turned : Bool) (at : ℕ) where
             }
 
         -- a point that is kept
-        module _ (e : met (last_kept n last-x last-y) (point x y) ≡ false) where
-          kept_is : lay (last_kept n last-x last-y) (rest_of w turned line left) ≡ next_point ∷ lay (last_kept (n + 1) x y) (rest_of w turned line (left - w))
+        module _ (e : met (last_kept kept) (point x y) ≡ false) where
+          kept_is : lay (last_kept kept) (rest_of w turned line left) ≡ next_point ∷ lay (last_kept (Some (x, y))) (rest_of w turned line (left - w))
           kept_is =
-              ap (lay (last_kept n last-x last-y)) next_is ∙ lay_keep (last_kept n last-x last-y) next_point (rest_of w turned line (left - w)) (met_is ∙ e)
+              ap (lay (last_kept kept)) next_is ∙ lay_keep (last_kept kept) next_point (rest_of w turned line (left - w)) (met_is ∙ e)
               ∙ ap {B = List Point} (λ (l : List Point). next_point ∷ l)
               (lay_last next_point (rest_of w turned line (left - w))
-              ∙ ap (λ (o : Option Point). lay o (rest_of w turned line (left - w))) (ap (λ (p : Point). some p) same_point ∙ sym (kept_next n x y)))
+              ∙ ap (λ (o : Option Point). lay o (rest_of w turned line (left - w))) (ap (λ (p : Point). some p) same_point))
 
           at_number : (b : Bool) → number_stands chain c (point x y) ≡ b → number_stands chain ((at + n) * w) (point next_point.x next_point.y) ≡ b
           at_number b q = ap₂ (λ (i : ℕ) (p : Point). number_stands chain i p) (sym r.number) same_point ∙ q
 
-          pub reading_next : number_stands chain c (point x y) ≡ true → Reading (c + w) (n + 1) x y (left - w)
+          pub reading_next : number_stands chain c (point x y) ≡ true → Reading (c + w) (n + 1) (Some (x, y)) (left - w)
           reading_next q =
-              let s = stands_there w chain g.two g.chain_whole (at + n) next_point (lay (last_kept (n + 1) x y) (rest_of w turned line (left - w))) (at_number true q) in
+              let s = stands_there w chain g.two g.chain_whole (at + n) next_point (lay (last_kept (Some (x, y))) (rest_of w turned line (left - w))) (at_number true q) in
               let i : suc (at + n) ≡ at + (n + 1) = omega arith in
               record {
                 within = omega (arith, r.within);
@@ -247,7 +244,7 @@ module _ (w : ℕ) (chain line : List ℕ) (turned : Bool) (at : ℕ) where
                 counted = r.counted
                     ∙ ap (λ (l : List Point). n + common equal (drop (at + n) (points w chain)) l) kept_is
                     ∙ sums n _ _ s
-                    ∙ ap (λ (j : ℕ). n + 1 + common equal (drop j (points w chain)) (lay (last_kept (n + 1) x y) (rest_of w turned line (left - w)))) i;
+                    ∙ ap (λ (j : ℕ). n + 1 + common equal (drop j (points w chain)) (lay (last_kept (Some (x, y))) (rest_of w turned line (left - w)))) i;
                 remains = dropped n run_laid next_point _ (r.remains ∙ kept_is);
                 few = omega (arith, r.few, g.two, left_next.0);
               }
@@ -262,20 +259,23 @@ module _ (w : ℕ) (chain line : List ℕ) (turned : Bool) (at : ℕ) where
               dropped n l p m e = sym (lib.Seq.drop-drop 1 n l) ∙ ap (drop 1) e
 
           -- a point that doesn't stand there is the first of them
-          pub reading_stop : number_stands chain c (point x y) ≡ false → Reached w chain line turned at (record { points = n; whole = false; x = x; y = y })
+          pub reading_stop : number_stands chain c (point x y) ≡ false → Reached w chain line turned at (record { points = n; next = Some (x, y) })
           unfolding equal
           reading_stop q =
-              let s = stands_not w chain g.two g.chain_whole (at + n) next_point (lay (last_kept (n + 1) x y) (rest_of w turned line (left - w))) (at_number false q) in
-              let d : drop n run_laid ≡ next_point ∷ lay (last_kept (n + 1) x y) (rest_of w turned line (left - w)) = r.remains ∙ kept_is in
+              let s = stands_not w chain g.two g.chain_whole (at + n) next_point (lay (last_kept (Some (x, y))) (rest_of w turned line (left - w))) (at_number false q) in
+              let d : drop n run_laid ≡ next_point ∷ lay (last_kept (Some (x, y))) (rest_of w turned line (left - w)) = r.remains ∙ kept_is in
               let f : get_or run_laid n (point 0 0) ≡ next_point = first_left n run_laid next_point _ d in
               record {
                 count = sym (r.counted ∙ ap (λ (l : List Point). n + common equal (drop (at + n) (points w chain)) l) kept_is ∙ none_more n _ s);
                 all = sym (ne_eqb n (length run_laid) (λ z. omega (arith, ap length d, length-drop n run_laid)));
-                next = λ z p. ap (equal p) f ∙ ap₂ (λ (a b : ℕ). equal p (point a b)) same_x same_y;
+                next = λ q z p. ap (equal p) f ∙ ap₂ (λ (a b : ℕ). equal p (point a b)) same_x same_y ∙ ap (λ (q : ℕ × ℕ). equal p (point q.0 q.1)) (some_is z);
               }
             where
               none_more : (n a : ℕ) → a ≡ 0 → n + a ≡ n
               none_more n a e = omega arith
+
+              some_is : {p q : ℕ × ℕ} → Some p ≡ Some q → p ≡ q
+              some_is e = cc
 
               first_left : (n : ℕ) (l : List Point) (p : Point) (m : List Point) → drop n l ≡ p ∷ m → get_or l n (point 0 0) ≡ p
               first_left n l p m e =
@@ -283,17 +283,17 @@ module _ (w : ℕ) (chain line : List ℕ) (turned : Bool) (at : ℕ) where
                   ap (λ (i : ℕ). get_or l i (point 0 0)) (sym z) ∙ sym (get_or-drop n l 0 (point 0 0)) ∙ ap (λ (k : List Point). get_or k 0 (point 0 0)) e
 
     -- none is left: all of them stand there
-    pub reading_end : (c n last-x last-y left x y : ℕ) → Reading c n last-x last-y left → left ≤ 0
-        → Reached w chain line turned at (record { points = n; whole = true; x = x; y = y })
+    pub reading_end : (c n : ℕ) (kept : code.Option (ℕ × ℕ)) (left : ℕ) → Reading c n kept left → left ≤ 0
+        → Reached w chain line turned at (record { points = n; next = None })
     unfolding lay common
-    reading_end c n last-x last-y left x y r h =
-        let e : lay (last_kept n last-x last-y) (rest_of w turned line left) ≡ [] = ap (lay (last_kept n last-x last-y)) (rest_none w line g.two turned left h) ∙ nothing (last_kept n last-x last-y) in
+    reading_end c n kept left r h =
+        let e : lay (last_kept kept) (rest_of w turned line left) ≡ [] = ap (lay (last_kept kept)) (rest_none w line g.two turned left h) ∙ nothing (last_kept kept) in
         let d : length (drop n run_laid) ≡ 0 = ap length (r.remains ∙ e) in
         let k : n ≡ length run_laid = omega (arith, d, length-drop n run_laid, r.counted, standing_right (points w chain) turned (points w line) at) in
         record {
           count = sym (r.counted ∙ ap (λ (l : List Point). n + common equal (drop (at + n) (points w chain)) l) e ∙ none_more n _ (common_none equal (drop (at + n) (points w chain))));
           all = sym (eq-eqb n (length run_laid) k);
-          next = λ z p. let w : ◌≡◌ {A = ℕ} 0 1 = cc in absurd (omega arith);
+          next = λ q z p. absurd (cc);
         }
       where
         nothing : (o : Option Point) → lay o [] ≡ []

@@ -2,7 +2,7 @@
 -- that one is better. So the line is read once more only where more of it stands than anywhere before.
 use Prim.Native.Nat.{ℕ, suc, ◌+◌, ◌-◌, ◌*◌, ◌/◌, ◌≤◌, ◌<◌}
 use mathlib.Core.Path.{◌≡◌, refl, sym, ap, ap₂, ◌∙◌, subst}
-use mathlib.Core.Bool.{Bool, true, false, not, ◌&&◌}
+use mathlib.Core.Bool.{Bool, true, false, ◌&&◌}
 use mathlib.Core.Logic.{◌⊎◌, inl, inr}
 use mathlib.Core.List.{List}
 use native.Mathlib.Decide.{ℕ_discrete, dec_lt}
@@ -12,7 +12,6 @@ use lib.Dec.{leb, eqb}
 use lib.ListN.{length, take, drop, get_or, set, length-set, length-take, length-drop}
 use lib.Seq.{get_or-set_same, get_or-set_other, get_or-take, get_or-drop}
 use borrow.Author.Tests.{eqb-true, eq-eqb, ne_eqb, le-leb}
-use Rattle.rules.specs.Lists.{one}
 use Rattle.rules.specs.Plane.{Point, point, points, equal}
 use Rattle.point_numbers.specs.Width.{point_at}
 use Rattle.point_numbers.proofs.Points.{points_length, points_at}
@@ -20,13 +19,14 @@ use Rattle.chain_laws.proofs.Counts.{Each, each_of}
 use Rattle.chain_laws.proofs.Room.{lay_short}
 use Rattle.chain_travel.proofs.Values.{Number, same, self}
 use Rattle.chain_travel.proofs.Values as travel
+use Rattle.std.specs.Prelude.{Option, Some, None, is_none}
 use Rattle.check_laws.specs.Standing.{common, run, laid_run, standing, fit_at}
 use Rattle.check_laws.proofs.Common.{common_left, common_each, common_cut, common_first, common_take}
 use Rattle.check_laws.proofs.Points.{equal_number, values, standing_right, standing_values}
 use Rattle.check_laws.proofs.Ways.{run_length}
 use Rattle.check_places.specs.declared.Extent.{Extent}
 use Rattle.check_places.specs.declared.Scan.{Scan}
-use Rattle.check_places.specs.Places.{far, PlaceGround, number_stands, Reached, alike_at, best_of, Known, Scanned, Anew, Ahead, Advanced}
+use Rattle.check_places.specs.Places.{far, PlaceGround, Reached, alike_at, next_stands, whole, Known, Scanned, Anew, Ahead, Advanced}
 use Rattle.check_places.proofs.Reading.{there_stands}
 use Rattle.check_places.proofs.Stretching.{alike_right, alike_values}
 
@@ -77,7 +77,7 @@ module _ (w : ℕ) (chain line : List ℕ) (turned : Bool) (g : PlaceGround w ch
   -- ---- a place that is read anew
 
   pub scan_start : (i : ℕ) (r : Extent) → Reached w chain line turned i r
-      → Anew w chain line turned (record { here = r.points; best = i; points = r.points; whole = r.whole; x = r.x; y = r.y; low = i; high = i }) i
+      → Anew w chain line turned (record { here = r.points; best = i; reached = r; low = i; high = i }) i
   scan_start i r h =
       record {
         scanned =
@@ -104,9 +104,9 @@ module _ (w : ℕ) (chain line : List ℕ) (turned : Bool) (g : PlaceGround w ch
 
   -- ---- the next place
 
-  module _ (s : Scan) (r : Reached w chain line turned s.best (best_of s)) (numbers : Each Number (take s.points (drop s.best t))) (i : ℕ) where
+  module _ (s : Scan) (r : Reached w chain line turned s.best s.reached) (numbers : Each Number (take s.reached.points (drop s.best t))) (i : ℕ) where
     abbrev m : ℕ
-    m = s.points
+    m = s.reached.points
 
     abbrev n : ℕ
     n = alike_at t s.best m i
@@ -127,27 +127,31 @@ module _ (w : ℕ) (chain line : List ℕ) (turned : Bool) (g : PlaceGround w ch
     standing_is = standing_values t turned l i g.numbers
 
     -- where more of the line's points stand, the best place doesn't have all, and the next one stands here
-    more_better : m < standing t turned l i → (not s.whole && (leb m n && number_stands chain ((i + n) * w) (point s.x s.y))) ≡ true
-    unfolding standing
+    more_better : m < standing t turned l i → (leb m n && next_stands s.reached.next chain ((i + n) * w)) ≡ true
+    unfolding standing next_stands
     more_better h =
         let e : n ≡ m = alike_is ∙ common_first same m (drop i (values t)) v (omega (arith, standing_is)) in
-        let f : s.whole ≡ false = r.all ∙ ne_eqb m (length laid) (λ q. omega (arith, standing_right t turned l i)) in
+        let f : whole s.reached ≡ false = r.all ∙ ne_eqb m (length laid) (λ q. omega (arith, standing_right t turned l i)) in
         let b : (i + m) * w + w ≤ length chain = omega (arith, sums i m w, standing_inside i (suc m) h (omega arith)) in
         let c : (i + m) * w < length chain = omega (arith, g.two) in
         let k : i + m < length chain / w = omega (arith, common_left equal (drop i t) laid, length-drop i t, points_length w chain) in
         let q : equal (point_at w chain ((i + m) * w)) (get_or laid m (point 0 0)) ≡ true =
         ap (λ (p : Point). equal p (get_or laid m (point 0 0))) (sym (points_at w chain (i + m) (point 0 0) k) ∙ sym (get_or-drop i t m (point 0 0)))
         ∙ common_each equal (drop i t) laid m (point 0 0) (point 0 0) h in
-        let z : equal (point_at w chain ((i + m) * w)) (point s.x s.y) ≡ true = sym (r.next f (point_at w chain ((i + m) * w))) ∙ q in
-        let y : number_stands chain ((i + m) * w) (point s.x s.y) ≡ true = there_stands w chain g.two g.chain_whole (i + m) (point s.x s.y) c z in
-        ap₂ (λ (x : Bool) (j : ℕ). not x && (leb m j && number_stands chain ((i + j) * w) (point s.x s.y))) f e
-        ∙ ap₂ (λ (x y : Bool). x && y) (le-leb m m (omega arith)) y
+        ap₂ (λ (x : Bool) (j : ℕ). leb m j && next_stands s.reached.next chain ((i + j) * w)) f e
+        ∙ ap₂ (λ (x y : Bool). x && y) (le-leb m m (omega arith)) (stood s.reached.next refl f c q)
       where
         sums : (i m w : ℕ) → (i + suc m) * w ≡ (i + m) * w + w
         sums i m w = omega arith
 
+        stood : (o : Option (ℕ × ℕ)) → s.reached.next ≡ o → is_none s.reached.next ≡ false → (i + m) * w < length chain
+            → equal (point_at w chain ((i + m) * w)) (get_or laid m (point 0 0)) ≡ true → next_stands o chain ((i + m) * w) ≡ true
+        stood None e f c q = absurd (cc)
+        stood (Some p) e f c q =
+            there_stands w chain g.two g.chain_whole (i + m) (point p.0 p.1) c (sym (r.next p e (point_at w chain ((i + m) * w))) ∙ q)
+
     -- and else as many of its points stand here as of those at the best place
-    pub no_better : (not s.whole && (leb m n && number_stands chain ((i + n) * w) (point s.x s.y))) ≡ false → n ≡ standing t turned l i
+    pub no_better : (leb m n && next_stands s.reached.next chain ((i + n) * w)) ≡ false → n ≡ standing t turned l i
     no_better e =
         elim (dec_lt m (standing t turned l i)) [
           | yes h ↦ let q = more_better h in let z : ◌≡◌ {A = ℕ} 0 1 = cc in absurd (omega arith)
@@ -160,18 +164,18 @@ module _ (w : ℕ) (chain line : List ℕ) (turned : Bool) (g : PlaceGround w ch
     k = a.scanned.known
 
     abbrev here : ℕ
-    here = alike_at t s.best s.points i
+    here = alike_at t s.best s.reached.points i
 
     abbrev near' : List ℕ
     near' = set near (i - s.best) here
 
-    table_next : (d : ℕ) → 0 < d → s.best + d ≤ i → get_or near' d 0 ≡ alike_at t s.best s.points (s.best + d)
+    table_next : (d : ℕ) → 0 < d → s.best + d ≤ i → get_or near' d 0 ≡ alike_at t s.best s.reached.points (s.best + d)
     table_next d b c =
         elim (ℕ_discrete d (i - s.best)) [
           | yes q ↦
               let f : i ≡ s.best + d = omega (arith, k.best_before, a.next) in
               ap (λ (j : ℕ). get_or near' j 0) q ∙ get_or-set_same near (i - s.best) here 0 (omega (arith, a.long, a.room, k.best_before, a.next))
-              ∙ ap (alike_at t s.best s.points) f
+              ∙ ap (alike_at t s.best s.reached.points) f
           | no q ↦ get_or-set_other near (i - s.best) d here 0 q ∙ k.table d b (omega (arith, other d q c))
         ]
       where
@@ -181,7 +185,7 @@ module _ (w : ℕ) (chain line : List ℕ) (turned : Bool) (g : PlaceGround w ch
     -- the next scan, with the farthest points told
     module _ (low high : ℕ) (is : ((low ≡ i) × (high ≡ i + here)) ⊎ ((low ≡ s.low) × (high ≡ s.high))) where
       abbrev next : Scan
-      next = record { here = here; best = s.best; points = s.points; whole = s.whole; x = s.x; y = s.y; low = low; high = high }
+      next = record { here = here; best = s.best; reached = s.reached; low = low; high = high }
 
       known_next : Known w chain near' next i
       known_next =
@@ -209,23 +213,24 @@ module _ (w : ℕ) (chain line : List ℕ) (turned : Bool) (g : PlaceGround w ch
           best (inl q) e = absurd (omega (arith, k.best_before, a.next))
           best (inr q) e = omega (arith, k.low_best (omega arith))
 
-          high_of : ((low ≡ i) × (high ≡ i + here)) ⊎ ((low ≡ s.low) × (high ≡ s.high)) → s.best < low → high ≡ low + alike_at t s.best s.points low
-          high_of (inl q) b = q.1 ∙ ap (λ (j : ℕ). j + alike_at t s.best s.points j) (sym q.0)
-          high_of (inr q) b = q.1 ∙ k.high_is (omega arith) ∙ ap (λ (j : ℕ). j + alike_at t s.best s.points j) (sym q.0)
+          high_of : ((low ≡ i) × (high ≡ i + here)) ⊎ ((low ≡ s.low) × (high ≡ s.high)) → s.best < low → high ≡ low + alike_at t s.best s.reached.points low
+          high_of (inl q) b = q.1 ∙ ap (λ (j : ℕ). j + alike_at t s.best s.reached.points j) (sym q.0)
+          high_of (inr q) b = q.1 ∙ k.high_is (omega arith) ∙ ap (λ (j : ℕ). j + alike_at t s.best s.reached.points j) (sym q.0)
 
       pub scan_on : here ≡ standing t turned l i → Advanced w chain line turned near' s next i
       scan_on e =
           record {
-            scanned = record { known = known_next; reached = a.scanned.reached; here_is = e; here_low = alike_right t s.best s.points i };
+            scanned = record { known = known_next; reached = a.scanned.reached; here_is = e; here_low = alike_right t s.best s.reached.points i };
             whole_kept = λ q. q;
             best_kept = omega arith;
             long = length-set near (i - s.best) here ∙ a.long;
           }
 
   -- a place that is better
-  pub scan_better : (near : List ℕ) (s s' : Scan) (i : ℕ) (b : Bool) → Ahead w chain line turned near s i → Anew w chain line turned s' i
-      → (not s.whole && b) ≡ true → Advanced w chain line turned near s s' i
-  scan_better near s s' i b a h e =
+  pub scan_better : (near : List ℕ) (s s' : Scan) (i c : ℕ) (b : Bool) → Ahead w chain line turned near s i → Anew w chain line turned s' i
+      → (b && next_stands s.reached.next chain c) ≡ true → Advanced w chain line turned near s s' i
+  unfolding next_stands
+  scan_better near s s' i c b a h e =
       record {
         scanned = h.scanned near;
         whole_kept = λ q. absurd (never q);
@@ -233,26 +238,31 @@ module _ (w : ℕ) (chain line : List ℕ) (turned : Bool) (g : PlaceGround w ch
         long = a.long;
       }
     where
-      never : s.whole ≡ true → ⊥
-      never q = let f : false ≡ true = sym (ap (λ (y : Bool). not y && b) q) ∙ e in let z : ◌≡◌ {A = ℕ} 0 1 = cc in omega arith
+      never : whole s.reached ≡ true → ⊥
+      never q = go s.reached.next q b e
+        where
+          go : (o : Option (ℕ × ℕ)) → is_none o ≡ true → (b : Bool) → (b && next_stands o chain c) ≡ true → ⊥
+          go None q true e = cc
+          go None q false e = cc
+          go (Some p) q b e = cc
 
   -- ---- whether the whole line stands at the place that was looked at
 
-  pub fit_is : (near : List ℕ) (s : Scan) (i : ℕ) → Scanned w chain line turned near s i → (s.whole && eqb s.here s.points) ≡ fit_at t turned l i
+  pub fit_is : (near : List ℕ) (s : Scan) (i : ℕ) → Scanned w chain line turned near s i → (whole s.reached && eqb s.here s.reached.points) ≡ fit_at t turned l i
   unfolding fit_at
-  fit_is near s i h = go s.whole refl
+  fit_is near s i h = go (whole s.reached) refl
     where
-      go : (b : Bool) → s.whole ≡ b → (s.whole && eqb s.here s.points) ≡ eqb (standing t turned l i) (length laid)
+      go : (b : Bool) → whole s.reached ≡ b → (whole s.reached && eqb s.here s.reached.points) ≡ eqb (standing t turned l i) (length laid)
       go true e =
-          let q : s.points ≡ length laid = eqb-true s.points (length laid) (sym h.reached.all ∙ e) in
-          ap (λ (b : Bool). b && eqb s.here s.points) e ∙ ap₂ eqb h.here_is q
+          let q : s.reached.points ≡ length laid = eqb-true s.reached.points (length laid) (sym h.reached.all ∙ e) in
+          ap (λ (b : Bool). b && eqb s.here s.reached.points) e ∙ ap₂ eqb h.here_is q
       go false e =
-          let q : s.points ≡ length laid → ⊥ = λ z. different (sym h.reached.all ∙ e) (eq-eqb s.points (length laid) z) in
-          ap (λ (b : Bool). b && eqb s.here s.points) e
+          let q : s.reached.points ≡ length laid → ⊥ = λ z. different (sym h.reached.all ∙ e) (eq-eqb s.reached.points (length laid) z) in
+          ap (λ (b : Bool). b && eqb s.here s.reached.points) e
           ∙ sym (ne_eqb (standing t turned l i) (length laid) (λ z. q (omega (arith, h.here_is, h.here_low, h.reached.count, standing_right t turned l s.best))))
         where
           different : {b : Bool} → b ≡ false → b ≡ true → ⊥
           different x y = let z : ◌≡◌ {A = ℕ} 0 1 = cc in omega arith
 
-  pub whole_size : (near : List ℕ) (s : Scan) (i : ℕ) → Scanned w chain line turned near s i → s.whole ≡ true → s.points ≡ length laid
-  whole_size near s i h e = eqb-true s.points (length laid) (sym h.reached.all ∙ e)
+  pub whole_size : (near : List ℕ) (s : Scan) (i : ℕ) → Scanned w chain line turned near s i → whole s.reached ≡ true → s.reached.points ≡ length laid
+  whole_size near s i h e = eqb-true s.reached.points (length laid) (sym h.reached.all ∙ e)

@@ -172,34 +172,34 @@ module _ (w : ℕ) (chain near : List ℕ) (s : Scan) (last i : ℕ) (g : Known 
   abbrev known : ℕ
   known = get_or near d 0
 
-  known_is : known ≡ alike_at points_of_lem s.best s.points (s.best + d)
+  known_is : known ≡ alike_at points_of_lem s.best s.reached.points (s.best + d)
   known_is = g.table d (omega (arith, low_before)) (omega (arith, low_before, low_there))
 
   pub known_small : known < far
-  known_small = omega (arith, known_is, alike_right points_of_lem s.best s.points (s.best + d), g.short)
+  known_small = omega (arith, known_is, alike_right points_of_lem s.best s.reached.points (s.best + d), g.short)
 
   alike_begin : take (s.high - i) (drop i (values points_of_lem)) ≡ take (s.high - i) (drop (s.best + d) (values points_of_lem))
   alike_begin =
       let q : s.low + d ≡ i = omega (arith, low_before) in
       ap (λ (j : ℕ). take (s.high - i) (drop j (values points_of_lem))) (sym q)
-      ∙ begin_alike (values points_of_lem) s.best s.points s.low d (s.high - i)
-      (sym (alike_values points_of_lem s.best s.points s.low g.best_numbers)
+      ∙ begin_alike (values points_of_lem) s.best s.reached.points s.low d (s.high - i)
+      (sym (alike_values points_of_lem s.best s.reached.points s.low g.best_numbers)
       ∙ sums s.high s.low i _ (g.high_is low_there) low_before h)
     where
       sums : (a l i x : ℕ) → a ≡ l + x → l < i → i < a → x ≡ i - l + (a - i)
       sums a l i x e b c = omega arith
 
-  pub known_less : known < s.high - i → known ≡ alike_at points_of_lem s.best s.points i
+  pub known_less : known < s.high - i → known ≡ alike_at points_of_lem s.best s.reached.points i
   known_less b =
       known_is
-      ∙ alike_values points_of_lem s.best s.points (s.best + d) g.best_numbers
+      ∙ alike_values points_of_lem s.best s.reached.points (s.best + d) g.best_numbers
       ∙ sym
-      (alike_less same one self (s.high - i) (drop i (values points_of_lem)) (drop (s.best + d) (values points_of_lem)) (take s.points (drop s.best (values points_of_lem))) alike_begin
-      (subst (λ (n : ℕ). n < s.high - i) (known_is ∙ alike_values points_of_lem s.best s.points (s.best + d) g.best_numbers) b))
-      ∙ sym (alike_values points_of_lem s.best s.points i g.best_numbers)
+      (alike_less same one self (s.high - i) (drop i (values points_of_lem)) (drop (s.best + d) (values points_of_lem)) (take s.reached.points (drop s.best (values points_of_lem))) alike_begin
+      (subst (λ (n : ℕ). n < s.high - i) (known_is ∙ alike_values points_of_lem s.best s.reached.points (s.best + d) g.best_numbers) b))
+      ∙ sym (alike_values points_of_lem s.best s.reached.points i g.best_numbers)
 
-  pub known_all : s.high - i ≤ known → s.high - i ≤ alike_at points_of_lem s.best s.points i
+  pub known_all : s.high - i ≤ known → s.high - i ≤ alike_at points_of_lem s.best s.reached.points i
   known_all b =
-      subst (λ (n : ℕ). s.high - i ≤ n) (sym (alike_values points_of_lem s.best s.points i g.best_numbers))
-      (alike_all same one self (s.high - i) (drop i (values points_of_lem)) (drop (s.best + d) (values points_of_lem)) (take s.points (drop s.best (values points_of_lem))) alike_begin
-      (subst (λ (n : ℕ). s.high - i ≤ n) (known_is ∙ alike_values points_of_lem s.best s.points (s.best + d) g.best_numbers) b))
+      subst (λ (n : ℕ). s.high - i ≤ n) (sym (alike_values points_of_lem s.best s.reached.points i g.best_numbers))
+      (alike_all same one self (s.high - i) (drop i (values points_of_lem)) (drop (s.best + d) (values points_of_lem)) (take s.reached.points (drop s.best (values points_of_lem))) alike_begin
+      (subst (λ (n : ℕ). s.high - i ≤ n) (known_is ∙ alike_values points_of_lem s.best s.reached.points (s.best + d) g.best_numbers) b))

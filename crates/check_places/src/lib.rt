@@ -2,57 +2,47 @@
 // the chain's points stand before it.
 #![tactic(auto)]
 
-ghost use Rattle.std.specs.Prelude.{◌≡◌, not, ◌&&◌, cond, ◌+◌, ◌-◌, ◌*◌, ◌≤◌, ◌<◌, leb, eqb, length};
-ghost use Rattle.rules.specs.Lists.{one};
+ghost use Rattle.std.specs.Prelude.{◌≡◌, ◌&&◌, cond, ◌+◌, ◌-◌, ◌*◌, ◌≤◌, ◌<◌, leb, eqb, length, unwrap_or};
 ghost use Rattle.rules.specs.Plane.{point, points};
 ghost use Rattle.rules.specs.Refusals.{most_lines};
 ghost use Rattle.point_numbers.specs.Width.{Whole};
-ghost use Rattle.check_places.specs.Places.{far, PlaceGround, number_stands, last_kept, met, Reached, alike_at, Stretched, Nearing, Anew, Ahead, Advanced, Tables, PlacesFilled};
+ghost use Rattle.check_places.specs.Places.{far, PlaceGround, number_stands, next_stands, whole, last_kept, met, Reached, alike_at, Stretched, Nearing, Anew, Ahead, Advanced, PlacesFilled};
 
 use rules::MOST_LINES;
 
-// How many of a line's points stand at a place of the chain, whether that is all of them, and else the x and y of the first that doesn't.
+// How many of a line's points stand at a place of the chain, and the x and y of the first that doesn't, if there is one.
 #[derive(Clone, Copy)]
 pub struct Extent {
     pub points: usize,
-    pub whole: bool,
-    pub x: u64,
-    pub y: u64,
+    pub next: Option<(u64, u64)>,
 }
 
-// What is known of the places up to one: how many points stand there, `here`; the first place where as many as anywhere stand, `best`, with what is reached
+// What is known of the places up to one: how many points stand there, `here`; the first place where as many as anywhere stand, `best`, with what is `reached`
 // there; and the place `low` behind it whose points go farthest, up to `high`.
 #[derive(Clone, Copy)]
 struct Scan {
     here: usize,
     best: usize,
-    points: usize,
-    whole: bool,
-    x: u64,
-    y: u64,
+    reached: Extent,
     low: usize,
     high: usize,
 }
 
 // Whether the chain's point whose numbers begin at c is equal to x, y.
+#[tactic(auto, unfolding(crate::specs::Places::number_stands))]
 fn stands(chain: &[u64], c: usize, x: u64, y: u64) -> bool
     requires { c < length chain.now → c + 1 < length chain.now }
     ensures { result ≡ number_stands chain.now c (point x y) }
 {
-    if chain.len() <= c {
-        return false;
-    }
-    point_numbers::equal(chain[c], chain[c + 1], x, y)
+    c < chain.len() && point_numbers::equal(chain[c], chain[c + 1], x, y)
 }
 
 // Whether a point is equal to the last one that stands there, if there is one.
-fn repeats(points: usize, last_x: u64, last_y: u64, x: u64, y: u64) -> bool
-    ensures { result ≡ met (last_kept points last_x last_y) (point x y) }
+#[tactic(auto, unfolding(crate::specs::Places::met))]
+fn repeats(kept: Option<(u64, u64)>, x: u64, y: u64) -> bool
+    ensures { result ≡ met (last_kept kept) (point x y) }
 {
-    if points == 0 {
-        return false;
-    }
-    point_numbers::equal(last_x, last_y, x, y)
+    kept.is_some_and(|(a, b)| point_numbers::equal(a, b, x, y))
 }
 
 // Where a line's next point begins, in a direction, with so many numbers of other points left; the last of its points begins at `last`.
@@ -60,10 +50,7 @@ fn next_point(last: usize, left: usize, turned: bool) -> usize
     requires { left ≤ last }
     ensures { result ≡ cond turned left (last - left) }
 {
-    if turned {
-        return left;
-    }
-    last - left
+    if turned { left } else { last - left }
 }
 
 // How many of a line's points stand at the place `at`, in a direction.
@@ -74,36 +61,28 @@ pub fn reach(chain: &[u64], width: usize, at: usize, line: &[u64], turned: bool)
     let last = line.len() - width;
     let mut c = at * width;
     let mut points: usize = 0;
-    let mut last_x: u64 = 0;
-    let mut last_y: u64 = 0;
+    let mut kept = None;
+    // A `for` with step_by asks twice a turn whether a point is left, and a check takes 6% longer.
     let mut left = line.len();
     while 0 < left {
         left -= width;
         let p = next_point(last, left, turned);
         let x = line[p];
         let y = line[p + 1];
-        if repeats(points, last_x, last_y, x, y) {
+        if repeats(kept, x, y) {
             continue;
         }
         if !stands(chain, c, x, y) {
             return Extent {
                 points,
-                whole: false,
-                x,
-                y,
+                next: Some((x, y)),
             };
         }
         points += 1;
         c += width;
-        last_x = x;
-        last_y = y;
+        kept = Some((x, y));
     }
-    Extent {
-        points,
-        whole: true,
-        x: 0,
-        y: 0,
-    }
+    Extent { points, next: None }
 }
 
 // From n on, how many of the `count` points at the place `best` stand at the place i too.
@@ -111,46 +90,42 @@ fn stretch(chain: &[u64], width: usize, i: usize, best: usize, n: usize, count: 
     requires { Stretched width chain.now i best n count }
     ensures { result ≡ alike_at (points width chain.now) best count i }
 {
-    let mut k = n;
-    while k < count {
+    for k in n..count {
         let b = (best + k) * width;
         if !stands(chain, (i + k) * width, chain[b], chain[b + 1]) {
             return k;
         }
-        k += 1;
     }
-    k
+    count
 }
 
 // How many of the points at the best place stand at the place i too. The points from i up to `high` are those at the best place from i - low on: where fewer of
 // them stand there, so many do here, and else all of them.
 fn alike(near: &[u32; MOST_LINES], chain: &[u64], width: usize, s: Scan, i: usize) -> usize
     requires { Nearing width chain.now near.now s i }
-    ensures { result ≡ alike_at (points width chain.now) s.best s.points i }
+    ensures { result ≡ alike_at (points width chain.now) s.best s.reached.points i }
 {
     if s.high <= i {
-        return stretch(chain, width, i, s.best, 0, s.points);
+        return stretch(chain, width, i, s.best, 0, s.reached.points);
     }
     let known = near[i - s.low] as usize;
     let all = s.high - i;
     if known < all {
         return known;
     }
-    stretch(chain, width, i, s.best, all, s.points)
+    stretch(chain, width, i, s.best, all, s.reached.points)
 }
 
 // Whether the place i is better than the best: as many points stand there, and the next one does too.
+#[tactic(auto, unfolding(crate::specs::Places::next_stands))]
 fn better(chain: &[u64], width: usize, s: Scan, i: usize, n: usize) -> bool
     requires { (2 ≤ width) × (width ≤ 4) × Whole width chain.now × (i ≤ far + far) × (n ≤ far) }
-    ensures { result ≡ not s.whole && (leb s.points n && number_stands chain.now ((i + n) * width) (point s.x s.y)) }
+    ensures { result ≡ leb s.reached.points n && next_stands s.reached.next chain.now ((i + n) * width) }
 {
-    if s.whole {
-        return false;
-    }
-    if n < s.points {
-        return false;
-    }
-    stands(chain, (i + n) * width, s.x, s.y)
+    s.reached.points <= n
+        && s.reached
+            .next
+            .is_some_and(|(x, y)| stands(chain, (i + n) * width, x, y))
 }
 
 // The first place that is looked at, or one that is better than all before.
@@ -158,14 +133,11 @@ fn scan_first(chain: &[u64], width: usize, line: &[u64], turned: bool, i: usize)
     requires { PlaceGround width chain.now line.now × (i ≤ far + far) }
     ensures { Anew width chain.now line.now turned result i }
 {
-    let r = reach(chain, width, i, line, turned);
+    let reached = reach(chain, width, i, line, turned);
     Scan {
-        here: r.points,
+        here: reached.points,
         best: i,
-        points: r.points,
-        whole: r.whole,
-        x: r.x,
-        y: r.y,
+        reached,
         low: i,
         high: i,
     }
@@ -189,8 +161,7 @@ fn scan_next(
         return scan_first(chain, width, line, turned, i);
     }
     near[i - s.best] = n as u32;
-    let mut next = s;
-    next.here = n;
+    let mut next = Scan { here: n, ..s };
     if s.high < i + n {
         next.low = i;
         next.high = i + n;
@@ -198,22 +169,17 @@ fn scan_next(
     next
 }
 
-// 1 where the whole line stands at the place that was looked at last, else 0.
-fn fit(s: Scan) -> u8
-    ensures { result ≡ one (s.whole && eqb s.here s.points) }
+// Whether the whole line stands at the place that was looked at last.
+fn fit(s: Scan) -> bool
+    ensures { result ≡ whole s.reached && eqb s.here s.reached.points }
 {
-    if s.whole {
-        if s.here == s.points {
-            return 1;
-        }
-    }
-    0
+    s.reached.next.is_none() && s.here == s.reached.points
 }
 
 // For each of n places from `from` on, whether the whole line stands there, in a direction. Returns how many points it has, laid alone, where it stands at one of
-// them, else 0. The places and the points are looked at once.
+// them. The places and the points are looked at once.
 pub fn fill(
-    fits: &mut [u8; MOST_LINES],
+    fits: &mut [bool; MOST_LINES],
     near: &mut [u32; MOST_LINES],
     chain: &[u64],
     width: usize,
@@ -221,21 +187,15 @@ pub fn fill(
     turned: bool,
     from: usize,
     n: usize,
-) -> usize
-    requires { PlaceGround width chain.now line.now × (from ≤ far) × (0 < n) × (n ≤ most_lines) × Tables fits.old near.old }
-    ensures { PlacesFilled width chain.now line.now turned from n fits.new result
-        × Tables fits.new near.new }
+) -> Option<usize>
+    requires { PlaceGround width chain.now line.now × (from ≤ far) × (0 < n) × (n ≤ most_lines) }
+    ensures { PlacesFilled width chain.now line.now turned from n fits.new (unwrap_or result 0) }
 {
     let mut s = scan_first(chain, width, line, turned, from);
     fits[0] = fit(s);
-    let mut i: usize = 1;
-    while i < n {
+    for i in 1..n {
         s = scan_next(near, chain, width, line, turned, s, from + i);
         fits[i] = fit(s);
-        i += 1;
     }
-    if s.whole {
-        return s.points;
-    }
-    0
+    s.reached.next.is_none().then_some(s.reached.points)
 }

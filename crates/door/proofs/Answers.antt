@@ -1,11 +1,10 @@
--- Every answer that a record of the book allows is proper: a call is refused only with a number above 0. And one call has one number at the door, and leaves
--- each lent slice in one way.
+-- One call has one number at the door, and leaves each lent slice in one way.
 use Prim.Native.Nat.{ℕ, zero, suc}
 use mathlib.Core.Path.{◌≡◌, sym, subst, ap, ◌∙◌}
 use mathlib.Core.Bool.{Bool}
 use mathlib.Core.List.{List}
 use native.Mathlib.Omega.{arith}
-use Rattle.rules.specs.declared.Answer.{Answer}
+use Rattle.rules.specs.Answers.{Answer}
 use Rattle.rules.specs.declared.Settings.{Settings}
 use Rattle.rules.specs.Layout.{Lines}
 use Rattle.rules.specs.Refusals.{Rooms, LentEnds, refusal_of, pair_refusal_of, chain_refusal_of}
@@ -14,27 +13,7 @@ use Rattle.rules.specs.Reasons.{reason_number, reason_of, why_refusal_of, Why}
 use Rattle.pair_laws.proofs.Calls.{paired_once}
 use Rattle.pair_reasons.proofs.Calls.{why_once}
 use Rattle.build_chains.proofs.Built.{built_once}
-use Rattle.door.specs.Proper.{Proper}
 use lib.ListN.{length}
-
--- the refusal's number is 0, and the call accepted, or it is above 0
-pub proper_answer : (k n : ℕ) → Proper (answer_of k n)
-unfolding answer_of unless
-proper_answer zero n = tt
-proper_answer (suc k) n = omega arith
-
-pub proper_asked : (r : Answer) (t : ℕ) (input merged table : List ℕ) (k : ℕ) → r ≡ asked t input merged table k → Proper r
-unfolding asked
-proper_asked r t input merged table k e = subst Proper (sym e) (proper_answer (chain_refusal_of t input merged table k) 0)
-
-pub proper_paired : {alone : Bool} {i : LentEnds} {r : Answer} {pairs workspace : List ℕ} → Paired alone i r pairs workspace → Proper r
-proper_paired {alone} {i} p = subst Proper (sym p.answer) (proper_answer (pair_refusal_of alone i) (length (pairs_of i)))
-
-pub proper_why : {i : LentEnds} {a b : ℕ} {r : Answer} {pairs workspace : List ℕ} → Why i a b r pairs workspace → Proper r
-proper_why {i} {a} {b} w = subst Proper (sym w.answer) (proper_answer (why_refusal_of i a b) (reason_number (reason_of i a b)))
-
-pub proper_built : {t : ℕ} {l : Lines} {s : Settings} {o : Rooms} {r : Answer} {o' : Rooms} → Built t l s o r o' → Proper r
-proper_built {t} {l} {s} {o} b = subst Proper (sym b.answer) (proper_answer (refusal_of t l s o) (built_of t l s).number)
 
 -- ---- one number
 

@@ -1,17 +1,12 @@
--- The check of chains made elsewhere at the door: every answer that its record allows is proper, and one call has one number and leaves the workspace in one
--- way.
+-- The check of chains made elsewhere at the door: one call has one number and leaves the workspace in one way.
 use Prim.Native.Nat.{ℕ}
 use mathlib.Core.Path.{◌≡◌, sym, subst}
 use mathlib.Core.List.{List}
-use Rattle.rules.specs.declared.Answer.{Answer}
+use Rattle.rules.specs.Answers.{Answer}
 use Rattle.rules.specs.Calls.{Numbered}
 use Rattle.rules.specs.Check.{Delivery, check_refusal_of, Checked}
 use Rattle.check_calls.proofs.Ladder.{checked_once}
-use Rattle.door.specs.Proper.{Proper}
-use Rattle.door.proofs.Answers.{proper_answer, numbered_once}
-
-pub proper_checked : {i : Delivery} {r : Answer} {workspace : List ℕ} → Checked i r workspace → Proper r
-proper_checked {i} c = subst Proper (sym c.answer) (proper_answer (check_refusal_of i) 0)
+use Rattle.door.proofs.Answers.{numbered_once}
 
 pub one_check : {i : Delivery} {r r' : ℕ} {workspace₁ workspace₂ : List ℕ}
     → Numbered (λ a. Checked i a workspace₁) r → Numbered (λ a. Checked i a workspace₂) r' → (r ≡ r') × (workspace₁ ≡ workspace₂)

@@ -1,30 +1,17 @@
--- The answers of the calls with an offset are proper, and one call has one number at the door and leaves each lent slice in one way.
+-- The calls with an offset: one call has one number at the door and leaves each lent slice in one way.
 use Prim.Native.Nat.{ℕ}
 use mathlib.Core.Path.{◌≡◌, sym, subst, ◌∙◌}
 use mathlib.Core.Bool.{Bool}
 use mathlib.Core.List.{List}
 use lib.Ieee.{Float, binary64, to_bits}
 use lib.ListN.{length}
-use Rattle.rules.specs.declared.Answer.{Answer}
+use Rattle.rules.specs.Answers.{Answer}
 use Rattle.rules.specs.Layout.{Lines}
 use Rattle.rules.specs.Refusals.{Rooms, LentEnds}
 use Rattle.rules.specs.Calls.{number_of, Numbered, built_of, pairs_of}
 use Rattle.rules.specs.Offset.{offset_limit, offset_refusal_of, offset_asked, settings_for, build_offset_refusal_of, pair_offset_refusal_of, BuiltOffset, PairedOffset}
 use Rattle.offset_calls.proofs.Calls.{built_offset_once, paired_offset_once}
-use Rattle.door.specs.Proper.{Proper}
-use Rattle.door.proofs.Answers.{proper_answer, numbered_once}
-
-pub proper_limit : (r : Answer) (g : ℕ) → r ≡ offset_asked g → Proper r
-unfolding offset_asked
-proper_limit r g e = subst Proper (sym e) (proper_answer (offset_refusal_of g) (to_bits binary64 (offset_limit g)))
-
-pub proper_built_offset : {t : ℕ} {l : Lines} {tolerance ox oy : Float} {switch g : ℕ} {o : Rooms} {r : Answer} {o' : Rooms}
-    → BuiltOffset t l tolerance ox oy switch g o r o' → Proper r
-proper_built_offset {t} {l} {tolerance} {ox} {oy} {switch} {g} {o} b =
-    subst Proper (sym b.answer) (proper_answer (build_offset_refusal_of t l ox oy switch g o) (built_of t l (settings_for tolerance ox oy switch g)).number)
-
-pub proper_paired_offset : {alone : Bool} {g : ℕ} {i : LentEnds} {r : Answer} {pairs workspace : List ℕ} → PairedOffset alone g i r pairs workspace → Proper r
-proper_paired_offset {alone} {g} {i} p = subst Proper (sym p.answer) (proper_answer (pair_offset_refusal_of alone g i) (length (pairs_of i)))
+use Rattle.door.proofs.Answers.{numbered_once}
 
 -- ---- one number
 

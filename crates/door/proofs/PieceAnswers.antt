@@ -1,11 +1,11 @@
--- The answers of the two calls that part building are proper, and each call has one number at the door and leaves each lent slice in one way. And what building
+-- The two calls that part building: each has one number at the door and leaves each lent slice in one way. And what building
 -- answers at the door is what the first and then the second answer.
 use Prim.Native.Nat.{ℕ, ◌≤◌}
 use mathlib.Core.Path.{◌≡◌, sym, ap, subst, ◌∙◌}
 use lib.Ieee.{Float}
 use lib.ListN.{length}
-use Rattle.rules.specs.declared.Answer.{Answer}
-use Rattle.rules.specs.declared.Answer.TheVariants.{Accepted}
+use Rattle.rules.specs.Answers.{Answer}
+use Rattle.rules.specs.Answers.{Accepted}
 use Rattle.rules.specs.declared.Settings.{Settings}
 use Rattle.rules.specs.Layout.{Lines}
 use Rattle.rules.specs.Types.{width_of}
@@ -16,14 +16,7 @@ use Rattle.lent_calls.specs.Parted.{SameRooms, lent_from}
 use Rattle.lent_calls.proofs.FirstCall.{first_once}
 use Rattle.lent_calls.proofs.SecondCall.{finish_once}
 use Rattle.lent_calls.proofs.Parted.{one_is_two}
-use Rattle.door.specs.Proper.{Proper}
-use Rattle.door.proofs.Answers.{proper_answer, numbered_once}
-
-pub proper_first : {t : ℕ} {l : Lines} {switch : ℕ} {limit : Float} {o : FirstRooms} {r : Answer} {o' : FirstRooms} → FirstLeft t l switch limit o r o' → Proper r
-proper_first {t} {l} {switch} {limit} {o} a = subst Proper (sym a.answer) (proper_answer (first_refusal_of t l switch limit o) (left_of t l switch limit).number)
-
-pub proper_finished : {t : ℕ} {l : Lines} {p : LentPieces} {s : Settings} {o : FinishRooms} {r : Answer} {o' : FinishRooms} → Finished t l p s o r o' → Proper r
-proper_finished {t} {l} {p} {s} {o} a = subst Proper (sym a.answer) (proper_answer (finish_refusal_of t l p s o) (finished_of (width_of t) l p s).number)
+use Rattle.door.proofs.Answers.{numbered_once}
 
 pub one_first : {t : ℕ} {l : Lines} {switch : ℕ} {limit : Float} {o : FirstRooms} {r r' : ℕ} {o₁ o₂ : FirstRooms}
     → Numbered (λ a. FirstLeft t l switch limit o a o₁) r → Numbered (λ a. FirstLeft t l switch limit o a o₂) r' → (r ≡ r') × (o₁ ≡ o₂)

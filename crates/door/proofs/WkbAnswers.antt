@@ -1,19 +1,12 @@
--- The answers of the WKB calls are proper, and one call has one number at the door and leaves each lent slice in one way.
+-- The WKB calls: one call has one number at the door and leaves each lent slice in one way.
 use Prim.Native.Nat.{ℕ}
 use mathlib.Core.Path.{◌≡◌, sym, subst, ◌∙◌}
 use mathlib.Core.List.{List}
 use lib.ListN.{length}
-use Rattle.rules.specs.declared.Answer.{Answer}
+use Rattle.rules.specs.Answers.{Answer}
 use Rattle.rules.specs.Calls.{Numbered}
 use Rattle.rules.specs.Wkb.{LentRun, read_refusal_of, Read, LentChains, run_of, write_refusal_of, Wrote}
-use Rattle.door.specs.Proper.{Proper}
-use Rattle.door.proofs.Answers.{proper_answer, numbered_once}
-
-pub proper_read : {i : LentRun} {r : Answer} {coordinates counts type : List ℕ} → Read i r coordinates counts type → Proper r
-proper_read {i} b = subst Proper (sym b.answer) (proper_answer (read_refusal_of i) (length i.lengths))
-
-pub proper_wrote : {i : LentChains} {r : Answer} {run lengths : List ℕ} → Wrote i r run lengths → Proper r
-proper_wrote {i} b = subst Proper (sym b.answer) (proper_answer (write_refusal_of i) (length (run_of i)))
+use Rattle.door.proofs.Answers.{numbered_once}
 
 -- ---- one number
 

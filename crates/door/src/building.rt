@@ -6,7 +6,8 @@ ghost use Rattle.rules.specs.Pieces.{lent_pieces, first_rooms, FirstLeft, finish
 ghost use Rattle.rules.specs.Offset.{BuiltOffset};
 
 use crate::number;
-use rules::Settings;
+use lent_laws::Pieces;
+use rules::{LentLines, Settings};
 
 // Building: the number of chains.
 #[unsafe(no_mangle)]
@@ -39,10 +40,12 @@ pub extern "C" fn lovasuku_build(
 {
     number(build_chains::build(
         wkb_type,
-        coordinates,
-        counts,
-        groups,
-        kinds,
+        &LentLines {
+            coordinates,
+            counts,
+            groups,
+            kinds,
+        },
         Settings {
             tolerance,
             origin_x,
@@ -92,10 +95,12 @@ pub extern "C" fn lovasuku_build_offset(
 {
     number(offset_calls::build_offset(
         wkb_type,
-        coordinates,
-        counts,
-        groups,
-        kinds,
+        &LentLines {
+            coordinates,
+            counts,
+            groups,
+            kinds,
+        },
         tolerance,
         origin_x,
         origin_y,
@@ -138,10 +143,12 @@ pub extern "C" fn lovasuku_first(
 {
     number(lent_calls::first(
         wkb_type,
-        coordinates,
-        counts,
-        groups,
-        kinds,
+        &LentLines {
+            coordinates,
+            counts,
+            groups,
+            kinds,
+        },
         switch,
         limit,
         pieces,
@@ -191,16 +198,20 @@ pub extern "C" fn lovasuku_finish<'a>(
 {
     number(lent_calls::finish(
         wkb_type,
-        coordinates,
-        counts,
-        groups,
-        kinds,
-        pieces,
-        piece_members,
-        piece_marks,
-        piece_listing,
-        piece_merged,
-        k,
+        &LentLines {
+            coordinates,
+            counts,
+            groups,
+            kinds,
+        },
+        &Pieces {
+            records: pieces,
+            members: piece_members,
+            marks: piece_marks,
+            listing: piece_listing,
+            merged: piece_merged,
+            number: k,
+        },
         Settings {
             tolerance,
             origin_x,

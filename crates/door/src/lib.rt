@@ -8,18 +8,17 @@ mod pairing;
 mod wkb;
 
 ghost use Rattle.std.specs.Prelude.{◌≡◌};
-ghost use Rattle.door.specs.Proper.{Proper};
+ghost use Rattle.rules.specs.Answers.{answered};
 ghost use Rattle.rules.specs.Calls.{number_of};
 
 use rules::Answer;
 
 // An answer as a host sees it.
 fn number(answer: Answer) -> u64
-    requires { Proper answer }
-    ensures { result ≡ number_of answer }
+    ensures { result ≡ number_of (answered answer) }
 {
     match answer {
-        Answer::Accepted(n) => n,
-        Answer::Refused(k) => 18446744073709551615 - k + 1,
+        Ok(n) => n,
+        Err(refusal) => 18446744073709551615 - u64::from(refusal) + 1,
     }
 }

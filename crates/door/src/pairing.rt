@@ -6,6 +6,8 @@ ghost use Rattle.rules.specs.Reasons.{Why};
 ghost use Rattle.rules.specs.Offset.{offset_asked, PairedOffset, ends_for};
 
 use crate::number;
+use pair_calls::{Chosen, Indexed, Plain};
+use rules::Ends;
 
 // The plain route: the number of pairs.
 #[unsafe(no_mangle)]
@@ -21,7 +23,16 @@ pub extern "C" fn lovasuku_pairs_plain(
         (lent_ends present.now directions.now pieces.now limit pairs.old workspace.old)
         a pairs.new workspace.new) result }
 {
-    number(pair_calls::pairs_plain(present, directions, pieces, limit, pairs, workspace))
+    number(pair_calls::pairs::<Plain>(
+        &Ends {
+            present,
+            directions,
+            pieces,
+        },
+        limit,
+        pairs,
+        workspace,
+    ))
 }
 
 // The indexed route: the number of pairs.
@@ -38,7 +49,16 @@ pub extern "C" fn lovasuku_pairs_indexed(
         (lent_ends present.now directions.now pieces.now limit pairs.old workspace.old)
         a pairs.new workspace.new) result }
 {
-    number(pair_calls::pairs_indexed(present, directions, pieces, limit, pairs, workspace))
+    number(pair_calls::pairs::<Indexed>(
+        &Ends {
+            present,
+            directions,
+            pieces,
+        },
+        limit,
+        pairs,
+        workspace,
+    ))
 }
 
 // The chosen route: the number of pairs.
@@ -55,7 +75,16 @@ pub extern "C" fn lovasuku_pairs_chosen(
         (lent_ends present.now directions.now pieces.now limit pairs.old workspace.old)
         a pairs.new workspace.new) result }
 {
-    number(pair_calls::pairs_chosen(present, directions, pieces, limit, pairs, workspace))
+    number(pair_calls::pairs::<Chosen>(
+        &Ends {
+            present,
+            directions,
+            pieces,
+        },
+        limit,
+        pairs,
+        workspace,
+    ))
 }
 
 // Why ends i and j are joined or not: 0 selected, 1 same piece, 2 a direction absent, 3 not qualifying, 4 + p blocked by selected pair p.
@@ -74,7 +103,18 @@ pub extern "C" fn lovasuku_why(
         (lent_ends present.now directions.now pieces.now limit pairs.old workspace.old)
         i j a pairs.new workspace.new) result }
 {
-    number(pair_why::why(present, directions, pieces, limit, i, j, pairs, workspace))
+    number(pair_why::why(
+        &Ends {
+            present,
+            directions,
+            pieces,
+        },
+        limit,
+        i,
+        j,
+        pairs,
+        workspace,
+    ))
 }
 
 // The limit that an offset stands for: its 64 bits.
@@ -99,7 +139,16 @@ pub extern "C" fn lovasuku_pairs_plain_offset(
         (ends_for present.now directions.now pieces.now offset pairs.old workspace.old)
         a pairs.new workspace.new) result }
 {
-    number(offset_calls::pairs_plain_offset(present, directions, pieces, offset, pairs, workspace))
+    number(offset_calls::pairs_offset::<Plain>(
+        &Ends {
+            present,
+            directions,
+            pieces,
+        },
+        offset,
+        pairs,
+        workspace,
+    ))
 }
 
 // The indexed route with an offset in the limit's place: the number of pairs.
@@ -116,8 +165,15 @@ pub extern "C" fn lovasuku_pairs_indexed_offset(
         (ends_for present.now directions.now pieces.now offset pairs.old workspace.old)
         a pairs.new workspace.new) result }
 {
-    number(offset_calls::pairs_indexed_offset(
-        present, directions, pieces, offset, pairs, workspace,
+    number(offset_calls::pairs_offset::<Indexed>(
+        &Ends {
+            present,
+            directions,
+            pieces,
+        },
+        offset,
+        pairs,
+        workspace,
     ))
 }
 
@@ -135,5 +191,14 @@ pub extern "C" fn lovasuku_pairs_chosen_offset(
         (ends_for present.now directions.now pieces.now offset pairs.old workspace.old)
         a pairs.new workspace.new) result }
 {
-    number(offset_calls::pairs_chosen_offset(present, directions, pieces, offset, pairs, workspace))
+    number(offset_calls::pairs_offset::<Chosen>(
+        &Ends {
+            present,
+            directions,
+            pieces,
+        },
+        offset,
+        pairs,
+        workspace,
+    ))
 }

@@ -7,7 +7,7 @@ use native.Mathlib.Omega.{arith}
 use borrow.Author.Tests.{lt-ltb, le-ltb, ltb-true, ltb-false, eq-eqb, ne_eqb}
 use mathlib.Core.Logic.{◌⊎◌, inl, inr}
 use lib.Dec.{T, leb, eqb, ltb, lit<}
-use lib.Ieee.{Float, nan, inf, fin, binary64, odd, of_fields, of_bits, is_nan, div}
+use lib.Ieee.{Float, nan, inf, fin, binary64, odd, of_fields, of_bits, is_nan}
 use lib.Ieee.Scale.{finite}
 use Rattle.rules.specs.Lists.{one}
 
@@ -67,6 +67,6 @@ is_nan_lem nan e = refl
 is_nan_lem (inf s) e = absurd (subst T (sym e) tt)
 is_nan_lem (fin s m k) e = absurd (subst T (sym e) tt)
 
-pub zero_by_zero : div binary64 (of_bits binary64 0) (of_bits binary64 0) ≡ nan
-unfolding div of_bits
-zero_by_zero = refl
+pub the_nan : of_bits binary64 0x7ff8_0000_0000_0000 ≡ nan
+unfolding of_bits
+the_nan = refl

@@ -11,9 +11,9 @@ ghost use Rattle.float_bits.specs.Bits.{bits_of};
 // The weights of the sign and of the exponent's lowest place, the bits of the infinity above zero, and those of the NaN that stands for all of them.
 pub const SIGN: u64 = 0x8000_0000_0000_0000;
 
-const UNIT: u64 = 0x0010_0000_0000_0000;
+pub const UNIT: u64 = 0x0010_0000_0000_0000;
 
-const INFINITE: u64 = 0x7FF0_0000_0000_0000;
+pub const INFINITE: u64 = 0x7FF0_0000_0000_0000;
 
 const NAN: u64 = 0x7FF8_0000_0000_0000;
 
@@ -43,19 +43,17 @@ pub fn of_bits(n: u64) -> f64
     ensures { result ≡ of_bits binary64 n }
 {
     if is_nan(n) {
-        return 0.0 / 0.0;
+        f64::NAN
+    } else {
+        f64::from_bits(n)
     }
-    f64::from_bits(n)
 }
 
 // The bits of x, to keep it in a workspace. A NaN has one pattern.
 pub fn bits_of(x: f64) -> u64
     ensures { result ≡ bits_of x }
 {
-    if x != x {
-        return NAN;
-    }
-    f64::to_bits(x)
+    if x.is_nan() { NAN } else { x.to_bits() }
 }
 
 // Whether a and b stand for equal numbers: -0.0 equals 0.0, and a NaN equals nothing. Other bits are other numbers, but for the two zeros.
@@ -63,7 +61,8 @@ pub fn same(a: u64, b: u64) -> bool
     ensures { result ≡ eq (of_bits binary64 a) (of_bits binary64 b) }
 {
     if a == b {
-        return !is_nan(a);
+        !is_nan(a)
+    } else {
+        a % SIGN + b % SIGN == 0
     }
-    a % SIGN + b % SIGN == 0
 }

@@ -6,6 +6,5 @@ mod Cases
 mod Read
 mod Swift
 mod Close
-mod Turn
 pub mod Same
 mod CaseN

@@ -6,10 +6,14 @@ use native.Mathlib.Nat.{le_trans}
 use native.Mathlib.Omega.{arith}
 use borrow.Author.Tests.{lt-ltb, le-ltb, ltb-false}
 use lib.Dec.{T, ltb}
-use lib.Ieee.{Float, nan, binary64, div, size, round, of_bits, to_bits, fits, is_nan, le}
+use lib.Ieee.{Float, nan, binary64, size, round, of_bits, to_bits, fits, is_nan, le}
 use lib.Ieee.Fits.{and_i, round-fits}
 use lib.Ieee.Bits.{to_bits-of_bits, is_true}
-use Rattle.rules.specs.declared.Answer.TheVariants.{Accepted, Refused}
+use native.Mathlib.Decide.{dec_lt}
+use Rattle.std.specs.Prelude.{Ok, Err, MatchResult}
+use Rattle.std.specs.declared.result.Result.{Result}
+use Rattle.rules.specs.declared.Refusal.{Refusal}
+use Rattle.rules.specs.Answers.{Accepted, Refused, answered}
 use Rattle.rules.specs.Root.{digits, floor_root}
 use Rattle.rules.specs.Plane.{unity, minus_unity}
 use Rattle.rules.specs.Refusals.{first_of, limit_bad}
@@ -76,14 +80,29 @@ pub asked_limit : (g : ℕ) → g ≤ 1000 → Accepted (0xbfd0_0000_0000_0000 +
 unfolding offset_asked offset_refusal_of first_of answer_of unless
 asked_limit g h = rw (le-ltb 1000 g h, first_of, limit_bits g h)
 
--- ---- an offset in the limit's place
-pub limit_none : (g : ℕ) → 1000 < g → div binary64 (of_bits binary64 0) (of_bits binary64 0) ≡ limit_for g
-unfolding limit_for div of_bits
+-- ---- an offset in the limit's place: what the answer stands for, and a NaN where it is a refusal
+limit_none : (g : ℕ) → 1000 < g → of_bits binary64 0x7ff8_0000_0000_0000 ≡ limit_for g
+unfolding limit_for of_bits
 limit_none g h = rw (lt-ltb 1000 g h)
 
-pub limit_there : (g : ℕ) → g ≤ 1000 → of_bits binary64 (0xbfd0_0000_0000_0000 + offset_root g) ≡ limit_for g
+limit_there : (g : ℕ) → g ≤ 1000 → of_bits binary64 (0xbfd0_0000_0000_0000 + offset_root g) ≡ limit_for g
 unfolding limit_for
 limit_there g h = rw (le-ltb 1000 g h) (pattern g h)
+
+pub limit_of_answer : (g : ℕ) (r : Result ℕ Refusal) (v : Float) → answered r ≡ offset_asked g
+    → MatchResult r (λ n. v ≡ of_bits binary64 n) (λ _. v ≡ of_bits binary64 0x7ff8_0000_0000_0000) → v ≡ limit_for g
+limit_of_answer g r v a m = elim (dec_lt 1000 g) [
+  | yes h ↦ above r (a ∙ sym (asked_refused g h)) m h
+  | no h ↦ (let l : g ≤ 1000 = omega arith in within r (a ∙ sym (asked_limit g l)) m l)
+]
+  where
+    above : (r : Result ℕ Refusal) → answered r ≡ Refused 22 → MatchResult r (λ n. v ≡ of_bits binary64 n) (λ _. v ≡ of_bits binary64 0x7ff8_0000_0000_0000) → 1000 < g → v ≡ limit_for g
+    above (Ok n) e m h = cc
+    above (Err k) e m h = m ∙ limit_none g h
+
+    within : (r : Result ℕ Refusal) → answered r ≡ Accepted (0xbfd0_0000_0000_0000 + offset_root g) → MatchResult r (λ n. v ≡ of_bits binary64 n) (λ _. v ≡ of_bits binary64 0x7ff8_0000_0000_0000) → g ≤ 1000 → v ≡ limit_for g
+    within (Ok n) e m h = (let i : n ≡ 0xbfd0_0000_0000_0000 + offset_root g = cc in m ∙ ap (of_bits binary64) i ∙ limit_there g h)
+    within (Err k) e m h = cc
 
 nan_bad : limit_bad nan ≡ true
 unfolding limit_bad le

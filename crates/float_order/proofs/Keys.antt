@@ -1,17 +1,16 @@
 -- Keys decide as floats do. For a number v, as a limit and the best so far are, and any m, the tests `le`, `lt` and `eq` of m and v are those of their keys;
 -- and where a bound c is at most m whenever both are numbers, the low key of c is at most the key of m: no case of a NaN is left in it.
 -- True since ranks are in the order of numbers, and a NaN's keys are beyond every rank on the side where nothing goes wrong.
-use mathlib.Core.Path.{◌≡◌, refl, sym, ap, ap₂, ◌∙◌, subst}
+use mathlib.Core.Path.{◌≡◌, refl, sym, ap, ap₂, ◌∙◌}
 use mathlib.Core.Logic.{◌⊎◌, inl, inr}
 use Prim.Native.Nat.{◌≤◌, ◌<◌}
 use native.Mathlib.Omega.{arith}
-use mathlib.Core.Bool.{Bool, true, false, not}
+use mathlib.Core.Bool.{false, not}
 use lib.Dec.{T, leb, ltb, eqb, leb→le, ltb→lt, eqb→eq}
-use lib.Ieee.{Float, nan, inf, fin, binary64, lt, eq, le, ne, is_nan, fits}
-use lib.Ieee.Compare.{differs_from_itself}
+use lib.Ieee.{Float, nan, inf, fin, binary64, lt, eq, le, is_nan, fits}
 use Rattle.float_order.specs.Rank.{rank}
 use Rattle.float_order.specs.Key.{key_nan, key, low_key}
-use Rattle.float_order.proofs.Order.{bool_ext, le_num_l, eq_to_le}
+use Rattle.float_order.proofs.Order.{bool_ext}
 use Rattle.float_order.proofs.Ranks.{le_to_rank, rank_at_most, rank_le_is, rank_lt_is, rank_eq_is}
 
 -- ---- the greatest key is above every number's
@@ -94,13 +93,3 @@ low_key_most x p = go (nan_or_num x)
     go : (x ≡ nan) ⊎ T (not (is_nan x)) → low_key x ≤ key_nan
     go (inl e) = omega (arith, ap low_key e ∙ low_key_of_nan)
     go (inr i) = omega (arith, low_key_num x i, rank_under x p)
-
--- ---- `x == x` is the test for a number
-pub self : (x : Float) → eq x x ≡ true → T (not (is_nan x))
-self x e = le_num_l x x (eq_to_le x x (subst T (sym e) tt))
-
-pub key_else : (x : Float) → eq x x ≡ false → key_nan ≡ key x
-key_else x e = sym (ap key (differs_from_itself x (unfold ne in subst (λ (b : Bool). T (not b)) (sym e) tt)) ∙ key_of_nan)
-
-pub low_key_else : (x : Float) → eq x x ≡ false → 0 ≡ low_key x
-low_key_else x e = sym (ap low_key (differs_from_itself x (unfold ne in subst (λ (b : Bool). T (not b)) (sym e) tt)) ∙ low_key_of_nan)

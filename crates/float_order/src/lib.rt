@@ -1,7 +1,7 @@
 // The measure of two directions, and floats as keys: whole numbers of 64 binary digits that are in order as the floats are.
 #![tactic(auto)]
 
-ghost use Rattle.std.specs.Prelude.{◌≡◌, not, T};
+ghost use Rattle.std.specs.Prelude.{◌≡◌, not, cond, T};
 ghost use Rattle.std.specs.Float.{binary64};
 ghost use Rattle.std.specs.Float.Ieee.{is_nan};
 ghost use Rattle.std.specs.Float.Ieee.Scale.{finite};
@@ -12,19 +12,13 @@ ghost use Rattle.float_order.specs.Key.{key as key_of, low_key as low_key_of};
 // The weight of a double's sign, and the key of a NaN.
 const SIGN: u64 = 0x8000_0000_0000_0000;
 
-pub const GREATEST: u64 = 0xFFFF_FFFF_FFFF_FFFF;
+pub const GREATEST: u64 = u64::MAX;
 
 // A dot product brought to -1..1. A NaN stays.
 pub fn clamped(x: f64) -> f64
     ensures { result ≡ clamp x }
 {
-    if x < -1.0 {
-        return -1.0;
-    }
-    if 1.0 < x {
-        return 1.0;
-    }
-    x
+    x.clamp(-1.0, 1.0)
 }
 
 // The measure of two directions: their dot product, clamped.
@@ -39,7 +33,7 @@ pub fn rank(x: f64) -> u64
     requires { T (not (is_nan x)) }
     ensures { result ≡ rank_of binary64 x }
 {
-    let n = f64::to_bits(x);
+    let n = x.to_bits();
     if n < SIGN {
         n + SIGN
     } else {
@@ -47,24 +41,30 @@ pub fn rank(x: f64) -> u64
     }
 }
 
+// The rank of a number, and `of_nan` for a NaN.
+fn rank_or(x: f64, of_nan: u64) -> u64
+    ensures { result ≡ cond (is_nan x) of_nan (rank_of binary64 x) }
+{
+    if x.is_nan() { of_nan } else { rank(x) }
+}
+
 // A measure's key. A NaN's is the greatest, so that it is at or below no limit's.
 pub fn key(x: f64) -> u64
     ensures { result ≡ key_of x }
 {
-    if x == x { rank(x) } else { GREATEST }
+    rank_or(x, GREATEST)
 }
 
 // A bound's key. A NaN's is the least, so that it rules nothing out.
 pub fn low_key(x: f64) -> u64
     ensures { result ≡ low_key_of x }
 {
-    if x == x { rank(x) } else { 0 }
+    rank_or(x, 0)
 }
 
 // Neither a NaN nor an infinity: taken from itself it leaves a number.
 pub fn is_finite(x: f64) -> bool
     ensures { result ≡ finite x }
 {
-    let d = x - x;
-    d == d
+    x.is_finite()
 }

@@ -74,21 +74,16 @@ fn direction_of(c: &[u64], side: u64) -> rules::Direction
 pub extern "C" fn lovasuku_probe_present(c: &[u64], side: u64) -> bool
     ensures { result ≡ present_of (direction_of (seen side (points 2 c.now))) }
 {
-    let d = direction_of(c, side);
-    match d {
-        rules::Direction::Absent => false,
-        rules::Direction::Toward(_, _) => true,
-    }
+    direction_of(c, side).is_some()
 }
 
 #[unsafe(no_mangle)]
 pub extern "C" fn lovasuku_probe_direction_x(c: &[u64], side: u64) -> f64
     ensures { result ≡ x_of (direction_of (seen side (points 2 c.now))) }
 {
-    let d = direction_of(c, side);
-    match d {
-        rules::Direction::Absent => 0.0 / 0.0,
-        rules::Direction::Toward(x, _) => x,
+    match direction_of(c, side) {
+        Some((x, _)) => x,
+        None => f64::NAN,
     }
 }
 
@@ -96,9 +91,8 @@ pub extern "C" fn lovasuku_probe_direction_x(c: &[u64], side: u64) -> f64
 pub extern "C" fn lovasuku_probe_direction_y(c: &[u64], side: u64) -> f64
     ensures { result ≡ y_of (direction_of (seen side (points 2 c.now))) }
 {
-    let d = direction_of(c, side);
-    match d {
-        rules::Direction::Absent => 0.0 / 0.0,
-        rules::Direction::Toward(_, y) => y,
+    match direction_of(c, side) {
+        Some((_, y)) => y,
+        None => f64::NAN,
     }
 }

@@ -1,30 +1,40 @@
 -- A number brought to 53 binary digits, and an even power of two taken out of a radicand.
 use mathlib.Core.Path.{◌≡◌, refl, sym, ap, ◌∙◌}
 use Prim.Native.Nat.{ℕ, zero, suc, ◌+◌, ◌-◌, ◌*◌, ◌/◌, ◌%◌, ◌^◌, ◌≤◌, ◌<◌}
-use native.Mathlib.Nat.{mul_comm, mul_assoc, pow-suc, le-mul_of_pos_right, lt_of_not-le, le_of_suc-le-suc, mul-le-mul_right, mul-le-mul_left, mul-zero, mul-one}
+use native.Mathlib.Nat.{mul_assoc, lt_of_not-le, le_of_suc-le-suc, mul-le-mul_right, mul-le-mul_left, mul-zero, mul-one, lt_of_le_of_lt, mul-lt-mul_of_pos_right}
 use native.Mathlib.Omega.{arith}
-use native.Mathlib.Numerals.{add-one}
-use lib.Pow.{pow-add}
+use lib.Count.{count_leading_zeros}
+use lib.Pow.{pow-add, pow_pos}
+use Rattle.std.proofs.lemmas.Nat.{leading_top}
 use Rattle.float_whole_root.specs.Near.{Near}
 use Rattle.float_whole_root.proofs.Squares.{sq_mono}
 use Rattle.float_root.proofs.Size.{pow_back, four}
 
--- what holds after s shifts
-pub record Shifted (m a s : ℕ) : Type 0 where
-  pub value : a ≡ m * 2 ^ s
-  pub some : 0 < a
-  pub short : a < 2 ^ 53
-  pub few : s ≤ 52
+-- a number of at most 53 binary digits is brought to 53 by its leading zeros among 64
+pub record Leads (m c : ℕ) : Type 0 where
+  pub some : 11 ≤ c
+  pub few : c - 11 ≤ 52
+  pub least : 2 ^ 52 ≤ m * 2 ^ (c - 11)
+  pub short : m * 2 ^ (c - 11) < 2 ^ 53
 
-pub unshifted : (m : ℕ) → 0 < m → m < 2 ^ 53 → Shifted m m 0
-unshifted m o h = record { value = omega arith; some = o; short = h; few = omega arith }
-
-pub shifted_more : {m a s : ℕ} → Shifted m a s → 0 < m → a < 2 ^ 52 → Shifted m (a * 2) (s + 1)
-shifted_more {m} {a} {s} p o h =
-    let reach : 2 ^ s ≤ 2 ^ s * m = le-mul_of_pos_right (2 ^ s) o in
-    let below : 2 ^ s < 2 ^ 52 = omega (arith, mul_comm m (2 ^ s)) in
-    let v : m * 2 ^ (s + 1) ≡ m * 2 ^ s * 2 = ap (λ (x : ℕ). m * x) (ap (λ (x : ℕ). 2 ^ x) (add-one s) ∙ pow-suc 2 s) ∙ sym (mul_assoc m (2 ^ s) 2) in
-    record { value = omega arith; some = omega arith; short = omega arith; few = omega (arith, pow_back s 52 below) }
+pub leads : (m : ℕ) → 0 < m → m < 2 ^ 53 → Leads m (count_leading_zeros 64 m)
+leads m o h =
+    let t = leading_top 64 m o (omega arith) in
+    go (count_leading_zeros 64 m) t.0 (omega (arith, pow_back t.0 53 (lt_of_le_of_lt t.2 h))) t.1 t.2 t.3
+  where
+    go : (c j : ℕ) → j ≤ 52 → c + suc j ≡ 64 → 2 ^ j ≤ m → m < 2 ^ suc j → Leads m c
+    go c j l e a b =
+        let s = c - 11 in
+        let f : j + s ≡ 52 = omega arith in
+        let g : suc j + s ≡ 53 = omega arith in
+        let p : 2 ^ j * 2 ^ s ≡ 2 ^ 52 = sym (pow-add 2 j s) ∙ ap (λ (x : ℕ). 2 ^ x) f in
+        let q : 2 ^ suc j * 2 ^ s ≡ 2 ^ 53 = sym (pow-add 2 (suc j) s) ∙ ap (λ (x : ℕ). 2 ^ x) g in
+        record {
+          some = omega arith;
+          few = omega arith;
+          least = omega (arith, p, mul-le-mul_right (2 ^ s) a);
+          short = omega (arith, q, mul-lt-mul_of_pos_right b (pow_pos s));
+        }
 
 -- m * 2 ^ j with 2 ^ (2 * k) taken out, and 2 ^ p left in
 pub taken_out : (p k s j m b : ℕ) → b ≡ m * 2 ^ s → j ≡ s + (p + (k + k)) → m * 2 ^ j ≡ b * 2 ^ p * 4 ^ k

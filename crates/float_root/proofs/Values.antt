@@ -8,7 +8,7 @@ use borrow.Author.Tests.{ne_eqb, lt-leb, le-leb, lt-ltb, leb-true, leb-false}
 use lib.Dec.{T, leb, eqb}
 use lib.Pow.{pow-add, pow_pos}
 use lib.IntN.{ℤ}
-use lib.Ieee.{Float, nan, inf, fin, binary64, up, down, odd, of_fields, of_bits, div, is_nan, neg}
+use lib.Ieee.{Float, nan, inf, fin, binary64, up, down, odd, of_fields, of_bits, is_nan, neg}
 use lib.Ieee.Fits.{down_pos}
 use lib.Ieee.Exact.{HasValue, odd_sign}
 use lib.Ieee.Bits.{nan_bits_is, nan_bits_above}
@@ -90,8 +90,8 @@ pub root_zero : of_bits binary64 0 ≡ root binary64 (of_bits binary64 0)
 unfolding root of_bits
 root_zero = refl
 
-pub root_infinity : div binary64 (of_bits binary64 0x3ff0_0000_0000_0000) (of_bits binary64 0) ≡ root binary64 (of_bits binary64 0x7ff0_0000_0000_0000)
-unfolding root of_bits div
+pub root_infinity : of_bits binary64 0x7ff0_0000_0000_0000 ≡ root binary64 (of_bits binary64 0x7ff0_0000_0000_0000)
+unfolding root of_bits
 root_infinity = refl
 
 pub root_minus_zero : neg (of_bits binary64 0) ≡ root binary64 (of_bits binary64 (2 ^ 63))
@@ -104,9 +104,9 @@ root_nan nan h = refl
 root_nan (inf s) h = absurd (subst T (sym h) tt)
 root_nan (fin s m e) h = absurd (subst T (sym h) tt)
 
-zero_by_zero : div binary64 (of_bits binary64 0) (of_bits binary64 0) ≡ nan
-unfolding div of_bits
-zero_by_zero = refl
+the_nan : of_bits binary64 0x7ff8_0000_0000_0000 ≡ nan
+unfolding of_bits
+the_nan = refl
 
 negative : (x t : ℕ) → 0 < x + t → root binary64 (of_fields binary64 true x t) ≡ nan
 unfolding of_fields root
@@ -121,8 +121,8 @@ negative (suc x) t o = go (eqb (suc x) 2047) (eqb t 0)
 
 -- above the infinity's pattern: a NaN, or a sign and a value that is not zero, or -0
 pub root_rest : (n : ℕ) → n < 2 ^ 64 → 0x7ff0_0000_0000_0000 < n → (n ≡ 2 ^ 63 → ⊥)
-    → div binary64 (of_bits binary64 0) (of_bits binary64 0) ≡ root binary64 (of_bits binary64 n)
-root_rest n w h z = zero_by_zero ∙ sym (go (leb (2 ^ 63) n) refl)
+    → of_bits binary64 0x7ff8_0000_0000_0000 ≡ root binary64 (of_bits binary64 n)
+root_rest n w h z = the_nan ∙ sym (go (leb (2 ^ 63) n) refl)
   where
     go : (b : Bool) → leb (2 ^ 63) n ≡ b → root binary64 (of_bits binary64 n) ≡ nan
     go true e =

@@ -6,14 +6,8 @@ ghost use Rattle.std.specs.Float.{binary64};
 ghost use Rattle.std.specs.Float.Ieee.{of_bits};
 ghost use Rattle.rules.specs.Root.{root_units, root as root_of};
 
-use float_bits;
+use float_bits::{INFINITE, SIGN, UNIT};
 use float_whole_root;
-
-const UNIT: u64 = 4503599627370496; // 2^52, the weight of the exponent's field
-
-const SIGN: u64 = 0x8000_0000_0000_0000;
-
-const INFINITE: u64 = 0x7FF0_0000_0000_0000;
 
 // The root of w * 4^26 * 4^k squares of the smallest value: its significand's digits, and k in the exponent's field. Where the significand
 // is 2^53, the sum carries into that field, as it should.
@@ -31,17 +25,13 @@ struct Normal {
     s: u64,
 }
 
+// m without its leading zeros.
 fn shifted(m: u64) -> Normal
     requires { (0 < m) × (m < 2 ^ 53) }
     ensures { (result.m ≡ m * 2 ^ result.s) × (2 ^ 52 ≤ result.m) × (result.m < 2 ^ 53) × (result.s ≤ 52) }
 {
-    let mut a = m;
-    let mut s: u64 = 0;
-    while a < UNIT {
-        a = a * 2;
-        s += 1;
-    }
-    Normal { m: a, s: s }
+    let s = m.leading_zeros() as u64 - 11;
+    Normal { m: m << s, s }
 }
 
 // The root of m * 2^j squares of the smallest value. An even power of two goes into the exponent, and what is left of it into the radicand.
@@ -74,18 +64,16 @@ pub fn root_of_bits(n: u64) -> f64
     ensures { result ≡ root_of binary64 (of_bits binary64 n) }
 {
     if n == 0 {
-        return 0.0;
+        0.0
+    } else if n < INFINITE {
+        positive(n)
+    } else if n == INFINITE {
+        f64::INFINITY
+    } else if n == SIGN {
+        -0.0
+    } else {
+        f64::NAN
     }
-    if n < INFINITE {
-        return positive(n);
-    }
-    if n == INFINITE {
-        return 1.0 / 0.0;
-    }
-    if n == SIGN {
-        return -0.0;
-    }
-    0.0 / 0.0
 }
 
 // The root of x.

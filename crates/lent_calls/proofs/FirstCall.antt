@@ -5,8 +5,8 @@ use mathlib.Core.List.{List}
 use lib.Ieee.{Float}
 use lib.ListN.{length}
 use Rattle.rules.specs.declared.Settings.{Settings}
-use Rattle.rules.specs.declared.Answer.{Answer}
-use Rattle.rules.specs.declared.Answer.TheVariants.{Accepted, Refused}
+use Rattle.rules.specs.Answers.{Answer}
+use Rattle.rules.specs.Answers.{Accepted, Refused}
 use Rattle.rules.specs.Chaining.{Piece, round_one}
 use Rattle.rules.specs.Layout.{Lines}
 use Rattle.rules.specs.Types.{width_of}
@@ -23,6 +23,12 @@ use Rattle.lent_refusals.specs.Admitted.{FirstAdmitted}
 use Rattle.lent_refusals.proofs.Ladders.{first_admitted}
 use Rattle.lent_taking.specs.Leaving.{Leavable, PiecesLeft}
 use Rattle.lent_calls.proofs.Pieces.{lines_many, small_pieces}
+use Rattle.std.specs.Prelude.{Ok, Err}
+use Rattle.std.specs.declared.result.Result.{Result}
+use Rattle.std.specs.Result.{IsErrAnd}
+use Rattle.rules.specs.declared.Refusal.{Refusal}
+use Rattle.rules.specs.Answers.{refusal_number, answered}
+use Rattle.build_refusals.proofs.Found.{no_none}
 
 module _ (t : ℕ) (l : Lines) (switch : ℕ) (limit : Float) (o : FirstRooms) where
   -- a refused call answers with its number and stores nothing
@@ -32,6 +38,12 @@ module _ (t : ℕ) (l : Lines) (switch : ℕ) (limit : Float) (o : FirstRooms) w
         answer = refused_is (first_refusal_of t l switch limit o) k (left_of t l switch limit).number e d;
         rooms = unless_refused (first_refusal_of t l switch limit o) o (left_in t l switch limit o) (λ z. d (e ∙ z));
       }
+
+  -- so does one whose refusal is handed on
+  pub refused_on : (x : Result ℕ Refusal) (r : Refusal) → IsErrAnd x (λ q. q ≡ r) → refusal_number r ≡ first_refusal_of t l switch limit o
+      → FirstLeft t l switch limit o (answered x) o
+  refused_on (Ok n) r h e = absurd h
+  refused_on (Err q) r h e = refused (refusal_number q) (ap refusal_number h ∙ e) (no_none q)
 
   module _ (z : first_refusal_of t l switch limit o ≡ 0) where
     abbrev a : FirstAdmitted t l switch limit o

@@ -1,6 +1,6 @@
 -- ONE CALL IS TWO: what building answers, and what it writes, is what the first call and then the second answer and write, with the same switch and limit, for
 -- every tolerance and origin. It is true because what the first leaves passes 19 and stands for what round one left, and the second goes on from there.
-use Prim.Native.Nat.{ℕ, zero, suc, ◌+◌, ◌*◌, ◌≤◌}
+use Prim.Native.Nat.{ℕ, zero, suc, ◌*◌, ◌≤◌}
 use mathlib.Core.Path.{◌≡◌, refl, sym, ap, ap₂, ◌∙◌, subst}
 use mathlib.Core.Bool.{Bool, true, false, ◌||◌, true≢false}
 use mathlib.Core.List.{List, [], ◌∷◌, ◌++◌, flat_map}
@@ -9,8 +9,8 @@ use lib.ListN.{length, take, drop}
 use lib.Seq.{take_at}
 use borrow.Author.Tests.{le-ltb}
 use Rattle.rules.specs.declared.Settings.{Settings}
-use Rattle.rules.specs.declared.Answer.{Answer}
-use Rattle.rules.specs.declared.Answer.TheVariants.{Accepted, Refused}
+use Rattle.rules.specs.Answers.{Answer}
+use Rattle.rules.specs.Answers.{Accepted, Refused}
 use Rattle.rules.specs.Plane.{flat}
 use Rattle.rules.specs.Boxes.{box_room}
 use Rattle.rules.specs.Chaining.{Piece, pieces, limit_of, round_one}

@@ -7,8 +7,8 @@ use native.Mathlib.Omega.{arith}
 use lib.ListN.{length, drop, length-drop}
 use lib.Seq.{take-take, length-take-le}
 use Rattle.rules.specs.declared.Settings.{Settings}
-use Rattle.rules.specs.declared.Answer.{Answer}
-use Rattle.rules.specs.declared.Answer.TheVariants.{Accepted, Refused}
+use Rattle.rules.specs.Answers.{Answer}
+use Rattle.rules.specs.Answers.{Accepted, Refused}
 use Rattle.rules.specs.Plane.{flat}
 use Rattle.rules.specs.Boxes.{stacked, box_numbers}
 use Rattle.rules.specs.Chaining.{Piece, round_two}
@@ -42,6 +42,12 @@ use Rattle.lent_taking.specs.Taking.{PiecesTakable, Took}
 use Rattle.lent_taking.proofs.Standing.{stood_long, takable, taken_held, taken_lines}
 use Rattle.lent_calls.proofs.Pieces.{members_fit, pieces_fit, lines_low, points_fit, numbers_fit, one_group_lem}
 use Rattle.lent_calls.proofs.Boxes.{finish_boxing}
+use Rattle.std.specs.Prelude.{Ok, Err}
+use Rattle.std.specs.declared.result.Result.{Result}
+use Rattle.std.specs.Result.{IsErrAnd}
+use Rattle.rules.specs.declared.Refusal.{Refusal}
+use Rattle.rules.specs.Answers.{refusal_number, answered}
+use Rattle.build_refusals.proofs.Found.{no_none}
 
 module _ (t : ℕ) (l : Lines) (p : LentPieces) (s : Settings) (o : FinishRooms) where
   -- a refused call answers with its number and stores nothing
@@ -51,6 +57,11 @@ module _ (t : ℕ) (l : Lines) (p : LentPieces) (s : Settings) (o : FinishRooms)
         answer = refused_is (finish_refusal_of t l p s o) k (finished_of (width_of t) l p s).number e d;
         rooms = unless_refused (finish_refusal_of t l p s o) o (finished_in t l p s o) (λ z. d (e ∙ z));
       }
+
+  -- so does one whose refusal is handed on
+  pub refused_on : (x : Result ℕ Refusal) (r : Refusal) → IsErrAnd x (λ q. q ≡ r) → refusal_number r ≡ finish_refusal_of t l p s o → Finished t l p s o (answered x) o
+  refused_on (Ok n) r h e = absurd h
+  refused_on (Err q) r h e = refused (refusal_number q) (ap refusal_number h ∙ e) (no_none q)
 
   module _ (z : finish_refusal_of t l p s o ≡ 0) where
     abbrev a : FinishAdmitted t l p s o

@@ -2,21 +2,20 @@
 // origin, and finishes them.
 #![tactic(auto)]
 
-ghost use Rattle.std.specs.Prelude.{◌≡◌};
+ghost use Rattle.std.specs.Prelude.{◌≡◌, length};
+ghost use Rattle.rules.specs.Answers.{Accepted, answered};
 ghost use Rattle.rules.specs.Chaining.{round_two};
-ghost use Rattle.rules.specs.Layout.{lent};
-ghost use Rattle.rules.specs.Pieces.{lent_pieces, first_rooms, first_refusal_of, FirstLeft, finish_rooms, finish_refusal_of, Finished};
+ghost use Rattle.rules.specs.Pieces.{first_rooms, first_refusal_of, FirstLeft, finish_rooms, finish_refusal_of, Finished};
 ghost use Rattle.build_chains.specs.Building.{Left, Second};
+ghost use Rattle.lent_laws.specs.Lent.{as_lines, as_pieces};
 
-use rules::{Answer, LINE_ROOM, Settings};
+use lent_laws::Pieces;
+use rules::{Answer, LINE_ROOM, LentLines, Settings};
 
-// A first call that is not refused: round one, its pieces as they are lent, and the zeros that are left.
+// A first call that is not refused: round one, its pieces as they are lent, and the zeros that are left. Returns how many pieces there are.
 fn first_admitted(
     wkb_type: u32,
-    coordinates: &[u64],
-    counts: &[u32],
-    groups: &[u32],
-    kinds: &[u8],
+    lines: &LentLines,
     switch: u8,
     limit: f64,
     pieces: &mut [u32],
@@ -25,18 +24,17 @@ fn first_admitted(
     listing: &mut [u32],
     merged: &mut [u64],
     workspace: &mut [u64],
-) -> Answer
-    requires { first_refusal_of wkb_type (lent coordinates.now counts.now groups.now kinds.now) switch limit
+) -> u64
+    requires { first_refusal_of wkb_type (as_lines lines.now) switch limit
         (first_rooms pieces.old members.old marks.old listing.old
         merged.old workspace.old) ≡ 0 }
-    ensures { FirstLeft wkb_type
-        (lent coordinates.now counts.now groups.now kinds.now) switch limit
+    ensures { FirstLeft wkb_type (as_lines lines.now) switch limit
         (first_rooms pieces.old members.old marks.old listing.old
         merged.old workspace.old)
-        result (first_rooms pieces.new members.new marks.new listing.new
+        (Accepted result) (first_rooms pieces.new members.new marks.new listing.new
         merged.new workspace.new) }
 {
-    let n = counts.len();
+    let n = lines.counts.len();
     let width = point_numbers::width_of(wkb_type);
     let settings = Settings {
         tolerance: 0.0,
@@ -45,16 +43,7 @@ fn first_admitted(
         switch,
         limit,
     };
-    let left = build_chains::round_one(
-        coordinates,
-        width,
-        counts,
-        groups,
-        kinds,
-        settings,
-        merged,
-        workspace,
-    );
+    let left = build_chains::round_one(lines, width, settings, merged, workspace);
     let at = left.at;
     let end = n * LINE_ROOM;
     lent_taking::leave_pieces(
@@ -68,17 +57,14 @@ fn first_admitted(
         listing,
     );
     point_slices::clear(workspace, end);
-    Answer::Accepted(left.number as u64)
+    left.number as u64
 }
 
 // Leaves the pieces of round one: their records, members, marks, listing and merged coordinates. A refused call changes no slice; an accepted one leaves
 // the workspace zero over its named length, whatever it held.
 pub fn first(
     wkb_type: u32,
-    coordinates: &[u64],
-    counts: &[u32],
-    groups: &[u32],
-    kinds: &[u8],
+    lines: &LentLines,
     switch: u8,
     limit: f64,
     pieces: &mut [u32],
@@ -89,72 +75,44 @@ pub fn first(
     workspace: &mut [u64],
 ) -> Answer
     ensures { FirstLeft wkb_type
-        (lent coordinates.now counts.now groups.now kinds.now) switch limit
+        (as_lines lines.now) switch limit
         (first_rooms pieces.old members.old marks.old listing.old
         merged.old workspace.old)
-        result (first_rooms pieces.new members.new marks.new listing.new
+        (answered result) (first_rooms pieces.new members.new marks.new listing.new
         merged.new workspace.new) }
 {
-    let refused = lent_refusals::first_refusal(
-        wkb_type,
-        coordinates,
-        counts,
-        groups,
-        kinds,
-        switch,
-        limit,
-        pieces,
-        members,
-        marks,
-        listing,
-        merged,
-        workspace,
-    );
-    if refused != 0 {
-        return Answer::Refused(refused);
-    }
-    first_admitted(
-        wkb_type,
-        coordinates,
-        counts,
-        groups,
-        kinds,
-        switch,
-        limit,
-        pieces,
-        members,
-        marks,
-        listing,
-        merged,
-        workspace,
-    )
+    lent_refusals::first_refusal(
+        wkb_type, lines, switch, limit, pieces, members, marks, listing, merged, workspace,
+    )?;
+    Ok(first_admitted(
+        wkb_type, lines, switch, limit, pieces, members, marks, listing, merged, workspace,
+    ))
 }
 
-// The m pieces of n lines that stand where a round takes its own in, with their copies in `copies`: joined where their ends are in one cell, if the
+// The m pieces of the lines that stand where a round takes its own in, with their copies in `copies`: joined where their ends are in one cell, if the
 // tolerance is above 0, and else as they are. Returns how many there are then.
 fn join_again<'a>(
-    coordinates: &'a [u64],
+    lines: &LentLines<'a>,
     width: usize,
-    n: usize,
-    groups: &[u32],
     settings: Settings,
     m: usize,
     copies: &'a [u64],
     merged: &mut [u64],
     workspace: &mut [u64],
 ) -> usize
-    requires { Second width n m settings coordinates.now groups.now copies.now merged.old workspace.old }
-    ensures { (y : Second width n m settings coordinates.now groups.now copies.now
+    requires { Second width (length lines.now.counts.now) m settings lines.now.coordinates.now lines.now.groups.now copies.now merged.old workspace.old }
+    ensures { (y : Second width (length lines.now.counts.now) m settings lines.now.coordinates.now lines.now.groups.now copies.now
         merged.old workspace.old)
-        → Left width n coordinates.now y.counts (round_two settings y.ps)
+        → Left width (length lines.now.counts.now) lines.now.coordinates.now y.counts (round_two settings y.ps)
         0 result merged.new merged.old workspace.new workspace.old }
 {
+    let n = lines.counts.len();
     if 0.0 < settings.tolerance {
         return build_chains::round_two(
-            coordinates,
+            lines.coordinates,
             width,
             n,
-            groups,
+            lines.groups,
             settings,
             m,
             copies,
@@ -168,26 +126,19 @@ fn join_again<'a>(
         n,
         m,
         width,
-        coordinates,
+        lines.coordinates,
         copies,
         merged,
     );
     m
 }
 
-// A second call that is not refused: the lent pieces taken in, round two, the layout, the boxes, and the zeros that are left.
+// A second call that is not refused: the lent pieces taken in, round two, the layout, the boxes, and the zeros that are left. Returns how many chains there
+// are.
 fn finish_admitted<'a>(
     wkb_type: u32,
-    coordinates: &'a [u64],
-    counts: &[u32],
-    groups: &[u32],
-    kinds: &[u8],
-    pieces: &[u32],
-    piece_members: &[u32],
-    piece_marks: &[u8],
-    piece_listing: &[u32],
-    piece_merged: &'a [u64],
-    k: u64,
+    lines: &LentLines<'a>,
+    pieces: &Pieces<'a>,
     settings: Settings,
     table: &mut [u32],
     members: &mut [u32],
@@ -196,40 +147,25 @@ fn finish_admitted<'a>(
     merged: &mut [u64],
     boxes: &mut [u64],
     workspace: &mut [u64],
-) -> Answer
-    requires { finish_refusal_of wkb_type (lent coordinates.now counts.now groups.now kinds.now)
-        (lent_pieces pieces.now piece_members.now piece_marks.now piece_listing.now
-        piece_merged.now k) settings
+) -> u64
+    requires { finish_refusal_of wkb_type (as_lines lines.now) (as_pieces pieces.now) settings
         (finish_rooms table.old members.old marks.old listing.old
         merged.old boxes.old workspace.old) ≡ 0 }
-    ensures { Finished wkb_type (lent coordinates.now counts.now groups.now kinds.now)
-        (lent_pieces pieces.now piece_members.now piece_marks.now piece_listing.now
-        piece_merged.now k) settings
+    ensures { Finished wkb_type (as_lines lines.now) (as_pieces pieces.now) settings
         (finish_rooms table.old members.old marks.old listing.old
         merged.old boxes.old workspace.old)
-        result (finish_rooms table.new members.new marks.new listing.new
+        (Accepted result) (finish_rooms table.new members.new marks.new listing.new
         merged.new boxes.new workspace.new) }
 {
-    let n = counts.len();
+    let n = lines.counts.len();
     let width = point_numbers::width_of(wkb_type);
-    let m = k as usize;
-    let lines = lent_taking::take_pieces(
-        workspace,
-        n,
-        m,
-        pieces,
-        piece_members,
-        piece_marks,
-        piece_listing,
-    );
+    let taken = lent_taking::take_pieces(workspace, n, pieces);
     let left = join_again(
-        coordinates,
+        lines,
         width,
-        n,
-        groups,
         settings,
-        m,
-        piece_merged,
+        pieces.number as usize,
+        pieces.merged,
         merged,
         workspace,
     );
@@ -238,36 +174,26 @@ fn finish_admitted<'a>(
         &workspace[0..end],
         n,
         left,
-        lines,
+        taken,
         width,
-        coordinates,
+        lines,
         merged,
-        counts,
-        kinds,
         table,
         members,
         marks,
         listing,
     );
-    build_boxes::lay_boxes(coordinates, merged, table, width, number, boxes);
+    build_boxes::lay_boxes(lines.coordinates, merged, table, width, number, boxes);
     point_slices::clear(workspace, end);
-    Answer::Accepted(number as u64)
+    number as u64
 }
 
 // Finishes the k pieces that are lent: the chains of a call, as building writes them. A refused call changes no slice; an accepted one leaves the workspace
 // zero over its named length, whatever it held. The lent pieces are not changed.
 pub fn finish<'a>(
     wkb_type: u32,
-    coordinates: &'a [u64],
-    counts: &[u32],
-    groups: &[u32],
-    kinds: &[u8],
-    pieces: &[u32],
-    piece_members: &[u32],
-    piece_marks: &[u8],
-    piece_listing: &[u32],
-    piece_merged: &'a [u64],
-    k: u64,
+    lines: &LentLines<'a>,
+    pieces: &Pieces<'a>,
     settings: Settings,
     table: &mut [u32],
     members: &mut [u32],
@@ -277,57 +203,16 @@ pub fn finish<'a>(
     boxes: &mut [u64],
     workspace: &mut [u64],
 ) -> Answer
-    ensures { Finished wkb_type (lent coordinates.now counts.now groups.now kinds.now)
-        (lent_pieces pieces.now piece_members.now piece_marks.now piece_listing.now
-        piece_merged.now k) settings
+    ensures { Finished wkb_type (as_lines lines.now) (as_pieces pieces.now) settings
         (finish_rooms table.old members.old marks.old listing.old
         merged.old boxes.old workspace.old)
-        result (finish_rooms table.new members.new marks.new listing.new
+        (answered result) (finish_rooms table.new members.new marks.new listing.new
         merged.new boxes.new workspace.new) }
 {
-    let refused = lent_refusals::finish_refusal(
-        wkb_type,
-        coordinates,
-        counts,
-        groups,
-        kinds,
-        pieces,
-        piece_members,
-        piece_marks,
-        piece_listing,
-        piece_merged,
-        k,
-        settings,
-        table,
-        members,
-        marks,
-        listing,
-        merged,
-        boxes,
-        workspace,
-    );
-    if refused != 0 {
-        return Answer::Refused(refused);
-    }
-    finish_admitted(
-        wkb_type,
-        coordinates,
-        counts,
-        groups,
-        kinds,
-        pieces,
-        piece_members,
-        piece_marks,
-        piece_listing,
-        piece_merged,
-        k,
-        settings,
-        table,
-        members,
-        marks,
-        listing,
-        merged,
-        boxes,
-        workspace,
-    )
+    lent_refusals::finish_refusal(
+        wkb_type, lines, pieces, settings, table, members, marks, listing, merged, boxes, workspace,
+    )?;
+    Ok(finish_admitted(
+        wkb_type, lines, pieces, settings, table, members, marks, listing, merged, boxes, workspace,
+    ))
 }

@@ -13,6 +13,7 @@ use Rattle.rules.specs.Plane.{reads, points}
 use Rattle.rules.specs.Refusals.{any_nowhere, piece_size}
 use Rattle.point_numbers.specs.Width.{Whole}
 use Rattle.point_numbers.proofs.Points.{points_exact}
+use Rattle.lent_judging.specs.declared.Record.{Record}
 use Rattle.lent_judging.specs.Judging.{points_bad}
 use Rattle.lent_judging.specs.Front.{last_end, clean_to, FrontClean}
 use Rattle.lent_judging.proofs.Pieces.{part_places}
@@ -25,15 +26,16 @@ part_front (suc a) b zero l h = absurd (omega arith)
 part_front (suc a) b (suc k) [] h = refl
 part_front (suc a) b (suc k) (x ∷ l) h = part_front a b k l (omega arith)
 
-pub front_fine : (w s f c clean : ℕ) (merged : List ℕ) → 2 ≤ w → FrontClean w merged clean → s ≡ 1 → f + c ≤ clean → false ≡ points_bad w s f c merged
+pub front_fine : (w : ℕ) (r : Record) (clean : ℕ) (merged : List ℕ) → 2 ≤ w → FrontClean w merged clean → r.source ≡ 1 → r.point + r.points ≤ clean
+    → false ≡ points_bad w r merged
 unfolding points_bad
-front_fine w s f c clean merged two y e h =
-    let fits : (f + c) * w ≤ clean * w = mul-le-mul_right w h in
+front_fine w r clean merged two y e h =
+    let fits : (r.point + r.points) * w ≤ clean * w = mul-le-mul_right w h in
     let front = take (clean * w) merged in
     let long : length front ≡ clean * w = length-take-le (clean * w) merged y.inside in
-    rw (eq-eqb s 1 e, points_bad)
-    (sym (ap (λ (t : List ℕ). any_nowhere (points w t)) (sym (part_front (f * w) (c * w) (clean * w) merged (omega (arith, add-mul f c w))))
-    ∙ part_places w front f c two y.places (omega arith)))
+    rw (eq-eqb r.source 1 e, points_bad)
+    (sym (ap (λ (t : List ℕ). any_nowhere (points w t)) (sym (part_front (r.point * w) (r.points * w) (clean * w) merged (omega (arith, add-mul r.point r.points w))))
+    ∙ part_places w front r.point r.points two y.places (omega arith)))
 
 -- ---- the last end
 
@@ -63,33 +65,19 @@ module _ (pieces : List ℕ) where
 
 -- ---- what is found
 
--- a front as it is lent, from 0 to its last
-abbrev pub front : ℕ → List ℕ → List ℕ
-front c s = take (c - 0) (drop 0 s)
-
 module _ (w : ℕ) (merged : List ℕ) (end : ℕ) where
   pub clean_short : length merged < end * w → 0 ≡ clean_to w merged end
   unfolding clean_to
   clean_short h = rw (lt-ltb (length merged) (end * w) h, clean_to)
 
   module _ (h : end * w ≤ length merged) where
-    front_is : front (end * w) merged ≡ take (end * w) merged
-    front_is = let e : end * w - 0 ≡ end * w = omega arith in ap (λ (k : ℕ). take k merged) e
-
-    pub front_whole : Whole w (front (end * w) merged)
-    front_whole = record { number = end; long = ap length front_is ∙ length-take-le (end * w) merged h }
-
-    pub clean_none : {r : Bool} → r ≡ any_nowhere (points w (front (end * w) merged)) → r ≡ true → 0 ≡ clean_to w merged end
+    pub clean_none : {r : Bool} → r ≡ any_nowhere (points w (take (end * w) merged)) → r ≡ true → 0 ≡ clean_to w merged end
     unfolding clean_to
-    clean_none e t =
-        let g : any_nowhere (points w (take (end * w) merged)) ≡ true = ap (λ (l : List ℕ). any_nowhere (points w l)) (sym front_is) ∙ sym e ∙ t in
-        rw (le-ltb (length merged) (end * w) h, g, clean_to)
+    clean_none e t = rw (le-ltb (length merged) (end * w) h, ← e, t, clean_to)
 
-    pub clean_all : {r : Bool} → r ≡ any_nowhere (points w (front (end * w) merged)) → r ≡ false → end ≡ clean_to w merged end
+    pub clean_all : {r : Bool} → r ≡ any_nowhere (points w (take (end * w) merged)) → r ≡ false → end ≡ clean_to w merged end
     unfolding clean_to
-    clean_all e t =
-        let g : any_nowhere (points w (take (end * w) merged)) ≡ false = ap (λ (l : List ℕ). any_nowhere (points w l)) (sym front_is) ∙ sym e ∙ t in
-        rw (le-ltb (length merged) (end * w) h, g, clean_to)
+    clean_all e t = rw (le-ltb (length merged) (end * w) h, ← e, t, clean_to)
 
   nothing_clean : 2 ≤ w → FrontClean w merged 0
   unfolding any_nowhere reads

@@ -27,7 +27,8 @@ use Rattle.lent_laws.proofs.Tests.{flat_suc, flat_part}
 use Rattle.lent_laws.proofs.Plain.{plain_low, plain_once, plain_is}
 use Rattle.lent_laws.proofs.Places.{Place, all_places, places_none, each_take, each_drop}
 use Rattle.lent_laws.proofs.Fitting.{part_length}
-use Rattle.lent_judging.specs.Judging.{Framed, FrameJudged, OneFit, OneJudged, LinesLent, LinesFit, LinesJudged, points_bad, PointsCounted, Judgeable, PieceJudged}
+use Rattle.lent_judging.specs.declared.Record.{Record}
+use Rattle.lent_judging.specs.Judging.{record_of, part, Framed, FrameJudged, OneFit, OneJudged, LinesLent, LinesFit, LinesJudged, points_bad, PointsCounted, Judgeable, PieceJudged}
 
 -- ---- numbers
 
@@ -59,11 +60,6 @@ alone_count : (y a : ℕ) → 0 < count y (a ∷ []) → y ≡ a
 unfolding count
 alone_count y a h = elim (ℕ_discrete y a) [ yes q ↦ q | no q ↦ absurd (omega (arith, one_other y a q)) ]
 
-source_length : (k : ℕ) (a b : List ℕ) → source_of k (length a) (length b) ≡ length (source_of k a b)
-unfolding source_of
-source_length zero a b = refl
-source_length (suc k) a b = refl
-
 source_zero : (k : ℕ) (a b : List ℕ) → k ≡ 0 → source_of k a b ≡ a
 unfolding source_of
 source_zero k a b e = ap (λ (i : ℕ). source_of i a b) e
@@ -84,7 +80,10 @@ part_places w l f c two e h =
 module _ (w : ℕ) (l : Lines) (p : LentPieces) where
   -- ---- the frame
 
-  frame_of : (q : ℕ) → FrameFine w l p q → Framed (first_member w l p q) (member_count w l p q) (source w l p q) (first_point w l p q) (point_count w l p q) w (length p.members) (length p.marks) (length p.listing) (length l.coordinates) (length p.merged)
+  abbrev named_by : ℕ → Record
+  named_by q = record_of p.records q
+
+  frame_of : (q : ℕ) → FrameFine w l p q → Framed w l p (named_by q)
   frame_of q f =
       record {
         some_line = f.some_line;
@@ -92,10 +91,10 @@ module _ (w : ℕ) (l : Lines) (p : LentPieces) where
         in_members = f.members_in;
         in_marks = f.marks_in;
         in_listing = f.listing_in;
-        in_source = omega (arith, f.points_in, source_length (source w l p q) l.coordinates p.merged);
+        in_source = f.points_in;
       }
 
-  pub frame_fine : (q : ℕ) → Framed (first_member w l p q) (member_count w l p q) (source w l p q) (first_point w l p q) (point_count w l p q) w (length p.members) (length p.marks) (length p.listing) (length l.coordinates) (length p.merged) → FrameFine w l p q
+  pub frame_fine : (q : ℕ) → Framed w l p (named_by q) → FrameFine w l p q
   frame_fine q f =
       record {
         some_line = f.some_line;
@@ -103,16 +102,13 @@ module _ (w : ℕ) (l : Lines) (p : LentPieces) where
         members_in = f.in_members;
         marks_in = f.in_marks;
         listing_in = f.in_listing;
-        points_in = omega (arith, f.in_source, source_length (source w l p q) l.coordinates p.merged);
+        points_in = f.in_source;
       }
 
   refused : {seen' : List ℕ} {q : ℕ} → (Passes w l p → ⊥) → PieceJudged w l p seen' q true
   refused n = record { refused = λ e. n; passed = λ e. absurd (true≢false e) }
 
   module _ {seen places : List ℕ} {q : ℕ} (j : Judgeable w l p seen places q) where
-    pub frame_refused : {seen' : List ℕ} {r : Bool} → FrameJudged (first_member w l p q) (member_count w l p q) (source w l p q) (first_point w l p q) (point_count w l p q) w (length p.members) (length p.marks) (length p.listing) (length l.coordinates) (length p.merged) r → r ≡ true → PieceJudged w l p seen' q true
-    frame_refused f e = refused (λ o. f.unframed e (frame_of q (o.fine q j.below).frame))
-
     -- ---- the lines
 
     abbrev met : ℕ → ℕ
@@ -222,7 +218,7 @@ module _ (w : ℕ) (l : Lines) (p : LentPieces) where
         leader_one = ap (λ (t : List ℕ). get_or t 0 0) members_one
 
         abbrev One : Type 0
-        One = OneFit seen l.counts l.kinds line (get_or p.marks at 0) (get_or p.listing at 0) (source w l p q) (first_point w l p q) (point_count w l p q)
+        One = OneFit seen l p (named_by q)
 
         line_here : 0 < count line (members_at w l p q)
         unfolding count
@@ -298,7 +294,7 @@ module _ (w : ℕ) (l : Lines) (p : LentPieces) where
 
         -- A PIECE OF ONE LINE IS JUDGED
         pub one_judged : {seen' : List ℕ} {r : Bool}
-            → OneJudged seen' seen l.counts l.kinds line (get_or p.marks at 0) (get_or p.listing at 0) (source w l p q) (first_point w l p q) (point_count w l p q) r
+            → OneJudged seen' seen l p (named_by q) r
             → PieceJudged w l p seen' q r
         one_judged {seen'} {r} v =
             record {
@@ -324,31 +320,24 @@ module _ (w : ℕ) (l : Lines) (p : LentPieces) where
             listing_long = part_length (first_member w l p q) (member_count w l p q) p.listing f.listing_in ∙ sym a;
           }
 
-      -- the parts as they are lent, from their first to their last
-      abbrev cut : List ℕ → List ℕ
-      cut s = take (first_member w l p q + member_count w l p q - first_member w l p q) (drop (first_member w l p q) s)
-
-      cut_is : (s : List ℕ) → cut s ≡ part_of w l p s q
+      cut_is : (s : List ℕ) → part (named_by q) s ≡ part_of w l p s q
       unfolding part_of
       cut_is s =
           let e : first_member w l p q + member_count w l p q - first_member w l p q ≡ member_count w l p q = omega arith in
           ap (λ (k : ℕ). take k (drop (first_member w l p q) s)) e
 
-      pub lines_cut : LinesLent seen l.counts l.groups l.kinds (cut p.members) (cut p.marks) (cut p.listing)
-      lines_cut = rw (cut_is p.members, cut_is p.marks, cut_is p.listing) lines_lent
-
-      uncut : {seen₁ : List ℕ} {r : Bool} → LinesJudged seen₁ seen l.counts l.groups l.kinds (cut p.members) (cut p.marks) (cut p.listing) r
+      uncut : {seen₁ : List ℕ} {r : Bool} → LinesJudged seen₁ seen l.counts l.groups l.kinds (part (named_by q) p.members) (part (named_by q) p.marks) (part (named_by q) p.listing) r
           → LinesJudged seen₁ seen l.counts l.groups l.kinds (members_at w l p q) (marks_at w l p q) (listing_at w l p q) r
       uncut v = rw (cut_is p.members, cut_is p.marks, cut_is p.listing) at v
 
       module _ (n : member_count w l p q ≢ 1) where
-        points_of_lem : (s : ℕ) → s ≡ 1 → points_bad w s (first_point w l p q) (point_count w l p q) p.merged ≡ any_nowhere (points w (take (point_count w l p q * w) (drop (first_point w l p q * w) p.merged)))
+        points_of_lem : source w l p q ≡ 1 → points_bad w (named_by q) p.merged ≡ any_nowhere (points w (take (point_count w l p q * w) (drop (first_point w l p q * w) p.merged)))
         unfolding points_bad
-        points_of_lem s e = rw (eq-eqb s 1 e, points_bad)
+        points_of_lem e = rw (eq-eqb (source w l p q) 1 e, points_bad)
 
-        merged_of : (s : ℕ) → points_bad w s (first_point w l p q) (point_count w l p q) p.merged ≡ false → s ≡ 1
+        merged_of : points_bad w (named_by q) p.merged ≡ false → source w l p q ≡ 1
         unfolding points_bad
-        merged_of s e = elim (ℕ_discrete s 1) [ yes d ↦ d | no d ↦ absurd (true≢false (rw (ne_eqb s 1 d, points_bad) at e)) ]
+        merged_of e = elim (ℕ_discrete (source w l p q) 1) [ yes d ↦ d | no d ↦ absurd (true≢false (rw (ne_eqb (source w l p q) 1 d, points_bad) at e)) ]
 
         numbers_of : source w l p q ≡ 1 → points w (numbers_at w l p q) ≡ points w (take (point_count w l p q * w) (drop (first_point w l p q * w) p.merged))
         unfolding numbers_at
@@ -358,19 +347,19 @@ module _ (w : ℕ) (l : Lines) (p : LentPieces) where
         merged_inside e = omega (arith, f.points_in, ap length (source_one _ l.coordinates p.merged e))
 
         module _ {seen₁ : List ℕ} {r : Bool}
-            (v : LinesJudged seen₁ seen l.counts l.groups l.kinds (cut p.members) (cut p.marks) (cut p.listing) r) where
+            (v : LinesJudged seen₁ seen l.counts l.groups l.kinds (part (named_by q) p.members) (part (named_by q) p.marks) (part (named_by q) p.listing) r) where
           pub more_refused : {seen' : List ℕ} → r ≡ true → PieceJudged w l p seen' q true
           more_refused e = refused (λ o. (uncut v).unfit e (passing_fit o))
 
           -- A PIECE OF MORE LINES IS JUDGED
-          pub more_judged : {b : Bool} → r ≡ false → b ≡ points_bad w (source w l p q) (first_point w l p q) (point_count w l p q) p.merged → PieceJudged w l p seen₁ q b
+          pub more_judged : {b : Bool} → r ≡ false → b ≡ points_bad w (named_by q) p.merged → PieceJudged w l p seen₁ q b
           more_judged {b} e u =
               record {
                 refused = λ t o.
                     let m = (o.fine q j.below).merged n in
-                    true≢false (sym t ∙ u ∙ points_of_lem (source w l p q) m ∙ ap any_nowhere (sym (numbers_of m)) ∙ (o.fine q j.below).places);
+                    true≢false (sym t ∙ u ∙ points_of_lem m ∙ ap any_nowhere (sym (numbers_of m)) ∙ (o.fine q j.below).places);
                 passed = λ t.
-                    let m = merged_of (source w l p q) (sym u ∙ t) in
+                    let m = merged_of (sym u ∙ t) in
                     counted_next ((uncut v).fit e) ((uncut v).long e) ((uncut v).noted e)
-                    (fitting_fine ((uncut v).fit e) f (λ d. absurd (n d)) (λ _. m) (ap any_nowhere (numbers_of m) ∙ sym (points_of_lem (source w l p q) m) ∙ sym u ∙ t));
+                    (fitting_fine ((uncut v).fit e) f (λ d. absurd (n d)) (λ _. m) (ap any_nowhere (numbers_of m) ∙ sym (points_of_lem m) ∙ sym u ∙ t));
               }

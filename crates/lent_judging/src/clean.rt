@@ -10,13 +10,11 @@ fn last_end(pieces: &[u32], k: usize) -> usize
     requires { k * piece_size ≤ length pieces.now }
     ensures { (result ≡ last_end pieces.now k) × (result ≤ 8589934590) }
 {
-    let mut q = k;
-    while 0 < q {
-        let at = (q - 1) * PIECE;
+    for q in (0..k).rev() {
+        let at = q * PIECE;
         if pieces[at + 2] != 0 {
             return pieces[at + 3] as usize + pieces[at + 4] as usize;
         }
-        q -= 1;
     }
     0
 }
@@ -28,10 +26,7 @@ pub fn clean_front(width: usize, pieces: &[u32], k: usize, merged: &[u64]) -> us
 {
     let end = last_end(pieces, k);
     let numbers = end * width;
-    if merged.len() < numbers {
-        return 0;
-    }
-    if build_refusals::any_nowhere(&merged[0..numbers], width) {
+    if merged.len() < numbers || build_refusals::any_nowhere(&merged[..numbers], width) {
         return 0;
     }
     end

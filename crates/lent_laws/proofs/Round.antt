@@ -12,7 +12,7 @@ use lib.Ieee.{Float, lt}
 use lib.ListN.{length, get_or, take}
 use borrow.Author.Tests.{leb-true}
 use Rattle.rules.specs.declared.Settings.{Settings}
-use Rattle.rules.specs.declared.Grid.TheVariants.{Exact}
+use Rattle.rules.specs.Answers.{Exact}
 use Rattle.rules.specs.Lists.{total}
 use Rattle.rules.specs.Plane.{nought, points}
 use Rattle.rules.specs.Chaining.{Piece, Rule, join, Line, plain, alone, pieces, limit_of, cells_of, rule_of, round_one, round_two, chains}

@@ -1,2 +1,3 @@
 pub mod Passes
 pub mod Good
+pub mod Lent

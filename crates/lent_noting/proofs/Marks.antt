@@ -7,15 +7,15 @@ use mathlib.Core.List.{[], List, ◌∷◌}
 use native.Mathlib.Decide.{ℕ_discrete}
 use native.Mathlib.Omega.{arith}
 use native.Mathlib.Numerals.{add-one}
-use borrow.Author.Tests.{eqb-true, eqb-false, ltb-true, lt-ltb, le-ltb, eq-eqb, ne_eqb}
+use borrow.Author.Tests.{eqb-true, ltb-true, lt-ltb, eq-eqb}
 use lib.Dec.{eqb, ltb}
 use lib.ListN.{length, get_or, set, take, length-set}
-use lib.Seq.{get_or-set_same, get_or-set_other, take_all}
+use lib.Seq.{get_or-set_same, get_or-set_other}
 use Rattle.rules.specs.Lists.{one, count, total}
 use Rattle.rules.specs.Refusals.{most_lines}
 use Rattle.chain_laws.proofs.Counts.{one_same, one_other, pos_of, zero_of, count_at}
 use Rattle.build_lines.proofs.Passing.{plain_at, total_next, total_part}
-use Rattle.lent_noting.specs.Noting.{fresh, Fit, Risen, Awaited}
+use Rattle.lent_noting.specs.Noting.{fresh, Fit, Awaited}
 
 -- ---- numbers of the first i
 
@@ -47,9 +47,6 @@ each_next P l i h all here y k =
       | yes q ↦ subst P (sym q) here
       | no q ↦ all y (omega (arith, count_next y l i h, one_other y (get_or l i 0) q))
     ]
-
-each_all : (P : ℕ → Type 0) (l : List ℕ) (i : ℕ) → length l ≤ i → ((y : ℕ) → 0 < count y (take i l) → P y) → (y : ℕ) → 0 < count y l → P y
-each_all P l i h all y k = all y (omega (arith, ap (count y) (take_all i l h)))
 
 -- ---- marks
 
@@ -113,12 +110,6 @@ module _ {seen seen₀ part : List ℕ} {b i : ℕ} (s : Stepping seen seen₀ p
 stands_here : (part : List ℕ) (i : ℕ) → i < length part → 0 < count (get_or part i 0) part
 stands_here part i h = count_at part i h
 
-whole : (part : List ℕ) (i y : ℕ) → length part ≤ i → count y (take i part) ≡ count y part
-whole part i y h = ap (count y) (take_all i part h)
-
-risen : {seen seen₀ part : List ℕ} {b i : ℕ} → Stepping seen seen₀ part b i → length part ≤ i → Risen seen seen₀ part
-risen {part = part} {i = i} s h = record { long = s.long; counted = λ y c. omega (arith, s.counted y c, whole part i y h) }
-
 -- ---- a fresh line
 
 and_told : (a b c : Bool) → (a && (b && c)) ≡ true → (a ≡ true) × (b ≡ true) × (c ≡ true)
@@ -128,15 +119,6 @@ and_told true false c e = absurd (true≢false (sym e))
 and_told false b c e = absurd (true≢false (sym e))
 
 module _ (seen counts kinds : List ℕ) (y : ℕ) where
-  pub fresh_far : length counts ≤ y → false ≡ fresh seen counts kinds y
-  fresh_far h = rw (le_ltb' h)
-    where
-      le_ltb' : length counts ≤ y → ltb y (length counts) ≡ false
-      le_ltb' k = le-ltb y (length counts) k
-
-  pub fresh_met : y < length counts → (get_or seen y 0 ≡ 0 → ⊥) → false ≡ fresh seen counts kinds y
-  fresh_met h d = rw (lt-ltb y (length counts) h, ne_eqb (get_or seen y 0) 0 d)
-
   pub fresh_plain : {r : Bool} → y < length counts → get_or seen y 0 ≡ 0 → r ≡ plain_at counts kinds y → r ≡ fresh seen counts kinds y
   fresh_plain h z e = rw (lt-ltb y (length counts) h, eq-eqb (get_or seen y 0) 0 z) e
 
@@ -201,21 +183,6 @@ module _ {seen seen₀ counts groups kinds : List ℕ} {group : ℕ} {lines mark
         drawn = λ j h. elim (ℕ_discrete j i) [ yes q ↦ subst (λ (x : ℕ). get_or marks x 0 ≤ 1) (sym q) m | no q ↦ n.drawn j (omega arith) ];
       }
 
-module _ {seen seen₀ counts groups kinds : List ℕ} {group : ℕ} {lines marks : List ℕ} {i : ℕ} (n : Noting seen seen₀ counts groups kinds group lines marks i)
-    (h : length lines ≤ i) where
-  pub noting_fit : length marks ≡ length lines → Fit seen₀ counts groups kinds group lines marks
-  noting_fit l =
-      record {
-        low = each_all (λ y. y < length counts) lines i h n.low;
-        plain = each_all (λ y. plain_at counts kinds y ≡ true) lines i h n.plain;
-        once = λ y k. omega (arith, each_all (λ y. get_or seen₀ y 0 ≡ 0) lines i h n.stepping.had y k, n.stepping.once y, whole lines i y h);
-        grouped = each_all (λ y. get_or groups y 0 ≡ group) lines i h n.grouped;
-        drawn = λ j k. n.drawn j (omega arith);
-      }
-
-  pub noting_risen : Risen seen seen₀ lines
-  noting_risen = risen n.stepping h
-
 -- ---- the first i of a listing
 
 module _ {seen seen₀ listing : List ℕ} {i : ℕ} (s : Stepping seen seen₀ listing 1 i) where
@@ -225,17 +192,6 @@ module _ {seen seen₀ listing : List ℕ} {i : ℕ} (s : Stepping seen seen₀ 
   pub listing_other : i < length listing → get_or listing i 0 < most_lines → (get_or seen (get_or listing i 0) 0 ≡ 1 → ⊥) → Awaited seen₀ listing → ⊥
   listing_other k w d t =
       omega (arith, stepping_again s k w d (t.half (get_or listing i 0) (stands_here listing i k)), t.once (get_or listing i 0))
-
-  pub listing_awaited : length listing ≤ i → Awaited seen₀ listing
-  listing_awaited h =
-      record {
-        low = each_all (λ y. y < most_lines) listing i h s.low;
-        half = each_all (λ y. get_or seen₀ y 0 ≡ 1) listing i h s.had;
-        once = λ y. omega (arith, s.once y, whole listing i y h);
-      }
-
-  pub listing_risen : length listing ≤ i → Risen seen seen₀ listing
-  listing_risen h = risen s h
 
 -- ---- places
 
@@ -249,9 +205,6 @@ unfolding total
 placing_start places counts h = record { long = h; sum_is = refl; placed = λ y k. absurd (omega arith) }
 
 module _ {places counts : List ℕ} {sum i : ℕ} (s : Placing places counts sum i) where
-  pub placing_all : length counts ≤ i → sum ≡ total counts
-  placing_all h = s.sum_is ∙ ap total (take_all i counts h)
-
   module _ (k : i < length counts) where
     pub placing_small : sum + get_or counts i 0 ≤ total counts
     placing_small = omega (arith, s.sum_is, total_next counts i k, total_part counts (i + 1))
@@ -269,11 +222,3 @@ module _ {places counts : List ℕ} {sum i : ℕ} (s : Placing places counts sum
         }
 
 -- ---- a line that is plain and has no mark
-
-pub unnoted_yes : (p : Bool) (m : ℕ) → (p && eqb m 0) ≡ true → (p ≡ true) × (m ≡ 0)
-unnoted_yes true m e = (refl, eqb-true m 0 e)
-unnoted_yes false m e = absurd (true≢false (sym e))
-
-pub unnoted_no : (p : Bool) (m : ℕ) → (p && eqb m 0) ≡ false → p ≡ true → 0 < m
-unnoted_no true m e f = pos_of m (eqb-false m 0 e)
-unnoted_no false m e f = absurd (true≢false (sym f))

@@ -2,8 +2,8 @@
 // hand and not yet in its listing, 2 where it is in both. So between two pieces no line has a 1, and a line that has one is of the piece at hand.
 #![tactic(auto)]
 
-ghost use Rattle.std.specs.Prelude.{◌≡◌, ◌&&◌, ◌≤◌, eqb, leb, length};
-ghost use Rattle.rules.specs.Lists.{one, total};
+ghost use Rattle.std.specs.Prelude.{◌≡◌, ◌≤◌, length};
+ghost use Rattle.rules.specs.Lists.{total};
 ghost use Rattle.rules.specs.Refusals.{most_lines, most_points};
 ghost use Rattle.lent_noting.specs.Noting.{Placed, fresh, PlacesTabled, MembersNoted, ListingNoted, AllNoted};
 
@@ -15,11 +15,9 @@ pub fn place_lines(places: &mut [u32; 4096], counts: &[u32]) -> u32
     ensures { (result ≡ total counts.now) × (length places.new ≡ most_lines) × Placed places.new counts.now }
 {
     let mut sum: u32 = 0;
-    let mut i: usize = 0;
-    while i < counts.len() {
+    for (i, count) in counts.iter().enumerate() {
         places[i] = sum;
-        sum += counts[i];
-        i += 1;
+        sum += *count;
     }
     sum
 }
@@ -30,13 +28,7 @@ pub fn is_fresh(seen: &[u8; 4096], counts: &[u32], kinds: &[u8], line: u32) -> b
     ensures { result ≡ fresh seen.now counts.now kinds.now line }
 {
     let y = line as usize;
-    if counts.len() <= y {
-        return false;
-    }
-    if seen[y] != 0 {
-        return false;
-    }
-    build_lines::is_plain(counts[y], kinds[y])
+    y < counts.len() && seen[y] == 0 && build_lines::is_plain(counts[y], kinds[y])
 }
 
 // Whether each line of a piece is plain, without a mark yet and of a group, and the marks that it has in the piece are at most 1; each gets the mark 1.
@@ -53,20 +45,12 @@ pub fn note_members(
     ensures { MembersNoted seen.new seen.old counts.now groups.now kinds.now group
         lines.now marks.now result }
 {
-    let mut i: usize = 0;
-    while i < lines.len() {
-        let y = lines[i];
-        if !is_fresh(seen, counts, kinds, y) {
+    for (i, line) in lines.iter().enumerate() {
+        let y = *line as usize;
+        if !is_fresh(seen, counts, kinds, *line) || groups[y] != group || 1 < marks[i] {
             return false;
         }
-        if groups[y as usize] != group {
-            return false;
-        }
-        if 1 < marks[i] {
-            return false;
-        }
-        seen[y as usize] = 1;
-        i += 1;
+        seen[y] = 1;
     }
     true
 }
@@ -76,32 +60,14 @@ pub fn note_listing(seen: &mut [u8; 4096], listing: &[u32]) -> bool
     requires { length seen.old ≡ most_lines }
     ensures { ListingNoted seen.new seen.old listing.now result }
 {
-    let mut i: usize = 0;
-    while i < listing.len() {
-        let y = listing[i] as usize;
-        if MOST_LINES <= y {
-            return false;
-        }
-        if seen[y] != 1 {
+    for line in listing {
+        let y = *line as usize;
+        if MOST_LINES <= y || seen[y] != 1 {
             return false;
         }
         seen[y] = 2;
-        i += 1;
     }
     true
-}
-
-// 1 for a line that is plain and has no mark, and 0 for another.
-fn unnoted(count: u32, kind: u8, mark: u8) -> u32
-    ensures { result ≡ one ((eqb kind 0 && leb 2 count) && eqb mark 0) }
-{
-    if !build_lines::is_plain(count, kind) {
-        return 0;
-    }
-    if mark == 0 {
-        return 1;
-    }
-    0
 }
 
 // Whether each plain line has a mark. All are looked at, so that several go at once.
@@ -109,11 +75,9 @@ pub fn all_noted(seen: &[u8; 4096], counts: &[u32], kinds: &[u8]) -> bool
     requires { (length seen.now ≡ most_lines) × (length counts.now ≤ most_lines) × (length kinds.now ≡ length counts.now) }
     ensures { AllNoted seen.now counts.now kinds.now result }
 {
-    let mut left: u32 = 0;
-    let mut y: usize = 0;
-    while y < counts.len() {
-        left = left | unnoted(counts[y], kinds[y], seen[y]);
-        y += 1;
+    let mut left = false;
+    for (y, count) in counts.iter().enumerate() {
+        left |= build_lines::is_plain(*count, kinds[y]) && seen[y] == 0;
     }
-    left == 0
+    !left
 }

@@ -3,3 +3,4 @@ pub mod Steps
 pub mod Standing
 pub mod Leaving
 pub mod Row
+pub mod Converting

@@ -130,19 +130,12 @@ module _ (pieces members : List ℕ) where
 
 -- ---- what is put
 
--- a front as it is lent, from 0 to its last
-abbrev pub front : ℕ → List ℕ → List ℕ
-front c s = take (c - 0) (drop 0 s)
-
 module _ (c : ℕ) (s : List ℕ) (h : c ≤ length s) where
-  front_is : front c s ≡ take c s
-  front_is = let e : c - 0 ≡ c = omega arith in ap (λ (k : ℕ). take k s) e
+  pub front_long : length (take c s) ≡ c
+  front_long = length-take-le c s h
 
-  pub front_long : length (front c s) ≡ c
-  front_long = ap length front_is ∙ length-take-le c s h
-
-  front_holds : {l' l : List ℕ} {at : ℕ} → HoldsFrom l' l at (length (front c s)) (front c s) → HoldsFrom l' l at c (take c s)
-  front_holds {l'} {l} {at} g = subst (λ (t : List ℕ). HoldsFrom l' l at c t) front_is (subst (λ (k : ℕ). HoldsFrom l' l at k (front c s)) front_long g)
+  front_holds : {l' l : List ℕ} {at : ℕ} → HoldsFrom l' l at (length (take c s)) (take c s) → HoldsFrom l' l at c (take c s)
+  front_holds {l'} {l} {at} g = subst (λ (k : ℕ). HoldsFrom l' l at k (take c s)) front_long g
 
 module _ {w : List ℕ} {n k : ℕ} {pieces members marks listing : List ℕ} (y : PiecesTakable w n k pieces members marks listing) (r : in_row pieces k ≡ true) where
   pub members_fit : row_end pieces k ≤ length members
@@ -161,10 +154,10 @@ module _ {w : List ℕ} {n k : ℕ} {pieces members marks listing : List ℕ} (y
   row_few = omega (arith, number, y.members_few)
 
   module _ {m : ℕ} (e : m ≡ row_end pieces k) {one two three w' : List ℕ}
-      (a : HoldsFrom one w (n * taken_block) (length (front (k * piece_size) pieces)) (front (k * piece_size) pieces))
-      (b : HoldsFrom two one (n * taken_members) (length (front m members)) (front m members))
-      (c : HoldsFrom three two (n * taken_marks) (length (front m marks)) (front m marks))
-      (d : HoldsFrom w' three (n * taken_listing) (length (front m listing)) (front m listing)) where
+      (a : HoldsFrom one w (n * taken_block) (length (take (k * piece_size) pieces)) (take (k * piece_size) pieces))
+      (b : HoldsFrom two one (n * taken_members) (length (take m members)) (take m members))
+      (c : HoldsFrom three two (n * taken_marks) (length (take m marks)) (take m marks))
+      (d : HoldsFrom w' three (n * taken_listing) (length (take m listing)) (take m listing)) where
     row : HoldsFrom one w (n * taken_block) (k * piece_size) (take (k * piece_size) pieces)
     row = front_holds (k * piece_size) pieces y.records_in a
 

@@ -7,7 +7,6 @@ use native.Mathlib.Omega.{arith}
 use lib.ListN.{length, get_or, take, drop}
 use lib.Seq.{slice, get_or-take, get_or-drop}
 use Rattle.rules.specs.Lists.{upto}
-use Rattle.rules.specs.Plane.{points}
 use Rattle.rules.specs.Chaining.{Piece, nothing}
 use Rattle.rules.specs.Layout.{Lines, lent, lines_in}
 use Rattle.rules.specs.Refusals.{most_lines, piece_size, source_of}

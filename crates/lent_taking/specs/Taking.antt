@@ -6,7 +6,9 @@ use Rattle.std.proofs.Math.Seq.{slice}
 use Rattle.rules.specs.Lists.{upto}
 use Rattle.rules.specs.Refusals.{most_lines, piece_size}
 use Rattle.chain_pieces.specs.Map.{node_block, taken_block, taken_listing, taken_marks, taken_members}
+use Rattle.std.specs.List.{AllZip}
 use Rattle.point_slices.specs.Holds.{HoldsFrom}
+use Rattle.lent_laws.specs.declared.Pieces.{Pieces}
 
 -- what record q names of a slice that has a number for each member
 abbrev pub part_at : List ℕ → List ℕ → ℕ → List ℕ
@@ -73,3 +75,15 @@ pub record PieceTook (w' w : List ℕ) (n q m : ℕ) (pieces members marks listi
   pub listed : HoldsFrom two one (n * taken_members + m) (get_or pieces (q * piece_size + 1) 0) (part_at pieces members q)
   pub turned : HoldsFrom three two (n * taken_marks + m) (get_or pieces (q * piece_size + 1) 0) (part_at pieces marks q)
   pub passed : HoldsFrom w' three (n * taken_listing + m) (get_or pieces (q * piece_size + 1) 0) (part_at pieces listing q)
+
+-- ---- the pieces that a call lends
+
+abbrev pub Takable : List ℕ → ℕ → Pieces → Type 0
+Takable w n p = PiecesTakable w n p.number p.records.now p.members.now p.marks.now p.listing.now
+
+abbrev pub Taken : List ℕ → List ℕ → ℕ → Pieces → ℕ → Type 0
+Taken w' w n p m = Took w' w n p.number p.records.now p.members.now p.marks.now p.listing.now m
+
+-- numbers stand from `at` on as the words that they convert to
+abbrev pub Converted : {T : Type 0} → (T → ℕ → Type 0) → List T → List ℕ → List ℕ → ℕ → Type 0
+Converted converts numbers w' w at = (ns : List ℕ) × AllZip converts numbers ns × HoldsFrom w' w at (length numbers) ns

@@ -8,8 +8,8 @@ use borrow.Author.Tests.{ltb-false}
 use lib.ListN.{length}
 use lib.Ieee.{Float, le}
 use lib.Ieee.Bits.{is_true}
-use Rattle.rules.specs.declared.Answer.{Answer}
-use Rattle.rules.specs.declared.Answer.TheVariants.{Accepted}
+use Rattle.rules.specs.Answers.{Answer}
+use Rattle.rules.specs.Answers.{Accepted}
 use Rattle.rules.specs.Refusals.{LentEnds, limit_bad, pair_refusal_of}
 use Rattle.rules.specs.Calls.{unless, answer_of, pairs_of, Paired}
 use Rattle.rules.specs.Offset.{limit_for, ends_for, pair_offset_refusal_of, PairedOffset}

@@ -3,7 +3,7 @@
 use Prim.Native.Nat.{ℕ}
 use mathlib.Core.Path.{◌≡◌, sym, ap, ◌∙◌}
 use lib.Ieee.{Float}
-use Rattle.rules.specs.declared.Answer.TheVariants.{Accepted}
+use Rattle.rules.specs.Answers.{Accepted}
 use Rattle.rules.specs.Types.{width_of}
 use Rattle.rules.specs.Layout.{Lines, lines_in}
 use Rattle.rules.specs.Refusals.{Rooms, refusal_of}

@@ -1,12 +1,18 @@
 -- A renumbered refusal: what it is, and that it refuses where the other did.
 use Prim.Native.Nat.{ℕ, zero, suc, ◌≤◌, ◌<◌}
-use mathlib.Core.Path.{◌≡◌, refl, sym, ap, ◌∙◌}
+use mathlib.Core.Path.{◌≡◌, refl, sym, ap, ap₂, ◌∙◌}
 use mathlib.Core.Bool.{Bool, true, false, cond}
 use native.Mathlib.Omega.{arith}
 use lib.Dec.{ltb, eqb}
 use borrow.Author.Tests.{lt-ltb, le-ltb, ne_eqb}
-use Rattle.rules.specs.declared.Answer.{Answer}
-use Rattle.rules.specs.declared.Answer.TheVariants.{Accepted, Refused}
+use Rattle.std.specs.declared.result.Result.{Result}
+use Rattle.std.specs.Prelude.{Ok, Err}
+use denote.Enum.Bare.{sameb}
+use Rattle.rules.specs.contracts.Refusal.{the_type}
+use Rattle.rules.specs.declared.Refusal.{Refusal}
+use Rattle.rules.specs.declared.Refusal.TheVariants.{BadLimit, TooMany, TablesDiffer, MarkAboveOne, CountsDoNotAddUp, TooManyCoordinates, RoomTooShort, PieceTooOften, NotFinite, NoSuchChain, BadByteOrder, BadType, BadLength, RecordRoomTooShort, NoPlace, UnknownOrder, BadOrigin, BadWindow, BadPieces, DistrictOverLines, DistrictOverCoordinates, BadOffset, BadRecord, NotAcceptable, MixedTypes, NoTwoEnds}
+use Rattle.rules.specs.Answers.{Answer, answered, refusal_number}
+use Rattle.rules.specs.Answers.{Accepted, Refused}
 use Rattle.rules.specs.Calls.{unless, answer_of}
 use Rattle.offset_calls.specs.Renumbered.{renumber, renumbered}
 
@@ -62,21 +68,54 @@ accepted_before switch (suc k) e = go (ltb 1 switch) (eqb (suc k) 6) e
     go false true e = absurd (omega arith)
     go false false e = e
 
--- ---- the answers of the code
+-- ---- the refusals of the code
 
-pub switched : (switch : ℕ) (a : Answer) → 1 < switch → a ≡ renumbered switch a
-unfolding renumbered
-switched switch (Accepted n) h = refl
-switched switch (Refused k) h = ap Refused (stays_all switch k (lt-ltb 1 switch h))
+-- 6 is the number of one refusal
+same_number : (k : Refusal) → eqb (refusal_number k) 6 ≡ sameb the_type k BadLimit
+same_number TooMany = refl
+same_number TablesDiffer = refl
+same_number MarkAboveOne = refl
+same_number CountsDoNotAddUp = refl
+same_number TooManyCoordinates = refl
+same_number BadLimit = refl
+same_number RoomTooShort = refl
+same_number PieceTooOften = refl
+same_number NotFinite = refl
+same_number NoSuchChain = refl
+same_number BadByteOrder = refl
+same_number BadType = refl
+same_number BadLength = refl
+same_number RecordRoomTooShort = refl
+same_number NoPlace = refl
+same_number UnknownOrder = refl
+same_number BadOrigin = refl
+same_number BadWindow = refl
+same_number BadPieces = refl
+same_number DistrictOverLines = refl
+same_number DistrictOverCoordinates = refl
+same_number BadOffset = refl
+same_number BadRecord = refl
+same_number NotAcceptable = refl
+same_number MixedTypes = refl
+same_number NoTwoEnds = refl
 
-pub accepted : (switch : ℕ) {a : Answer} {n : ℕ} → a ≡ Accepted n → a ≡ renumbered switch a
-unfolding renumbered
-accepted switch e = e ∙ sym (ap (renumbered switch) e)
+pub turned : (switch : ℕ) (k : Refusal) → switch ≤ 1 → sameb the_type k BadLimit ≡ true → 22 ≡ renumber switch (refusal_number k)
+unfolding renumber
+turned switch k h e =
+    sym (ap₂ (λ (s t : Bool). cond s (refusal_number k) (cond t 22 (refusal_number k))) (le-ltb 1 switch h) (same_number k ∙ e))
 
-pub turned : (switch : ℕ) {a : Answer} {k : ℕ} → switch ≤ 1 → a ≡ Refused k → k ≡ 6 → Refused 22 ≡ renumbered switch a
-unfolding renumbered
-turned switch h e f = sym (ap (renumbered switch) (e ∙ ap Refused f) ∙ ap Refused (sym (six switch (le-ltb 1 switch h))))
+pub other : (switch : ℕ) (k : Refusal) → sameb the_type k BadLimit ≡ false → refusal_number k ≡ renumber switch (refusal_number k)
+other switch k e = stays switch (refusal_number k) (same_number k ∙ e)
 
-pub other : (switch : ℕ) {a : Answer} {k : ℕ} → a ≡ Refused k → (k ≡ 6 → ⊥) → Refused k ≡ renumbered switch a
+pub switched : (switch : ℕ) (k : Refusal) → 1 < switch → refusal_number k ≡ renumber switch (refusal_number k)
+switched switch k h = stays_all switch (refusal_number k) (lt-ltb 1 switch h)
+
+-- an answer whose refusal is renumbered
+pub accepted : (switch n : ℕ) {a : Result ℕ Refusal} → a ≡ Ok n → Accepted n ≡ renumbered switch (answered a)
 unfolding renumbered
-other switch {a} {k} e f = ap Refused (stays switch k (ne_eqb k 6 f)) ∙ sym (ap (renumbered switch) e)
+accepted switch n e = sym (ap (λ (a : Result ℕ Refusal). renumbered switch (answered a)) e)
+
+pub refused : (switch : ℕ) (k j : Refusal) {a : Result ℕ Refusal} → a ≡ Err k → refusal_number j ≡ renumber switch (refusal_number k)
+    → Refused (refusal_number j) ≡ renumbered switch (answered a)
+unfolding renumbered
+refused switch k j e h = ap Refused h ∙ sym (ap (λ (a : Result ℕ Refusal). renumbered switch (answered a)) e)

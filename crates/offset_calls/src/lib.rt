@@ -1,38 +1,41 @@
 // The calls with an offset, so many millimetres per metre run, in the limit's place.
 #![tactic(auto)]
 
-ghost use Rattle.std.specs.Prelude.{◌≡◌, true, false};
-ghost use Rattle.rules.specs.Layout.{lent};
+ghost use Rattle.std.specs.Prelude.{◌≡◌};
+ghost use Rattle.rules.specs.Answers.{answered, refusal_number};
+ghost use Rattle.rules.specs.Lent.{lines_of};
 ghost use Rattle.rules.specs.Refusals.{rooms};
 ghost use Rattle.rules.specs.Offset.{BuiltOffset, PairedOffset, ends_for};
-ghost use Rattle.offset_calls.specs.Renumbered.{renumbered as renumbered_of};
+ghost use Rattle.offset_calls.specs.Renumbered.{renumber, renumbered as renumbered_of};
 
-use rules::{Answer, Settings};
+use pair_calls::Route;
+use rules::{Answer, Ends, LentLines, Refusal, Settings};
 
-// The answer of such a call, by that of the call with the offset's limit: a limit refused by 6 is an offset refused by 22. With a switch above 1 it is
-// the switch that was refused.
-fn renumbered(switch: u8, answer: Answer) -> Answer
-    ensures { result ≡ renumbered_of switch answer }
+// The refusal of such a call, by that of the call with the offset's limit: a limit refused is an offset refused. With a switch above 1 it is the switch that
+// was refused.
+fn of_offset(switch: u8, refusal: Refusal) -> Refusal
+    ensures { refusal_number result ≡ renumber switch (refusal_number refusal) }
 {
-    if 1 < switch {
-        return answer;
+    if switch <= 1 && refusal == Refusal::BadLimit {
+        return Refusal::BadOffset;
     }
-    let Answer::Refused(number) = answer else {
-        return answer;
-    };
-    if number == 6 {
-        return Answer::Refused(22);
+    refusal
+}
+
+// The answer of such a call, by that of the call with the offset's limit.
+fn renumbered(switch: u8, answer: Answer) -> Answer
+    ensures { answered result ≡ renumbered_of switch (answered answer) }
+{
+    match answer {
+        Ok(n) => Ok(n),
+        Err(refusal) => Err(of_offset(switch, refusal)),
     }
-    answer
 }
 
 // Builds the chains of a call, of lines of a type. A refused call changes no slice.
 pub fn build_offset(
     wkb_type: u32,
-    coordinates: &[u64],
-    counts: &[u32],
-    groups: &[u32],
-    kinds: &[u8],
+    lines: &LentLines,
     tolerance: f64,
     origin_x: f64,
     origin_y: f64,
@@ -47,11 +50,11 @@ pub fn build_offset(
     spare: &mut [u64],
     workspace: &mut [u64],
 ) -> Answer
-    ensures { BuiltOffset wkb_type (lent coordinates.now counts.now groups.now kinds.now)
+    ensures { BuiltOffset wkb_type (lines_of lines.now)
         tolerance origin_x origin_y switch offset
         (rooms table.old members.old marks.old listing.old
         merged.old boxes.old spare.old workspace.old)
-        result (rooms table.new members.new marks.new listing.new
+        (answered result) (rooms table.new members.new marks.new listing.new
         merged.new boxes.new spare.new workspace.new) }
 {
     let limit = float_offset::limit_for(offset);
@@ -59,10 +62,7 @@ pub fn build_offset(
         switch,
         build_chains::build(
             wkb_type,
-            coordinates,
-            counts,
-            groups,
-            kinds,
+            lines,
             Settings {
                 tolerance,
                 origin_x,
@@ -82,62 +82,17 @@ pub fn build_offset(
     )
 }
 
-// The selected pairs of the lent ends, by the plain route; the number of pairs.
-pub fn pairs_plain_offset(
-    present: &[u8],
-    directions: &[f64],
-    pieces: &[u32],
+// The selected pairs of the lent ends, by a route; the number of pairs.
+pub fn pairs_offset<R: Route>(
+    ends: &Ends,
     offset: u32,
     pairs: &mut [u32],
     workspace: &mut [u64],
 ) -> Answer
-    ensures { PairedOffset false offset
-        (ends_for present.now directions.now pieces.now offset pairs.old workspace.old)
-        result pairs.new workspace.new }
+    ensures { PairedOffset R.ALONE offset
+        (ends_for ends.now.present.now ends.now.directions.now ends.now.pieces.now offset pairs.old workspace.old)
+        (answered result) pairs.new workspace.new }
 {
     let limit = float_offset::limit_for(offset);
-    renumbered(
-        1,
-        pair_calls::pairs_plain(present, directions, pieces, limit, pairs, workspace),
-    )
-}
-
-// The selected pairs of the lent ends, by the indexed route; the number of pairs.
-pub fn pairs_indexed_offset(
-    present: &[u8],
-    directions: &[f64],
-    pieces: &[u32],
-    offset: u32,
-    pairs: &mut [u32],
-    workspace: &mut [u64],
-) -> Answer
-    ensures { PairedOffset true offset
-        (ends_for present.now directions.now pieces.now offset pairs.old workspace.old)
-        result pairs.new workspace.new }
-{
-    let limit = float_offset::limit_for(offset);
-    renumbered(
-        1,
-        pair_calls::pairs_indexed(present, directions, pieces, limit, pairs, workspace),
-    )
-}
-
-// The selected pairs of the lent ends, by the chosen route; the number of pairs.
-pub fn pairs_chosen_offset(
-    present: &[u8],
-    directions: &[f64],
-    pieces: &[u32],
-    offset: u32,
-    pairs: &mut [u32],
-    workspace: &mut [u64],
-) -> Answer
-    ensures { PairedOffset false offset
-        (ends_for present.now directions.now pieces.now offset pairs.old workspace.old)
-        result pairs.new workspace.new }
-{
-    let limit = float_offset::limit_for(offset);
-    renumbered(
-        1,
-        pair_calls::pairs_chosen(present, directions, pieces, limit, pairs, workspace),
-    )
+    renumbered(1, pair_calls::pairs::<R>(ends, limit, pairs, workspace))
 }

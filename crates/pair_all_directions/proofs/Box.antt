@@ -4,15 +4,15 @@ use mathlib.Core.Path.{◌≡◌, refl, sym, ◌∙◌, ap, subst}
 use mathlib.Core.Bool.{true}
 use mathlib.Core.Logic.{⊎_elim}
 use native.Mathlib.Omega.{arith}
-use lib.Dec.{T, ltb}
+use lib.Dec.{T}
 use lib.Ieee.{Float}
 use lib.Ieee.Scale.{finite}
 use borrow.Author.Tests.{ltb-true}
-use Rattle.rules.specs.declared.Direction.{Direction}
-use Rattle.rules.specs.declared.Direction.TheVariants.{Absent, Toward}
+use Rattle.rules.specs.Answers.{Direction}
+use Rattle.rules.specs.Answers.{Absent, Toward}
 use Rattle.float_order.specs.Key.{low_key}
 use Rattle.pair_bounds.specs.declared.Bounds.{Bounds}
-use Rattle.pair_bounds.specs.Box.{empty_of, point_of, union_of, corner_of, Sound, BoxHolds}
+use Rattle.pair_bounds.specs.Box.{empty_of, point_of, corner_of, Sound, BoxHolds}
 use Rattle.pair_bounds.proofs.Union.{empty_sound, point_sound, point_holds, union_sound, union_left, union_right}
 use Rattle.pair_bounds.proofs.Bound.{corner_key}
 use Rattle.pair_laws.specs.Ends.{key_of}
@@ -37,14 +37,6 @@ unfolding joined_of
 joined_own b x y t s =
     let f = tame_parts x y t in
     union_right b (point_of x y 0) s (point_sound x y 0 f.0 f.1) x y (point_holds x y 0 f.0 f.1)
-
-pub joined_absent : (b : Bounds) {a : Direction} → a ≡ Absent → b ≡ joined_of b a
-unfolding joined_of
-joined_absent b e = sym (ap (joined_of b) e)
-
-pub joined_toward : (b : Bounds) {a : Direction} {x y : Float} → a ≡ Toward x y → {r : Bounds} → r ≡ union_of b (point_of x y 0) → r ≡ joined_of b a
-unfolding joined_of
-joined_toward b e q = q ∙ sym (ap (joined_of b) e)
 
 -- ---- the box around the first n
 
@@ -80,14 +72,6 @@ module _ (way : ℕ → Direction) where
       (same_or e n)
 
 -- ---- beyond the box
-
-pub beyond_absent : (b : Bounds) (limit : ℕ) {a : Direction} → a ≡ Absent → true ≡ beyond_of b limit a
-unfolding beyond_of
-beyond_absent b limit e = sym (ap (beyond_of b limit) e)
-
-pub beyond_toward : (b : Bounds) (limit : ℕ) {a : Direction} {x y m : Float} {k : ℕ} → a ≡ Toward x y → m ≡ corner_of b x y → k ≡ low_key m → ltb limit k ≡ beyond_of b limit a
-unfolding beyond_of
-beyond_toward b limit e p q = ap (ltb limit) (q ∙ ap low_key p) ∙ sym (ap (beyond_of b limit) e)
 
 beyond_key : (b : Bounds) (limit : ℕ) (x y : Float) → beyond_of b limit (Toward x y) ≡ true → limit < low_key (corner_of b x y)
 unfolding beyond_of

@@ -9,8 +9,8 @@ use lib.Ieee.Scale.{finite}
 use lib.ListN.{length}
 use lib.Seq.{slice, length-slice}
 use borrow.Author.Tests.{leb-true}
-use Rattle.rules.specs.declared.Direction.{Direction}
-use Rattle.rules.specs.declared.Direction.TheVariants.{Absent, Toward}
+use Rattle.rules.specs.Answers.{Direction}
+use Rattle.rules.specs.Answers.{Absent, Toward}
 use Rattle.pair_laws.specs.Ranked.{RankedPair, candidates, qualifies, select, none as nobody}
 use Rattle.pair_laws.specs.Sets.{In}
 use Rattle.pair_laws.specs.Taking.{listed}

@@ -1,8 +1,8 @@
 -- Directions that are absent or finite, the box around them, and those that are too far from a box.
 use Rattle.std.specs.Prelude.{ℕ, zero, suc, ◌<◌, ◌≡◌, Bool, true, false, ◌&&◌, ltb}
 use Rattle.std.specs.Float.Ieee.Scale.{finite}
-use Rattle.rules.specs.declared.Direction.{Direction}
-use Rattle.rules.specs.declared.Direction.TheVariants.{Absent, Toward}
+use Rattle.rules.specs.Answers.{Direction}
+use Rattle.rules.specs.Answers.{Absent, Toward}
 use Rattle.float_order.specs.Key.{low_key}
 use Rattle.pair_bounds.specs.declared.Bounds.{Bounds}
 use Rattle.pair_bounds.specs.Box.{empty_of, point_of, union_of, round_way, corner_of}

@@ -9,16 +9,11 @@ use pair_bounds::Bounds;
 use rules::Direction;
 
 // Whether a direction, if present, is finite.
+#[tactic(auto, unfolding(crate::specs::Around::tame))]
 fn finite_way(way: Direction) -> bool
     ensures { result ≡ tame way }
 {
-    let Direction::Toward(x, y) = way else {
-        return true;
-    };
-    if !float_order::is_finite(x) {
-        return false;
-    }
-    float_order::is_finite(y)
+    way.is_none_or(|(x, y)| float_order::is_finite(x) && float_order::is_finite(y))
 }
 
 // Whether each present direction is finite.
@@ -26,24 +21,15 @@ pub fn all_finite(w: &[u64], d: usize) -> bool
     requires { EndsRoom w.now d }
     ensures { Every (λ e. tame (direction_at w.now d e)) d result }
 {
-    let mut e = 0;
-    while e < d {
-        if !finite_way(pair_ends::direction_at(w, d, e)) {
-            return false;
-        }
-        e += 1;
-    }
-    true
+    (0..d).all(|e| finite_way(pair_ends::direction_at(w, d, e)))
 }
 
 // Whether a direction, if present, is in the disk.
+#[tactic(auto, unfolding(crate::specs::Around::round_of))]
 fn round_way(way: Direction) -> bool
     ensures { result ≡ round_of way }
 {
-    let Direction::Toward(x, y) = way else {
-        return true;
-    };
-    pair_bounds::is_round(x, y)
+    way.is_none_or(|(x, y)| pair_bounds::is_round(x, y))
 }
 
 // Whether each present direction is in the disk.
@@ -51,21 +37,15 @@ pub fn all_round(w: &[u64], d: usize) -> bool
     requires { EndsRoom w.now d }
     ensures { Every (λ e. round_of (direction_at w.now d e)) d result }
 {
-    let mut e = 0;
-    while e < d {
-        if !round_way(pair_ends::direction_at(w, d, e)) {
-            return false;
-        }
-        e += 1;
-    }
-    true
+    (0..d).all(|e| round_way(pair_ends::direction_at(w, d, e)))
 }
 
 // The least box around a box and a direction.
+#[tactic(auto, unfolding(crate::specs::Around::joined_of))]
 fn joined(b: Bounds, way: Direction) -> Bounds
     ensures { result ≡ joined_of b way }
 {
-    let Direction::Toward(x, y) = way else {
+    let Some((x, y)) = way else {
         return b;
     };
     Bounds::union(
@@ -86,22 +66,18 @@ fn around(w: &[u64], d: usize) -> Bounds
     ensures { result ≡ around_of (direction_at w.now d) d }
 {
     let mut b = Bounds::empty();
-    let mut e = 0;
-    while e < d {
+    for e in 0..d {
         b = joined(b, pair_ends::direction_at(w, d, e));
-        e += 1;
     }
     b
 }
 
 // Whether no direction of a box makes a pair with this one under the limit's key.
+#[tactic(auto, unfolding(crate::specs::Around::beyond_of))]
 fn beyond(b: Bounds, limit: u64, way: Direction) -> bool
     ensures { result ≡ beyond_of b limit way }
 {
-    let Direction::Toward(x, y) = way else {
-        return true;
-    };
-    limit < float_order::low_key(b.corner_measure(x, y))
+    way.is_none_or(|(x, y)| limit < float_order::low_key(b.corner_measure(x, y)))
 }
 
 // Whether each direction is too far from the box around all of them, so that no pair qualifies.
@@ -110,14 +86,7 @@ pub fn apart(w: &[u64], d: usize, limit: u64) -> bool
     ensures { Every (λ e. beyond_of (around_of (direction_at w.now d) d) limit (direction_at w.now d e)) d result }
 {
     let b = around(w, d);
-    let mut e = 0;
-    while e < d {
-        if !beyond(b, limit, pair_ends::direction_at(w, d, e)) {
-            return false;
-        }
-        e += 1;
-    }
-    true
+    (0..d).all(|e| beyond(b, limit, pair_ends::direction_at(w, d, e)))
 }
 
 // Whether each direction is tame and too far from the box around all of them.
@@ -125,8 +94,5 @@ pub fn idle(w: &[u64], d: usize, limit: u64) -> bool
     requires { EndsRoom w.now d }
     ensures { Every (λ e. idle_of (direction_at w.now d) d limit e) d result }
 {
-    if !all_finite(w, d) {
-        return false;
-    }
-    apart(w, d, limit)
+    all_finite(w, d) && apart(w, d, limit)
 }

@@ -5,3 +5,4 @@ pub mod Disk
 pub mod Apart
 pub mod Bound
 pub mod Search
+pub mod Reading

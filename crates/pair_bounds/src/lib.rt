@@ -1,12 +1,10 @@
 // The bounds of a node's directions: the least box around them, with the first of their indexes.
 #![tactic(auto)]
 
-ghost use Rattle.std.specs.Prelude.{◌≡◌, min};
+ghost use Rattle.std.specs.Prelude.{◌≡◌};
 ghost use Rattle.pair_bounds.specs.Box.{corner as corner_at, gap as gap_at, half_square, least, greatest, round_way, empty_of, union_of, corner_of, gap_of, lower_of};
 
-use float_order;
-
-// The index of no end, which is after all others.
+// The index of no end, which is after all others. It is no Option: a node keeps its first index in a word (fixed memory), and the least of two words is the first.
 pub const GONE: u64 = 0xFFFF_FFFF_FFFF_FFFF;
 
 // The greatest square of a length in the disk, 1 + 2^-28: that of a direction of length 1, its parts rounded, is below it. And 1 + 2^-27, which is above it by
@@ -15,7 +13,7 @@ const RIM: f64 = 1.0000000037252902984619140625;
 
 const BEYOND: f64 = 1.000000007450580596923828125;
 
-// The lesser of two numbers. Of two zeros the first.
+// The lesser of two numbers. Of two zeros the first, which f64::min and f64::max leave open.
 fn lesser(a: f64, b: f64) -> f64
     ensures { result ≡ least a b }
 {
@@ -35,7 +33,7 @@ fn corner(a: f64, low: f64, high: f64) -> f64
     if a < 0.0 { high } else { low }
 }
 
-// What is least, in size, of a + z for z in low..high.
+// What is least, in size, of a + z for z in low..high. It is no `clamp`, which asks that low is at most high: an empty box's is not.
 fn gap(a: f64, low: f64, high: f64) -> f64
     ensures { result ≡ gap_at a low high }
 {
@@ -61,12 +59,6 @@ pub fn is_round(x: f64, y: f64) -> bool
     x * x + y * y <= RIM
 }
 
-fn earlier(a: u64, b: u64) -> u64
-    ensures { result ≡ min a b }
-{
-    if b < a { b } else { a }
-}
-
 #[derive(Clone, Copy)]
 pub struct Bounds {
     pub low_x: f64,
@@ -77,19 +69,17 @@ pub struct Bounds {
 }
 
 impl Bounds {
-    // No direction: a union with it holds what the other holds. The greatest finite numbers stand in for infinities, which no constant holds.
-    pub const EMPTY: Bounds = Bounds {
-        low_x: 1.7976931348623157e308,
-        low_y: 1.7976931348623157e308,
-        high_x: -1.7976931348623157e308,
-        high_y: -1.7976931348623157e308,
-        first: GONE,
-    };
-
+    // No direction: a union with it holds what the other holds. The greatest finite numbers stand in for infinities, so that every end is finite.
     pub fn empty() -> Bounds
         ensures { result ≡ empty_of }
     {
-        Bounds::EMPTY
+        Bounds {
+            low_x: f64::MAX,
+            low_y: f64::MAX,
+            high_x: f64::MIN,
+            high_y: f64::MIN,
+            first: GONE,
+        }
     }
 
     // The least box around both.
@@ -101,7 +91,7 @@ impl Bounds {
             low_y: lesser(a.low_y, b.low_y),
             high_x: greater(a.high_x, b.high_x),
             high_y: greater(a.high_y, b.high_y),
-            first: earlier(a.first, b.first),
+            first: a.first.min(b.first),
         }
     }
 
@@ -129,10 +119,8 @@ impl Bounds {
         ensures { result ≡ lower_of round self ax ay }
     {
         let m = self.corner_measure(ax, ay);
-        if round {
-            if self.low_x < self.high_x {
-                return greater(m, self.gap_measure(ax, ay));
-            }
+        if round && self.low_x < self.high_x {
+            return greater(m, self.gap_measure(ax, ay));
         }
         m
     }

@@ -1,168 +1,77 @@
-// The public pairing calls. The three differ in their route alone, and the indexed one in a refusal of its own.
+// The public pairing calls. They differ in their route alone, and the indexed one in a refusal of its own.
 #![tactic(auto)]
 
-ghost use Rattle.std.specs.Prelude.{◌≡◌, true, false};
+ghost use Rattle.std.specs.Prelude.{◌≡◌, Bool, true, false};
 ghost use Rattle.float_order.specs.Key.{key};
 ghost use Rattle.pair_ends.specs.Ends.{Selected};
+ghost use Rattle.rules.specs.Answers.{answered};
 ghost use Rattle.rules.specs.Calls.{Paired};
-ghost use Rattle.pair_calls.specs.Routed.{alone_by, Routed};
+ghost use Rattle.rules.specs.Lent.{ends_lent};
+ghost use Rattle.pair_calls.specs.Routed.{Routed};
 
 use pair_ends::PAIRS;
-use rules::{Answer, END_ROOM};
+use rules::{Answer, END_ROOM, Ends};
 
-// The routes: every pair is looked at, or the index is asked, or whichever of the two fits.
-#[derive(Clone, Copy)]
-pub enum Route {
-    Plain,
-    Indexed,
-    Chosen,
+// A route to the selected pairs. `ALONE` tells whether the index is asked whatever the directions are, so that a direction that is not finite is refused.
+pub trait Route {
+    const ALONE: bool;
+
+    ghost ALONE: { Bool };
+
+    // The selected pairs of the ends in the workspace; how many.
+    fn select(w: &mut [u64], d: usize, limit: f64) -> usize
+        requires { Routed ALONE w.old d limit }
+        ensures { Selected w.old d (key limit) result w.new };
 }
 
-// Whether the index is asked whatever the directions are, so that a direction that is not finite is refused.
-fn is_alone(by: Route) -> bool
-    ensures { result ≡ alone_by by }
-{
-    match by {
-        Route::Plain => false,
-        Route::Indexed => true,
-        Route::Chosen => false,
+// Every pair is looked at.
+pub struct Plain;
+
+// The index is asked.
+pub struct Indexed;
+
+// Whichever of the two fits.
+pub struct Chosen;
+
+impl Route for Plain {
+    const ALONE: bool = false;
+
+    ghost ALONE = { false };
+
+    fn select(w: &mut [u64], d: usize, limit: f64) -> usize {
+        pair_plain::plain(w, d, limit)
     }
 }
 
-// The selected pairs of the ends in the workspace, by a route; how many.
-fn selected_by(by: Route, w: &mut [u64], d: usize, limit: f64) -> usize
-    requires { Routed by w.old d limit }
-    ensures { Selected w.old d (key limit) result w.new }
-{
-    match by {
-        Route::Plain => pair_plain::plain(w, d, limit),
-        Route::Indexed => pair_indexed::indexed(w, d, float_order::key(limit)),
-        Route::Chosen => pair_chosen::junction_pairs(w, d, limit),
+impl Route for Indexed {
+    const ALONE: bool = true;
+
+    ghost ALONE = { true };
+
+    fn select(w: &mut [u64], d: usize, limit: f64) -> usize {
+        pair_indexed::indexed(w, d, float_order::key(limit))
     }
 }
 
-// The selected pairs of the lent ends by a route; the number of pairs.
-fn pairs_by(
-    by: Route,
-    present: &[u8],
-    directions: &[f64],
-    pieces: &[u32],
-    limit: f64,
-    pairs: &mut [u32],
-    workspace: &mut [u64],
-) -> Answer
-    ensures { Paired (alone_by by) (record {
-      present = present.entry.now;
-      directions = directions.now;
-      pieces = pieces.now;
-      limit = limit;
-      pairs = pairs.old;
-      workspace = workspace.old;
-    }) result pairs.new workspace.new }
-{
-    let refused = pair_refusals::pair_refusal(
-        is_alone(by),
-        present,
-        directions,
-        pieces,
-        limit,
-        pairs.len(),
-        workspace.len(),
-    );
-    if refused != 0 {
-        return Answer::Refused(refused);
+impl Route for Chosen {
+    const ALONE: bool = false;
+
+    ghost ALONE = { false };
+
+    fn select(w: &mut [u64], d: usize, limit: f64) -> usize {
+        pair_chosen::junction_pairs(w, d, limit)
     }
-    let d = pieces.len();
-    pair_lending::put_ends(workspace, present, directions, pieces);
-    let n = selected_by(by, workspace, d, limit);
+}
+
+// The selected pairs of the lent ends, by a route; the number of pairs.
+pub fn pairs<R: Route>(ends: &Ends, limit: f64, pairs: &mut [u32], workspace: &mut [u64]) -> Answer
+    ensures { Paired R.ALONE (ends_lent ends.now limit pairs.old workspace.old) (answered result) pairs.new workspace.new }
+{
+    pair_refusals::pair_refusal(R::ALONE, ends, limit, pairs.len(), workspace.len())?;
+    let d = ends.pieces.len();
+    pair_lending::put_ends(workspace, ends);
+    let n = R::select(workspace, d, limit);
     pair_lending::take_pairs(workspace, d * PAIRS, n * 2, pairs);
     point_slices::clear(workspace, d * END_ROOM);
-    Answer::Accepted(n as u64)
-}
-
-// The selected pairs of the lent ends, by the plain route; the number of pairs.
-pub fn pairs_plain(
-    present: &[u8],
-    directions: &[f64],
-    pieces: &[u32],
-    limit: f64,
-    pairs: &mut [u32],
-    workspace: &mut [u64],
-) -> Answer
-    ensures { Paired false (record {
-      present = present.entry.now;
-      directions = directions.now;
-      pieces = pieces.now;
-      limit = limit;
-      pairs = pairs.old;
-      workspace = workspace.old;
-    }) result pairs.new workspace.new }
-{
-    pairs_by(
-        Route::Plain,
-        present,
-        directions,
-        pieces,
-        limit,
-        pairs,
-        workspace,
-    )
-}
-
-// The selected pairs of the lent ends, by the indexed route; the number of pairs.
-pub fn pairs_indexed(
-    present: &[u8],
-    directions: &[f64],
-    pieces: &[u32],
-    limit: f64,
-    pairs: &mut [u32],
-    workspace: &mut [u64],
-) -> Answer
-    ensures { Paired true (record {
-      present = present.entry.now;
-      directions = directions.now;
-      pieces = pieces.now;
-      limit = limit;
-      pairs = pairs.old;
-      workspace = workspace.old;
-    }) result pairs.new workspace.new }
-{
-    pairs_by(
-        Route::Indexed,
-        present,
-        directions,
-        pieces,
-        limit,
-        pairs,
-        workspace,
-    )
-}
-
-// The selected pairs of the lent ends, by the chosen route; the number of pairs.
-pub fn pairs_chosen(
-    present: &[u8],
-    directions: &[f64],
-    pieces: &[u32],
-    limit: f64,
-    pairs: &mut [u32],
-    workspace: &mut [u64],
-) -> Answer
-    ensures { Paired false (record {
-      present = present.entry.now;
-      directions = directions.now;
-      pieces = pieces.now;
-      limit = limit;
-      pairs = pairs.old;
-      workspace = workspace.old;
-    }) result pairs.new workspace.new }
-{
-    pairs_by(
-        Route::Chosen,
-        present,
-        directions,
-        pieces,
-        limit,
-        pairs,
-        workspace,
-    )
+    Ok(n as u64)
 }

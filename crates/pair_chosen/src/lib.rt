@@ -16,10 +16,7 @@ pub fn junction_pairs(w: &mut [u64], d: usize, limit: f64) -> usize
     requires { EndsRoom w.old d × (limit_bad limit ≡ false) × AtMostTwice (λ e. (end_at (ends_in w.old d) e).piece) d }
     ensures { Selected w.old d (key limit) result w.new }
 {
-    if d < FEW {
-        return pair_plain::plain(w, d, limit);
-    }
-    if !pair_all_directions::all_finite(w, d) {
+    if d < FEW || !pair_all_directions::all_finite(w, d) {
         return pair_plain::plain(w, d, limit);
     }
     pair_indexed::indexed(w, d, float_order::key(limit))

@@ -10,7 +10,7 @@ use lib.Ieee.{Float, nan}
 use lib.ListN.{length, get_or, take, drop, length-map, get_or-map}
 use lib.Seq.{slice, length-slice, get_or-take, get_or-drop, take-take}
 use borrow.Author.Tests.{ne_eqb}
-use Rattle.rules.specs.declared.Direction.TheVariants.{Absent, Toward}
+use Rattle.rules.specs.Answers.{Absent, Toward}
 use Rattle.rules.specs.Plane.{float}
 use Rattle.rules.specs.Layout.{given, ends}
 use Rattle.pair_laws.specs.Ends.{end_at, there, key_of, node_of, ByPlace}

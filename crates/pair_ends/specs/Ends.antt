@@ -2,7 +2,7 @@
 -- d words of pairs, two for each. The rest is the route's own.
 use Rattle.std.specs.Prelude.{ℕ, ◌+◌, ◌*◌, ◌≤◌, ◌≡◌, List, map, length, get_or, take, drop}
 use Rattle.std.proofs.Math.Seq.{slice}
-use Rattle.rules.specs.declared.Direction.{Direction}
+use Rattle.rules.specs.Answers.{Direction}
 use Rattle.rules.specs.Plane.{float}
 use Rattle.rules.specs.Selecting.{End}
 use Rattle.rules.specs.Layout.{given, ends}

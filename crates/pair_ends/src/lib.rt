@@ -44,7 +44,7 @@ pub const INDEX: usize = 22;
 
 pub const NOTE: usize = 42;
 
-// The key of a pair of which one direction is absent, which is above every limit's.
+// The key of a pair of which one direction is absent, which is above every limit's. It is no Option: `key_of` is a number, as the words are that keep keys.
 const ABSENT: u64 = float_order::GREATEST;
 
 // The direction of end e.
@@ -53,12 +53,12 @@ pub fn direction_at(w: &[u64], d: usize, e: usize) -> Direction
     ensures { result ≡ direction_at w.now d e }
 {
     if w[e] == 1 {
-        return Direction::Toward(
+        return Some((
             float_bits::of_bits(w[d + e * 2]),
             float_bits::of_bits(w[d + e * 2 + 1]),
-        );
+        ));
     }
-    Direction::Absent
+    None
 }
 
 // The piece number of end e.
@@ -73,11 +73,8 @@ pub fn piece_at(w: &[u64], d: usize, e: usize) -> u64
 pub fn pair_key(a: Direction, b: Direction) -> u64
     ensures { result ≡ key_of a b }
 {
-    let Direction::Toward(ax, ay) = a else {
-        return ABSENT;
-    };
-    let Direction::Toward(bx, by) = b else {
-        return ABSENT;
-    };
-    float_order::key(float_order::measure(ax, ay, bx, by))
+    match (a, b) {
+        (Some((ax, ay)), Some((bx, by))) => float_order::key(float_order::measure(ax, ay, bx, by)),
+        _ => ABSENT,
+    }
 }

@@ -1,18 +1,19 @@
 -- What a walk along a row relies on. A direction of two numbers stands in the workspace as two words that are no NaN's. The key of two directions is that of
 -- their measure. A dot product that is above a measure below 1 stays above it once it is clamped, and no measure is below -1.
-use mathlib.Core.Path.{◌≡◌, refl, sym, ap, ◌∙◌, subst}
+use mathlib.Core.Path.{◌≡◌, refl, sym, ap, ap₂, ◌∙◌, subst}
 use mathlib.Core.Bool.{Bool, true, false, not, ◌&&◌, ◌||◌, cond, or-true}
 use mathlib.Core.Logic.{◌⊎◌, inl, inr}
 use mathlib.Core.List.{List}
+use Rattle.std.specs.Prelude.{Option, Some, None}
 use Prim.Native.Nat.{ℕ, ◌+◌, ◌*◌, ◌≤◌, ◌<◌}
 use native.Mathlib.Omega.{arith}
 use lib.Dec.{T, eqb}
-use lib.Ieee.{Float, nan, inf, fin, binary64, add, mul, div, of_bits, lt, eq, le, is_nan, fits, nan_bits}
+use lib.Ieee.{Float, nan, inf, fin, binary64, add, mul, lt, eq, le, is_nan, fits, nan_bits}
 use lib.Ieee.Bits.{nan_bits_is}
 use lib.ListN.{get_or}
-use borrow.Author.Tests.{eqb-true, leb-true, eq-eqb, ne_eqb}
-use Rattle.rules.specs.declared.Direction.{Direction}
-use Rattle.rules.specs.declared.Direction.TheVariants.{Absent, Toward}
+use borrow.Author.Tests.{eqb-true, leb-true}
+use Rattle.rules.specs.Answers.{Direction}
+use Rattle.rules.specs.Answers.{Absent, Toward}
 use Rattle.rules.specs.Plane.{float, unity, minus_unity, clamp, dot, measure}
 use Rattle.rules.specs.Layout.{given}
 use Rattle.float_order.specs.Key.{key_nan, key}
@@ -22,7 +23,7 @@ use Rattle.float_order.proofs.Dot.{measure_fits, clamp_mono, clamp_num}
 use Rattle.pair_laws.specs.Ends.{key_of}
 use Rattle.pair_laws.proofs.Order.{two, tf, and_left, and_right}
 use Rattle.pair_ends.specs.Ends.{direction_at}
-use Rattle.pair_first_of_end.specs.Near.{numbered, dot_of, measure_of, reaches_to, closer_to}
+use Rattle.pair_first_of_end.specs.Near.{numbered, dot_of, measure_of, reaches_to, below_of, closer_to}
 use Rattle.pair_first_of_end.specs.declared.Near.{Near}
 
 -- a test as a fact, and a fact as a test
@@ -83,21 +84,9 @@ key_of_measure Absent b = refl
 key_of_measure (Toward ax ay) Absent = refl
 key_of_measure (Toward ax ay) (Toward bx by) = refl
 
-pub zero_by_zero : div binary64 (of_bits binary64 0) (of_bits binary64 0) ≡ nan
-unfolding div of_bits
-zero_by_zero = refl
-
-pub nan_measure : (b : Direction) → nan ≡ measure_of Absent b
-unfolding measure_of lt
-nan_measure b = refl
-
-pub nan_measure_too : (ax ay : Float) → nan ≡ measure_of (Toward ax ay) Absent
-unfolding measure_of lt
-nan_measure_too ax ay = refl
-
-pub measure_toward : (ax ay bx by : Float) → measure ax ay bx by ≡ measure_of (Toward ax ay) (Toward bx by)
+pub measure_is : {a b : Direction} {x y : Float × Float} → a ≡ Some x → b ≡ Some y → measure x.0 x.1 y.0 y.1 ≡ measure_of a b
 unfolding measure measure_of
-measure_toward ax ay bx by = refl
+measure_is {a} {b} {x} {y} p q = sym (ap₂ measure_of p q)
 
 not_below : (x y : Float) → le x y ≡ false → lt x y ≡ false
 not_below x y h = go (two (lt x y))
@@ -122,26 +111,17 @@ reach s m top h = go (lt s minus_unity) (lt unity s) refl refl h
     go false true e f h = by_right (holds (eq m unity) (antisymm m unity top (held h)))
     go false false e f h = by_left h
 
--- the answers of a test for a nearer direction
-module _ (near : Near) (a b : Direction) where
-  pub out_of_reach : T (le near.measure unity) → reaches_to (dot_of a b) near.measure ≡ false → false ≡ closer_to near (measure_of a b)
-  unfolding closer_to measure_of
-  out_of_reach top h = go (eqb near.partner 0) (two (le (measure_of a b) near.measure))
-    where
-      go : (t : Bool) → (le (measure_of a b) near.measure ≡ true) ⊎ (le (measure_of a b) near.measure ≡ false)
-          → false ≡ cond t (le (measure_of a b) near.measure) (lt (measure_of a b) near.measure)
-      go t (inl e) = absurd (tf (reach (dot_of a b) near.measure top e) h)
-      go true (inr e) = sym e
-      go false (inr e) = sym (not_below (measure_of a b) near.measure e)
-
-module _ (near : Near) (m : Float) where
-  pub closer_first : near.partner ≡ 0 → le m near.measure ≡ closer_to near m
-  unfolding closer_to
-  closer_first e = rw (eq-eqb near.partner 0 e)
-
-  pub closer_next : (near.partner ≡ 0 → ⊥) → lt m near.measure ≡ closer_to near m
-  unfolding closer_to
-  closer_next e = rw (ne_eqb near.partner 0 e)
+-- a direction whose dot product is out of reach isn't nearer
+pub out_of_reach : (near : Near) (ax ay bx by : Float) → T (le near.measure unity) → reaches_to (dot ax ay bx by) near.measure ≡ false
+    → false ≡ closer_to near (measure ax ay bx by)
+unfolding measure below_of
+out_of_reach near ax ay bx by top h = go (dot ax ay bx by) near.partner h (two (le (clamp (dot ax ay bx by)) near.measure))
+  where
+    go : (s : Float) (t : Option ℕ) → reaches_to s near.measure ≡ false → (le (clamp s) near.measure ≡ true) ⊎ (le (clamp s) near.measure ≡ false)
+        → false ≡ below_of t (clamp s) near.measure
+    go s t h (inl e) = absurd (tf (reach s near.measure top e) h)
+    go s None h (inr e) = sym e
+    go s (Some j) h (inr e) = sym (not_below (clamp s) near.measure e)
 
 -- no measure is below -1
 pub least_measure : (m : Float) → T (fits binary64 m) → le m minus_unity ≡ true → (a b : Direction) → key m ≤ key (measure_of a b)

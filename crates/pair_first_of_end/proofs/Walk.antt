@@ -1,20 +1,22 @@
 -- The walk along row i: after each end what is near is the first of the free qualifying pairs that were passed. An end is passed by if it is marked, if its
 -- measure isn't nearer, or if it is of the same piece. Where the nearest is at -1, no later pair is before it.
 use Prim.Native.Nat.{ℕ, ◌+◌, ◌*◌, ◌≤◌, ◌<◌}
-use mathlib.Core.Path.{◌≡◌, refl, sym, ap, ap₂, ◌∙◌}
-use mathlib.Core.Bool.{Bool, true, false, not, ◌&&◌, cond, and-false, or-true}
+use mathlib.Core.Path.{◌≡◌, refl, sym, ap, ap₂, ◌∙◌, subst}
+use mathlib.Core.Bool.{Bool, true, false, not, ◌&&◌, and-false, or-true}
 use mathlib.Core.Logic.{◌⊎◌, inl, inr, ⊎_elim}
 use mathlib.Core.List.{List}
 use native.Mathlib.Omega.{arith}
 use lib.Dec.{T, leb, ltb, eqb}
-use lib.Ieee.{Float, binary64, lt, le, is_nan, fits}
+use lib.Ieee.{Float, binary64, le, is_nan, fits}
 use lib.ListN.{length}
-use borrow.Author.Tests.{eq-eqb, ne_eqb, eqb-true, eqb-false, leb-true, le-leb, not-false}
-use Rattle.rules.specs.declared.Direction.{Direction}
-use Rattle.rules.specs.declared.Direction.TheVariants.{Absent, Toward}
+use Rattle.std.specs.Prelude.{Option, Some, None}
+use Rattle.std.specs.Option.{unwrap_or}
+use borrow.Author.Tests.{eq-eqb, ne_eqb, leb-true, le-leb, not-false}
+use Rattle.rules.specs.Answers.{Direction}
+use Rattle.rules.specs.Answers.{Absent, Toward}
 use Rattle.rules.specs.Plane.{unity, minus_unity}
 use Rattle.rules.specs.Refusals.{limit_bad}
-use Rattle.float_order.specs.Key.{key_nan, key}
+use Rattle.float_order.specs.Key.{key}
 use Rattle.float_order.proofs.Order.{le_num_l, lt_to_le, trans}
 use Rattle.float_order.proofs.Keys.{key_le_is, key_lt_is}
 use Rattle.pair_laws.specs.Ranked.{RankedPair, Node, candidates, qualifies, busy, before}
@@ -29,8 +31,8 @@ use Rattle.pair_ends.specs.Blocks.{pairs_from, marks_from, row_keys_from}
 use Rattle.pair_ends.specs.Ends.{direction_at, piece_at, ends_in}
 use Rattle.pair_ends.proofs.Reading.{get_d_slice, ends_in_length, key_in, may_in}
 use Rattle.pair_first_of_end.specs.declared.Near.{Near}
-use Rattle.pair_first_of_end.specs.Near.{numbered, measure_of, closer_to}
-use Rattle.pair_first_of_end.specs.Row.{mark_at, used_in, held_of, RowReady, First}
+use Rattle.pair_first_of_end.specs.Near.{numbered, measure_of, below_of, closer_to}
+use Rattle.pair_first_of_end.specs.Row.{mark_at, used_in, held_words, held_by, held_of, RowReady, First}
 use Rattle.pair_first_of_end.proofs.Measures.{holds, held, measure_of_fits, key_of_measure, least_measure}
 
 -- ---- the better of a pair and the next one
@@ -84,11 +86,12 @@ abbrev pub between : List ℕ → ℕ → ℕ → ℕ → Float
 between w d i j = measure_of (direction_at w d i) (direction_at w d j)
 
 abbrev pub seen : ℕ → Near → RankedPair
-seen i near = record { key = key near.measure; i = i; j = near.partner }
+seen i near = record { key = key near.measure; i = i; j = unwrap_or near.partner 0 }
 
 pub record Walk (w : List ℕ) (d : ℕ) (limit : Float) (i : ℕ) (near : Near) (next : ℕ) : Type 0 where
   pub so_far : SoFar (node w d) (key limit) (used_in w d) (Passed (node w d) (key limit) (used_in w d) i next) (seen i near)
-  pub unmet : near.partner ≡ 0 → near.measure ≡ limit
+  pub unmet : near.partner ≡ None → near.measure ≡ limit
+  pub met : (j : ℕ) → near.partner ≡ Some j → i < j
   pub top : T (le near.measure unity)
   pub fitting : T (fits binary64 near.measure)
   pub beyond : i < next
@@ -110,11 +113,12 @@ module _ (w : List ℕ) (d : ℕ) (limit : Float) (i : ℕ) (ok : RowReady w d l
   ends_are : length (ends_in w d) ≡ d
   ends_are = ends_in_length w d long
 
-  pub walk_start : Walk w d limit i (record { measure = limit; partner = 0 }) (i + 1)
+  pub walk_start : Walk w d limit i (record { measure = limit; partner = None }) (i + 1)
   walk_start =
       record {
-        so_far = row_start (node w d) (key limit) (used_in w d) i (seen i (record { measure = limit; partner = 0 })) refl;
+        so_far = row_start (node w d) (key limit) (used_in w d) i (seen i (record { measure = limit; partner = None })) refl;
         unmet = λ e. refl;
+        met = λ j e. cc;
         top = limit_top limit ok.admitted;
         fitting = fitting;
         beyond = omega arith;
@@ -137,11 +141,15 @@ module _ (w : List ℕ) (d : ℕ) (limit : Float) (i : ℕ) (ok : RowReady w d l
         record {
           so_far = rw e at (row_next (node w d) (key limit) (used_in w d) i j s.beyond (omega (arith, ends_are)) (seen i near) s.so_far);
           unmet = s.unmet;
+          met = s.met;
           top = s.top;
           fitting = s.fitting;
           beyond = omega (arith, s.beyond);
           within = omega arith;
         }
+
+    partnered : {k : ℕ} → near.partner ≡ Some k → unwrap_or near.partner 0 ≡ 0 → ⊥
+    partnered {k} e z = omega (arith, s.met k e, ap (λ (o : Option ℕ). unwrap_or o 0) e)
 
     pub walk_marked : (mark_at w d j ≡ 0 → ⊥) → Walk w d limit i near (j + 1)
     unfolding busy
@@ -149,22 +157,21 @@ module _ (w : List ℕ) (d : ℕ) (limit : Float) (i : ℕ) (ok : RowReady w d l
         walk_pass (passed_busy (node w d) (key limit) (used_in w d) i j (seen i near) (rw (used_marked w d j j<d h) (or-true (used_in w d i))))
 
     pub walk_farther : closer_to near (between w d i j) ≡ false → Walk w d limit i near (j + 1)
-    unfolding closer_to qualifies
-    walk_farther h = walk_pass (go (eqb near.partner 0) refl h)
+    unfolding below_of qualifies
+    walk_farther h = walk_pass (go near.partner refl h)
       where
-        go : (t : Bool) → eqb near.partner 0 ≡ t → cond t (le (between w d i j) near.measure) (lt (between w d i j) near.measure) ≡ false
-            → better (node w d) (key limit) (used_in w d) i j (seen i near) ≡ seen i near
-        go true e f =
+        go : (t : Option ℕ) → near.partner ≡ t → below_of t (between w d i j) near.measure ≡ false → better (node w d) (key limit) (used_in w d) i j (seen i near) ≡ seen i near
+        go None e f =
             passed_shut (node w d) (key limit) (used_in w d) i j (seen i near)
-            (ap (λ (t : Bool). (node w d).may i j && t) (over e f) ∙ and-false ((node w d).may i j))
+            (ap (λ (t : Bool). (node w d).may i j && t) (over f) ∙ and-false ((node w d).may i j))
           where
-            over : eqb near.partner 0 ≡ true → le (between w d i j) near.measure ≡ false → leb ((node w d).key i j) (key limit) ≡ false
-            over e f =
-                ap₂ leb pair_key (ap key (sym (s.unmet (eqb-true near.partner 0 e))))
+            over : le (between w d i j) near.measure ≡ false → leb ((node w d).key i j) (key limit) ≡ false
+            over f =
+                ap₂ leb pair_key (ap key (sym (s.unmet e)))
                 ∙ sym (key_le_is (between w d i j) near.measure fits_here s.fitting number)
                 ∙ f
-        go false e f =
-            passed_far (node w d) (key limit) (used_in w d) i j (seen i near) (eqb-false near.partner 0 e)
+        go (Some k) e f =
+            passed_far (node w d) (key limit) (used_in w d) i j (seen i near) (partnered e)
             (ap (λ (k : ℕ). ltb k (key near.measure)) pair_key
             ∙ sym (key_lt_is (between w d i j) near.measure fits_here s.fitting number)
             ∙ f)
@@ -177,32 +184,33 @@ module _ (w : List ℕ) (d : ℕ) (limit : Float) (i : ℕ) (ok : RowReady w d l
         (rw (may_in w d long i j ok.row j<d, eq-eqb (piece_at w d i) (piece_at w d j) (sym h), and-false (there (direction_at w d j)), and-false (there (direction_at w d i)))))
 
     pub walk_nearer : mark_at w d i ≡ 0 → mark_at w d j ≡ 0 → closer_to near (between w d i j) ≡ true → (piece_at w d j ≡ piece_at w d i → ⊥)
-        → Walk w d limit i (record { measure = between w d i j; partner = j }) (j + 1)
-    unfolding closer_to qualifies busy
+        → Walk w d limit i (record { measure = between w d i j; partner = Some j }) (j + 1)
+    unfolding below_of qualifies busy
     walk_nearer free_i free_j h apart =
         record {
-          so_far = rw (is (eqb near.partner 0) refl h ∙ (λ t. record { key = pair_key t; i = i; j = j }))
+          so_far = rw (is near.partner refl h ∙ (λ t. record { key = pair_key t; i = i; j = j }))
               at (row_next (node w d) (key limit) (used_in w d) i j s.beyond (omega (arith, ends_are)) (seen i near) s.so_far);
-          unmet = λ e. absurd (omega (arith, s.beyond));
+          unmet = λ e. cc;
+          met = λ k e. omega (arith, s.beyond, ap (λ (o : Option ℕ). unwrap_or o 0) e);
           top = trans (between w d i j) near.measure unity (held low) s.top;
           fitting = fits_here;
           beyond = omega (arith, s.beyond);
           within = omega arith;
         }
       where
-        at_or_below : (t : Bool) → cond t (le (between w d i j) near.measure) (lt (between w d i j) near.measure) ≡ true → le (between w d i j) near.measure ≡ true
-        at_or_below true e = e
-        at_or_below false e = holds (le (between w d i j) near.measure) (lt_to_le (between w d i j) near.measure (held e))
+        at_or_below : (t : Option ℕ) → below_of t (between w d i j) near.measure ≡ true → le (between w d i j) near.measure ≡ true
+        at_or_below None e = e
+        at_or_below (Some k) e = holds (le (between w d i j) near.measure) (lt_to_le (between w d i j) near.measure (held e))
 
         low : le (between w d i j) near.measure ≡ true
-        low = at_or_below (eqb near.partner 0) h
+        low = at_or_below near.partner h
 
         -- what is near is at or below the limit
-        near_low : (t : Bool) → eqb near.partner 0 ≡ t → key near.measure ≤ key limit
-        near_low true e = omega (arith, ap key (s.unmet (eqb-true near.partner 0 e)))
-        near_low false e =
+        near_low : (t : Option ℕ) → near.partner ≡ t → key near.measure ≤ key limit
+        near_low None e = omega (arith, ap key (s.unmet e))
+        near_low (Some k) e =
             leb-true (key near.measure) (key limit)
-            (and_right ((node w d).may i near.partner) (leb (key near.measure) (key limit)) (s.so_far.opened (omega (arith, eqb-false near.partner 0 e))).ok)
+            (and_right ((node w d).may i (unwrap_or near.partner 0)) (leb (key near.measure) (key limit)) (s.so_far.opened (omega (arith, partnered e))).ok)
 
         keys : key (between w d i j) ≤ key near.measure
         keys = leb-true (key (between w d i j)) (key near.measure) (sym (key_le_is (between w d i j) near.measure fits_here s.fitting number) ∙ low)
@@ -216,52 +224,65 @@ module _ (w : List ℕ) (d : ℕ) (limit : Float) (i : ℕ) (ok : RowReady w d l
             ∙ rw (there_at i ok.row free_i, there_at j j<d free_j, ne_eqb (piece_at w d i) (piece_at w d j) (λ e. apart (sym e)))
 
         qualified : qualifies (node w d) (key limit) (pair_at (node w d) i j) ≡ true
-        qualified = rw (may, pair_key, le-leb (key (between w d i j)) (key limit) (omega (arith, keys, near_low (eqb near.partner 0) refl)))
+        qualified = rw (may, pair_key, le-leb (key (between w d i j)) (key limit) (omega (arith, keys, near_low near.partner refl)))
 
         free : busy (used_in w d) (pair_at (node w d) i j) ≡ false
         free = rw (used_free w d i ok.row free_i, used_free w d j j<d free_j)
 
-        is : (t : Bool) → eqb near.partner 0 ≡ t → cond t (le (between w d i j) near.measure) (lt (between w d i j) near.measure) ≡ true
+        is : (t : Option ℕ) → near.partner ≡ t → below_of t (between w d i j) near.measure ≡ true
             → better (node w d) (key limit) (used_in w d) i j (seen i near) ≡ pair_at (node w d) i j
-        is true e f = better_first (node w d) (key limit) (used_in w d) i j (seen i near) free qualified (eqb-true near.partner 0 e)
-        is false e f =
+        is None e f = better_first (node w d) (key limit) (used_in w d) i j (seen i near) free qualified (ap (λ (o : Option ℕ). unwrap_or o 0) e)
+        is (Some k) e f =
             better_next (node w d) (key limit) (used_in w d) i j (seen i near) free qualified
             (ap (λ (k : ℕ). ltb k (key near.measure)) pair_key
             ∙ sym (key_lt_is (between w d i j) near.measure fits_here s.fitting number)
             ∙ f)
 
+    -- the same, where the measure is told
+    pub walk_nearer_at : {m : Float} → m ≡ between w d i j → mark_at w d i ≡ 0 → mark_at w d j ≡ 0 → closer_to near m ≡ true → (piece_at w d j ≡ piece_at w d i → ⊥)
+        → Walk w d limit i (record { measure = m; partner = Some j }) (j + 1)
+    walk_nearer_at e free_i free_j h apart = rw e (walk_nearer free_i free_j (ap (closer_to near) (sym e) ∙ h) apart)
+
 -- ---- the end of the walk
 
+-- where no pair of the row is free, it holds none
+none_held : (w : List ℕ) (d : ℕ) (limit : Float) (i : ℕ)
+    → ((q : RankedPair) → In q (candidates (node w d) (key limit)) → busy (used_in w d) q ≡ false → q.i ≡ i → ⊥)
+    → First w d limit i (held_words None)
+none_held w d limit i h =
+    record {
+      pair = record {
+        nothing = λ _ q m b o. h q m b o;
+        member = λ e. absurd (omega arith);
+        free = λ e. absurd (omega arith);
+        here = λ e. absurd (omega arith);
+        first = λ e. absurd (omega arith);
+      };
+      none = λ _. refl;
+    }
+
 module _ (w : List ℕ) (d : ℕ) (limit : Float) (i : ℕ) (near : Near) where
-  first_held : IsFirst (node w d) (key limit) (used_in w d) i (seen i near) → First w d limit i (held_of near)
-  unfolding held_of
-  first_held f = go (eqb near.partner 0) refl
+  first_held : ((j : ℕ) → near.partner ≡ Some j → i < j) → IsFirst (node w d) (key limit) (used_in w d) i (seen i near) → First w d limit i (held_of near)
+  first_held met f = go near.partner refl
     where
-      go : (t : Bool) → eqb near.partner 0 ≡ t
-          → First w d limit i (cond t (record { key = key_nan; partner = 0 }) (record { key = key near.measure; partner = near.partner }))
-      go true e =
+      go : (t : Option ℕ) → near.partner ≡ t → First w d limit i (held_by t (key near.measure))
+      go None e = none_held w d limit i (f.nothing (ap (λ (o : Option ℕ). unwrap_or o 0) e))
+      go (Some j) e =
           record {
-            pair = record {
-              nothing = λ _ q m b o. f.nothing (eqb-true near.partner 0 e) q m b o;
-              member = λ h. absurd (omega arith);
-              free = λ h. absurd (omega arith);
-              here = λ h. absurd (omega arith);
-              first = λ h. absurd (omega arith);
-            };
-            none = λ _. refl;
+            pair = subst (λ (o : Option ℕ). IsFirst (node w d) (key limit) (used_in w d) i (record { key = key near.measure; i = i; j = unwrap_or o 0 })) e f;
+            none = λ h. absurd (omega (arith, met j e));
           }
-      go false e = record { pair = f; none = λ h. absurd (eqb-false near.partner 0 e h) }
 
   module _ (ok : RowReady w d limit i) where
     -- the row is passed
     pub walk_done : (next : ℕ) → Walk w d limit i near next → d ≤ next → First w d limit i (held_of near)
     walk_done next s h =
-        first_held (row_done (node w d) (key limit) (used_in w d) i next (seen i near) (omega (arith, ends_in_length w d (omega (arith, ok.room.long)))) s.so_far)
+        first_held s.met (row_done (node w d) (key limit) (used_in w d) i next (seen i near) (omega (arith, ends_in_length w d (omega (arith, ok.room.long)))) s.so_far)
 
     -- what is near is at -1
-    pub walk_least : (next : ℕ) → Walk w d limit i near next → 0 < near.partner → le near.measure minus_unity ≡ true → First w d limit i (held_of near)
+    pub walk_least : (next : ℕ) → Walk w d limit i near next → 0 < unwrap_or near.partner 0 → le near.measure minus_unity ≡ true → First w d limit i (held_of near)
     walk_least next s g h =
-        first_held
+        first_held s.met
         (record {
           nothing = λ e. absurd (omega arith);
           member = λ e. member_of (node w d) (key limit) (used_in w d) (seen i near) (s.so_far.opened e);
@@ -291,13 +312,5 @@ module _ (w : List ℕ) (d : ℕ) (limit : Float) (i : ℕ) (near : Near) where
         later q m b o (inr (inr k)) = after q o (omega arith) (keyed q m)
 
 -- a marked end has no free pair
-pub walk_none : (w : List ℕ) (d : ℕ) (limit : Float) (i : ℕ) → i < d → (mark_at w d i ≡ 0 → ⊥) → First w d limit i (held_of (record { measure = limit; partner = 0 }))
-walk_none w d limit i i<d h =
-    first_held w d limit i (record { measure = limit; partner = 0 })
-    (record {
-      nothing = λ e q m b o. row_taken (used_in w d) (candidates (node w d) (key limit)) i (used_marked w d i i<d h) q m b o;
-      member = λ e. absurd (omega arith);
-      free = λ e. absurd (omega arith);
-      here = λ e. absurd (omega arith);
-      first = λ e. absurd (omega arith);
-    })
+pub walk_none : (w : List ℕ) (d : ℕ) (limit : Float) (i : ℕ) → i < d → (mark_at w d i ≡ 0 → ⊥) → First w d limit i (held_words None)
+walk_none w d limit i i<d h = none_held w d limit i (λ q m b o. row_taken (used_in w d) (candidates (node w d) (key limit)) i (used_marked w d i i<d h) q m b o)

@@ -1,9 +1,9 @@
 -- Directions and how near they are to each other, as a walk along a row compares them. What is absent has a NaN for a dot product, which never qualifies.
-use Rattle.std.specs.Prelude.{Bool, false, not, ◌&&◌, ◌||◌, cond, eqb, Float}
+use Rattle.std.specs.Prelude.{ℕ, Bool, false, not, ◌&&◌, ◌||◌, Option, Some, None, Float}
 use Rattle.std.specs.Float.{nan}
 use Rattle.std.specs.Float.Ieee.{lt, eq, le, is_nan}
-use Rattle.rules.specs.declared.Direction.{Direction}
-use Rattle.rules.specs.declared.Direction.TheVariants.{Absent, Toward}
+use Rattle.rules.specs.Answers.{Direction}
+use Rattle.rules.specs.Answers.{Absent, Toward}
 use Rattle.rules.specs.Plane.{unity, clamp, dot}
 use Rattle.pair_first_of_end.specs.declared.Near.{Near}
 
@@ -27,5 +27,9 @@ unfoldable pub reaches_to : Float → Float → Bool
 reaches_to d m = le d m || eq m unity
 
 -- at or below the limit where there is no partner yet, and below the least seen where there is one
-unfoldable pub closer_to : Near → Float → Bool
-closer_to near m = cond (eqb near.partner 0) (le m near.measure) (lt m near.measure)
+unfoldable pub below_of : Option ℕ → Float → Float → Bool
+below_of None m least = le m least
+below_of (Some j) m least = lt m least
+
+abbrev pub closer_to : Near → Float → Bool
+closer_to near m = below_of near.partner m near.measure

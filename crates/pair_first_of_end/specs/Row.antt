@@ -1,5 +1,5 @@
 -- The first free pair of a row. In the workspace a mark stands for each end: 0 if it is free.
-use Rattle.std.specs.Prelude.{ℕ, ◌+◌, ◌*◌, ◌<◌, ◌≡◌, Bool, true, false, cond, List, eqb, Float, get_or}
+use Rattle.std.specs.Prelude.{ℕ, ◌+◌, ◌*◌, ◌<◌, ◌≡◌, Bool, true, false, List, Option, Some, None, Float, get_or}
 use Rattle.std.proofs.Math.Seq.{slice}
 use Rattle.rules.specs.Refusals.{limit_bad}
 use Rattle.float_order.specs.Key.{key_nan, key}
@@ -18,10 +18,18 @@ mark_at w d e = get_or w (d * marks_from + e) 0
 abbrev pub used_in : List ℕ → ℕ → ℕ → Bool
 used_in w d = used_of (slice (d * marks_from) (d * row_keys_from) w)
 
+-- the two words of what a row holds: the key and the partner of a pair; where it holds none, the greatest key and 0
+abbrev pub held_words : Option Held → Held
+held_words None = record { key = key_nan; partner = 0 }
+held_words (Some held) = held
+
 -- what was seen of a row, and what the row then holds
-unfoldable pub held_of : Near → Held
-unfolding key
-held_of near = cond (eqb near.partner 0) (record { key = key_nan; partner = 0 }) (record { key = key near.measure; partner = near.partner })
+abbrev pub held_by : Option ℕ → ℕ → Held
+held_by None k = record { key = key_nan; partner = 0 }
+held_by (Some j) k = record { key = k; partner = j }
+
+abbrev pub held_of : Near → Held
+held_of near = held_by near.partner (key near.measure)
 
 abbrev pub pair_of : ℕ → Held → RankedPair
 pair_of i held = record { key = held.key; i = i; j = held.partner }

@@ -1,3 +1,2 @@
--- The laws of the heap: its nodes in a list of words, and its first candidate.
-pub mod Nodes
+-- The laws of the heap: its first candidate.
 pub mod Top

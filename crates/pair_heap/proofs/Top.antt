@@ -18,8 +18,11 @@ use Rattle.pair_laws.proofs.Order.{of_at_before}
 use Rattle.pair_tree.specs.Flat.{NodesKept}
 use Rattle.pair_tree.specs.Places.{gone, none}
 use Rattle.pair_tree.proofs.Flat.{below_or, same_or}
+use mir.Val.{bool_byte}
 use Rattle.pair_heap.specs.declared.Entry.{Entry}
-use Rattle.pair_heap.specs.Heap.{node_at, Any, Heaps, code_of, coded, Decoded}
+use Rattle.pair_tree.specs.Rows.{Any}
+use Rattle.pair_bounds.specs.Reading.{place_at}
+use Rattle.pair_heap.specs.Heap.{node_at, Heaps, code_of, coded, Decoded}
 
 -- ---- the first node
 
@@ -166,7 +169,7 @@ module _ (w : List ℕ) (h base : ℕ) (owner : ℕ → ℕ) (P : ℕ → Ranked
   code = get_or w (h + 3) 0
 
   first_is : node_at w h 1 ≡ place key code
-  unfolding node_at
+  unfolding place_at
   first_is = ap (λ (x : ℕ). place key (get_or w x 0)) next
     where
       next : h + 2 + 1 ≡ h + 3
@@ -249,6 +252,14 @@ module _ (w : List ℕ) (h base : ℕ) (owner : ℕ → ℕ) (P : ℕ → Ranked
       (λ (y : (s : ℕ) × AtSlot owner P base r s). y)
       which
 
+  -- a code stands for a pair, which has an upper end
+  pub code_pair : (code ≡ gone → ⊥) → r.j ≡ 0 → ⊥
+  code_pair n e =
+      ⊎_elim
+      (λ (y : place key code ≡ none). n (none_code key code d.word y))
+      (λ (y : (s : ℕ) × AtSlot owner P base r s). omega (arith, e, y.1.some, y.1.j_is))
+      which
+
 -- ---- whose entry a slot has
 
 -- one place is of one owner, and of a pair
@@ -278,24 +289,13 @@ coded_owner o m p q e s a b w f =
 
 -- ---- what the code works out
 
-pub owner_j : (m x y : ℕ) → m ≡ 1 → x ≡ cond (eqb m 1) x y
-owner_j m x y e = rw (eq-eqb m 1 e)
+-- the bit of the owner is a test, as a number
+pub coded_is : (o : ℕ) (p : RankedPair) → 0 < p.j → place p.key ((p.i * 8192 + p.j) * 2 + bool_byte (eqb o p.j)) ≡ coded o p
+coded_is o p h = ap (λ (c : ℕ). place p.key c) bit ∙ sym (coded_some o p h)
+  where
+    number : (b : Bool) → bool_byte b ≡ cond b 1 0
+    number true = refl
+    number false = refl
 
-pub owner_i : (m x y : ℕ) → (m ≡ 1 → ⊥) → y ≡ cond (eqb m 1) x y
-owner_i m x y e = rw (ne_eqb m 1 e)
-
-module _ (o : ℕ) (p : RankedPair) where
-  pub coded_upper : (p.j ≡ 0 → ⊥) → o ≡ p.j → place p.key ((p.i * 8192 + p.j) * 2 + 1) ≡ coded o p
-  coded_upper n e = ap (λ (c : ℕ). place p.key c) odd ∙ sym (coded_some o p (not_zero p.j n))
-    where
-      odd : (p.i * 8192 + p.j) * 2 + 1 ≡ code_of o p
-      odd = unfold code_of in rw (eq-eqb o p.j e)
-
-  pub coded_lower : (p.j ≡ 0 → ⊥) → (o ≡ p.j → ⊥) → place p.key ((p.i * 8192 + p.j) * 2) ≡ coded o p
-  coded_lower n e = ap (λ (c : ℕ). place p.key c) (plus ((p.i * 8192 + p.j) * 2) ∙ even) ∙ sym (coded_some o p (not_zero p.j n))
-    where
-      even : (p.i * 8192 + p.j) * 2 + 0 ≡ code_of o p
-      even = unfold code_of in rw (ne_eqb o p.j e)
-
-      plus : (x : ℕ) → x ≡ x + 0
-      plus x = omega arith
+    bit : (p.i * 8192 + p.j) * 2 + bool_byte (eqb o p.j) ≡ code_of o p
+    bit = unfold code_of in ap (λ (x : ℕ). (p.i * 8192 + p.j) * 2 + x) (number (eqb o p.j))

@@ -1,54 +1,41 @@
 -- The heap as a row of nodes in a list of words, from h on, two for each: a key and a tie. Each node is the lesser of its children, and there is a leaf for each
 -- slot; so the first of all is node 1.
-use Rattle.std.specs.Prelude.{ℕ, ◌+◌, ◌*◌, ◌/◌, ◌%◌, ◌≤◌, ◌<◌, min, ◌≡◌, cond, List, get_or, length, eqb}
+use Rattle.std.specs.Prelude.{ℕ, ◌+◌, ◌*◌, ◌/◌, ◌%◌, ◌≤◌, ◌<◌, min, ◌≡◌, cond, List, eqb, Option, Some, None}
 use Rattle.pair_bounds.specs.Search.{place}
 use Rattle.rules.specs.Refusals.{most_ends}
 use Rattle.pair_laws.specs.Ranked.{RankedPair}
 use Rattle.pair_laws.specs.Sets.{EndOf}
 use Rattle.pair_tree.specs.Places.{gone, none}
-use Rattle.pair_tree.specs.Flat.{Stored, changed, NodesKept, own}
-use Rattle.pair_tree.specs.Words.{Changes}
+use Rattle.pair_tree.specs.Flat.{NodesKept}
+use Rattle.pair_tree.specs.Rows.{row, RowPut, RowRoom, RowJoined, RowWhole, RowSets, Any}
+use Rattle.pair_bounds.specs.Reading.{place_at}
 use Rattle.pair_heap.specs.declared.Entry.{Entry}
 
 -- node n as one number
-unfoldable pub node_at : List ℕ → ℕ → ℕ → ℕ
-node_at w h n = place (get_or w (h + 2 * n) 0) (get_or w (h + 2 * n + 1) 0)
+abbrev pub node_at : List ℕ → ℕ → ℕ → ℕ
+node_at w h n = row place_at 2 w h n
 
 -- node n is v, and nothing else is changed
-pub record HeapPut (w w' : List ℕ) (h n v : ℕ) : Type 0 where
-  pub stored : Stored (node_at w h) (node_at w' h) n v
-  pub kept : Changes w w' (h + 2 * n) (h + 2 * n + 2)
-
--- node n is the lesser of its children
-abbrev pub Renews : List ℕ → List ℕ → ℕ → ℕ → Type 0
-Renews w w' h n = HeapPut w w' h n (min (node_at w h (2 * n)) (node_at w h (2 * n + 1)))
-
--- every number will do
-abbrev pub Any : ℕ → Type 0
-Any v = Unit {0}
+abbrev pub HeapPut : List ℕ → List ℕ → ℕ → ℕ → ℕ → Type 0
+HeapPut w w' h n v = RowPut place_at 2 w w' h n v
 
 -- the heap of the leaves l
 abbrev pub Heaps : List ℕ → ℕ → ℕ → (ℕ → ℕ) → Type 0
 Heaps w h base l = NodesKept min Any (node_at w h) base 1 0 l
 
 -- room for a heap with `base` leaves
-pub record HeapRoom (w : List ℕ) (h base : ℕ) : Type 0 where
-  pub some : 0 < base
-  pub inside : h + 4 * base ≤ length w
+abbrev pub HeapRoom : List ℕ → ℕ → ℕ → Type 0
+HeapRoom w h base = RowRoom 2 w h base
 
-pub record HeapJoined (w w' : List ℕ) (h base : ℕ) : Type 0 where
-  pub whole : Heaps w' h base (own (node_at w h) base)
-  pub kept : Changes w w' h (h + 4 * base)
+abbrev pub HeapJoined : List ℕ → List ℕ → ℕ → ℕ → Type 0
+HeapJoined w w' h base = RowJoined place_at 2 min Any w w' h base
 
 -- what changing the slot s asks, and what it gives
-pub record HeapWhole (w : List ℕ) (h base s : ℕ) : Type 0 where
-  pub wide : HeapRoom w h base
-  pub within : s < base
-  pub whole : Heaps w h base (own (node_at w h) base)
+abbrev pub HeapWhole : List ℕ → ℕ → ℕ → ℕ → Type 0
+HeapWhole w h base s = RowWhole place_at 2 min Any w h base s
 
-pub record Sets (w w' : List ℕ) (h base s v : ℕ) : Type 0 where
-  pub whole : Heaps w' h base (changed (own (node_at w h) base) s v)
-  pub kept : Changes w w' h (h + 4 * base)
+abbrev pub Sets : List ℕ → List ℕ → ℕ → ℕ → ℕ → ℕ → Type 0
+Sets w w' h base s v = RowSets place_at 2 min Any w w' h base s v
 
 -- ---- candidates
 
@@ -68,6 +55,11 @@ pub record Enters (w : List ℕ) (h base s o : ℕ) : Type 0 where
   pub j_below : pair.j < most_ends
   pub owned : EndOf o pair
   pub here : node_at w h (base + s) ≡ coded o pair
+
+-- the candidate that is found; its j is 0 where there is none
+abbrev pub entry_of : Option Entry → Entry
+entry_of None = record { i = 0; j = 0; owner = 0 }
+entry_of (Some r) = r
 
 -- what a code stands for
 pub record Decoded (code : ℕ) (r : Entry) : Type 0 where

@@ -14,8 +14,7 @@ use Rattle.pair_laws.proofs.Lists.{in_map, map_in}
 use Rattle.pair_laws.proofs.Qualifying.{qualifying_measured}
 use Rattle.pair_laws.proofs.Keyed.{before_keyed}
 use Rattle.pair_laws.proofs.Bridge.{candidate, candidate_qualifies}
-use Rattle.pair_index.specs.declared.Best.{Best}
-use Rattle.pair_index.specs.Index.{pair_of, FirstPair, RankedFirst, KeyOf}
+use Rattle.pair_index.specs.Index.{FirstPair, RankedFirst, KeyOf}
 
 module _ {limit : Float} {k : ℕ} (y : KeyOf limit k) {l : List End} (placed : ByPlace l) where
   -- a qualifying pair is a candidate, by its key, and each candidate is one
@@ -32,15 +31,15 @@ module _ {limit : Float} {k : ℕ} (y : KeyOf limit k) {l : List End} (placed : 
   order_same : (q p : Pair) → In q (qualifying limit l) → In p (qualifying limit l) → before q p ≡ ranked.before (keyed q) (keyed p)
   order_same q p h g = before_keyed q p (qualifying_measured limit l q h) (qualifying_measured limit l p g)
 
-  module _ {used : ℕ → Bool} {o : ℕ} {b : Best} where
-    pub to_book : RankedFirst (node_of l) k used o (pair_of b) → FirstPair limit l used o b
+  module _ {used : ℕ → Bool} {o : ℕ} {b : RankedPair} where
+    pub to_book : RankedFirst (node_of l) k used o b → FirstPair limit l used o b
     unfolding busy
     to_book r =
         record {
           nothing = λ z q h f. r.nothing z (keyed q) (to_candidate q h) f.1 f.0;
           found =
               λ z.
-              let t = of_candidate (pair_of b) (r.member z) in (
+              let t = of_candidate b (r.member z) in (
                 t.0,
                 sym t.2,
                 t.1,
@@ -51,7 +50,7 @@ module _ {limit : Float} {k : ℕ} (y : KeyOf limit k) {l : List End} (placed : 
               );
         }
 
-    pub from_book : FirstPair limit l used o b → RankedFirst (node_of l) k used o (pair_of b)
+    pub from_book : FirstPair limit l used o b → RankedFirst (node_of l) k used o b
     unfolding busy
     from_book r =
         record {

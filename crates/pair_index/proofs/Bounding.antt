@@ -11,8 +11,8 @@ use lib.Dec.{T, eqb}
 use lib.Ieee.{Float}
 use lib.Ieee.Scale.{finite}
 use borrow.Author.Tests.{eq-eqb, ne_eqb}
-use Rattle.rules.specs.declared.Direction.{Direction}
-use Rattle.rules.specs.declared.Direction.TheVariants.{Toward}
+use Rattle.rules.specs.Answers.{Direction}
+use Rattle.rules.specs.Answers.{Toward}
 use Rattle.rules.specs.Plane.{measure}
 use Rattle.float_order.specs.Key.{key, low_key}
 use Rattle.pair_bounds.specs.declared.Bounds.{Bounds}

@@ -1,5 +1,5 @@
 -- An owner's candidates: each is the owner with another end, and the order of pairs is that of their measures and other ends.
-use Prim.Native.Nat.{ℕ, ◌-◌, ◌≤◌, ◌<◌, min}
+use Prim.Native.Nat.{ℕ, ◌≤◌, ◌<◌, min}
 use mathlib.Core.Path.{◌≡◌, refl, sym, ap, ◌∙◌}
 use mathlib.Core.Bool.{Bool, true, false}
 use mathlib.Core.List.{List}
@@ -18,8 +18,6 @@ use Rattle.pair_laws.proofs.Laws.{in_candidates}
 use Rattle.pair_laws.proofs.Ends.{key_sym}
 use Rattle.pair_tree.specs.Places.{gone, none}
 use Rattle.pair_tree.proofs.Flat.{below_or}
-use Rattle.pair_index.specs.declared.Best.{Best}
-use Rattle.pair_index.specs.Index.{pair_of}
 
 -- ---- a candidate of the owner o
 
@@ -77,13 +75,13 @@ module _ (l : List End) (limit : ℕ) where
 -- ---- the order of an owner's pairs
 
 -- b's pair: the ends o and x, the lower first
-abbrev pub Made : ℕ → ℕ → ℕ → Best → Type 0
+abbrev pub Made : ℕ → ℕ → ℕ → RankedPair → Type 0
 Made k o x b = (b.key ≡ k) × (((b.i ≡ x) × (b.j ≡ o) × (x < o)) ⊎ ((b.i ≡ o) × (b.j ≡ x) × (o < x)))
 
-pub in_order : (k o x e : ℕ) (b : Best) (q : RankedPair) → Made k o x b → q.i < q.j → ((q.i ≡ o) × (q.j ≡ e)) ⊎ ((q.i ≡ e) × (q.j ≡ o))
-    → x < gone → e < gone → place k x ≤ place q.key e → before q (pair_of b) ≡ false
+pub in_order : (k o x e : ℕ) (b : RankedPair) (q : RankedPair) → Made k o x b → q.i < q.j → ((q.i ≡ o) × (q.j ≡ e)) ⊎ ((q.i ≡ e) × (q.j ≡ o))
+    → x < gone → e < gone → place k x ≤ place q.key e → before q b ≡ false
 in_order k o x e b q (u, m) l w hx he h =
-    of_at_before (pair_of b) q (⊎_elim
+    of_at_before b q (⊎_elim
     (λ (c : k < q.key). inl (omega arith))
     (λ (c : q.key ≤ k). inr (omega arith, ends m w (omega arith)))
     (below_or k q.key))

@@ -1,5 +1,4 @@
--- The laws of the index: its nodes in a list of words, the tree of them, the search over it, and the pair that the search finds.
-pub mod Nodes
+-- The laws of the index: the search over it, and the pair that the search finds.
 pub mod Bounding
 pub mod Steps
 pub mod Leaves

@@ -1,6 +1,6 @@
 -- The least place below the root is the owner's first pair: the leaves are those of the free ends, each end's pair with the owner stands at its leaf, and the
 -- order of an owner's pairs is that of the keys and then of the other ends.
-use Prim.Native.Nat.{ℕ, ◌+◌, ◌-◌, ◌*◌, ◌^◌, ◌≤◌, ◌<◌, min}
+use Prim.Native.Nat.{ℕ, ◌+◌, ◌-◌, ◌*◌, ◌^◌, ◌≤◌, ◌<◌, min, max}
 use mathlib.Core.Path.{◌≡◌, refl, sym, ap, ap₂, ◌∙◌, subst}
 use mathlib.Core.Bool.{Bool, true, false, cond, ◌&&◌, ◌||◌}
 use mathlib.Core.List.{List}
@@ -10,8 +10,8 @@ use native.Mathlib.Nat.{le_trans, le_of_eq, one-mul}
 use lib.Dec.{leb, eqb}
 use lib.Ieee.{Float}
 use borrow.Author.Tests.{le-leb, ne_eqb, eqb-false}
-use Rattle.rules.specs.declared.Direction.{Direction}
-use Rattle.rules.specs.declared.Direction.TheVariants.{Absent, Toward}
+use Rattle.rules.specs.Answers.{Direction}
+use Rattle.rules.specs.Answers.{Absent, Toward}
 use Rattle.rules.specs.Selecting.{End}
 use Rattle.pair_bounds.specs.declared.Bounds.{Bounds}
 use Rattle.pair_bounds.specs.Box.{empty_of, point_of}
@@ -27,11 +27,10 @@ use Rattle.pair_ends.specs.Ends.{direction_at, piece_at, ends_in}
 use Rattle.pair_ends.proofs.Reading.{ends_in_placed}
 use Rattle.pair_tree.specs.declared.Place.{Place}
 use Rattle.pair_tree.specs.Places.{gone, none}
-use Rattle.pair_tree.proofs.Flat.{same_or}
-use Rattle.pair_index.specs.declared.Best.{Best}
+use Rattle.pair_tree.proofs.Flat.{same_or, below_or}
 use Rattle.pair_index.specs.Nodes.{node_at}
 use Rattle.pair_index.specs.Search.{pair_at, leaf_at, Finds}
-use Rattle.pair_index.specs.Index.{pair_of, box_of, leaf_of, LeavesPlaced, Indexed, Query, FirstPair, RankedFirst, KeyOf, Answers}
+use Rattle.pair_index.specs.Index.{box_of, leaf_of, LeavesPlaced, Indexed, Query, FirstPair, RankedFirst, KeyOf, Answers}
 use Rattle.pair_index.proofs.Book.{to_book}
 use Rattle.pair_index.proofs.Bounding.{left_out}
 use Rattle.pair_index.proofs.Leaves.{least_le, least_is, toward_of, is_there, ends_length, direction_is, piece_is, there_below}
@@ -203,7 +202,7 @@ module _ {w : List ℕ} {d t height limit o : ℕ} (q : Query w d t height limit
       (λ (e : ri ≡ o → ⊥). strictly o ri h e)
       (same_or ri o)
 
-  pub first_none : (b : Best) → ri ≡ gone → b.j ≡ 0 → RankedFirst (node_of l) limit used o (pair_of b)
+  pub first_none : (b : RankedPair) → ri ≡ gone → b.j ≡ 0 → RankedFirst (node_of l) limit used o b
   first_none b g e =
       record {
         nothing = λ _. none_left g;
@@ -216,7 +215,7 @@ module _ {w : List ℕ} {d t height limit o : ℕ} (q : Query w d t height limit
   pub found_below : (ri ≡ gone → ⊥) → ri < d
   found_below g = (partner g).below
 
-  pub first_some : (b : Best) → (ri ≡ gone → ⊥) → Made rk o ri b → used o ≡ false → RankedFirst (node_of l) limit used o (pair_of b)
+  pub first_some : (b : RankedPair) → (ri ≡ gone → ⊥) → Made rk o ri b → used o ≡ false → RankedFirst (node_of l) limit used o b
   unfolding qualifies busy
   first_some b g m fo =
       record {
@@ -254,9 +253,9 @@ module _ {w : List ℕ} {d t height limit o : ℕ} (q : Query w d t height limit
       ok : (i j : ℕ) → (node_of l).may i j ≡ true → ((node_of l).may i j && leb b.key limit) ≡ true
       ok i j h = both _ _ h (le-leb b.key limit (omega (arith, s.limited, m.0)))
 
-      member : ((b.i ≡ ri) × (b.j ≡ o) × (ri < o)) ⊎ ((b.i ≡ o) × (b.j ≡ ri) × (o < ri)) → In (pair_of b) (candidates (node_of l) limit)
+      member : ((b.i ≡ ri) × (b.j ≡ o) × (ri < o)) ⊎ ((b.i ≡ o) × (b.j ≡ ri) × (o < ri)) → In b (candidates (node_of l) limit)
       member (inl (u, v, x)) =
-          candidates_in (node_of l) limit (pair_of b)
+          candidates_in (node_of l) limit b
           (record {
             lower = omega arith;
             below = omega (arith, q.within, ends_length q.room);
@@ -268,7 +267,7 @@ module _ {w : List ℕ} {d t height limit o : ℕ} (q : Query w d t height limit
           })
           (ok b.i b.j (ap₂ (node_of l).may u v ∙ may_is ri o s.present here s.differs))
       member (inr (u, v, x)) =
-          candidates_in (node_of l) limit (pair_of b)
+          candidates_in (node_of l) limit b
           (record {
             lower = omega arith;
             below = omega (arith, s.below, ends_length q.room);
@@ -284,8 +283,8 @@ module _ {w : List ℕ} {d t height limit o : ℕ} (q : Query w d t height limit
       free (inr (u, v, x)) = neither _ _ (ap used u ∙ fo) (ap used v ∙ s.free)
 
 -- an absent end has no pair
-pub first_absent : {w : List ℕ} {d t height limit o : ℕ} → Query w d t height limit o → Absent ≡ direction_at w d o → (b : Best) → b.j ≡ 0 → (used : ℕ → Bool)
-    → RankedFirst (node_of (ends_in w d)) limit used o (pair_of b)
+pub first_absent : {w : List ℕ} {d t height limit o : ℕ} → Query w d t height limit o → Absent ≡ direction_at w d o → (b : RankedPair) → b.j ≡ 0 → (used : ℕ → Bool)
+    → RankedFirst (node_of (ends_in w d)) limit used o b
 unfolding qualifies there
 first_absent {w} {d} {t} {height} {limit} {o} q e b j used =
     record {
@@ -312,8 +311,8 @@ first_absent {w} {d} {t} {height} {limit} {o} q e b j used =
 
 -- ---- the answers
 
-in_book : {w : List ℕ} {d t height k o : ℕ} {limit : Float} → Query w d t height k o → KeyOf limit k → {used : ℕ → Bool} {b : Best}
-    → RankedFirst (node_of (ends_in w d)) k used o (pair_of b) → FirstPair limit (ends_in w d) used o b
+in_book : {w : List ℕ} {d t height k o : ℕ} {limit : Float} → Query w d t height k o → KeyOf limit k → {used : ℕ → Bool} {b : RankedPair}
+    → RankedFirst (node_of (ends_in w d)) k used o b → FirstPair limit (ends_in w d) used o b
 in_book {w} {d} q y r = to_book y (ends_in_placed w d (omega (arith, q.room.long))) r
 
 pub answers_absent : {w : List ℕ} {d t height limit o : ℕ} → Query w d t height limit o → Absent ≡ direction_at w d o
@@ -339,26 +338,34 @@ module _ {w : List ℕ} {d t height limit o : ℕ} (q : Query w d t height limit
         j_below = omega (arith, q.within);
       }
 
-  pub answers_lower : (r.tie ≡ gone → ⊥) → r.tie < o → Answers w d t height limit o (record { key = r.key; i = r.tie; j = o })
-  answers_lower g h =
+  -- the end found is the lower one, or the upper
+  made : (r.tie ≡ gone → ⊥) → (i j : ℕ) → i ≡ min r.tie o → j ≡ max r.tie o → Made r.key o r.tie (record { key = r.key; i = i; j = j })
+  made g i j e f = (
+    refl,
+    ⊎_elim
+        (λ (h : r.tie < o). inl (omega arith, omega arith, h))
+        (λ (h : o ≤ r.tie).
+        let k : o < r.tie = apart_from q ax ay toward r.key r.tie small least_found q.used q.order q.pos q.placed q.indexed g h in
+        inr (omega arith, omega arith, k))
+        (below_or r.tie o),
+  )
+
+  pub answers_found : (r.tie ≡ gone → ⊥) → (i j : ℕ) → i ≡ min r.tie o → j ≡ max r.tie o → Answers w d t height limit o (record { key = r.key; i = i; j = j })
+  answers_found g i j e f =
       record {
         first =
-            λ used order pos z k f limit y.
+            λ used order pos z k f' limit y.
             in_book q y
-            (first_some q ax ay toward r.key r.tie small least_found used order pos z k (record { key = r.key; i = r.tie; j = o }) g
-            (refl, inl (refl, refl, h)) f);
-        i_below = below g;
-        j_below = q.within;
+            (first_some q ax ay toward r.key r.tie small least_found used order pos z k (record { key = r.key; i = i; j = j }) g (made g i j e f) f');
+        i_below = omega (arith, below g, q.within);
+        j_below = omega (arith, below g, q.within);
       }
 
-  pub answers_upper : (r.tie ≡ gone → ⊥) → o ≤ r.tie → Answers w d t height limit o (record { key = r.key; i = o; j = r.tie })
-  answers_upper g h =
-      record {
-        first =
-            λ used order pos z k f limit y.
-            in_book q y
-            (first_some q ax ay toward r.key r.tie small least_found used order pos z k (record { key = r.key; i = o; j = r.tie }) g
-            (refl, inr (refl, refl, apart_from q ax ay toward r.key r.tie small least_found used order pos z k g h)) f);
-        i_below = q.within;
-        j_below = below g;
-      }
+  pub upper_some : (r.tie ≡ gone → ⊥) → (j : ℕ) → j ≡ max r.tie o → 0 < j
+  upper_some g j f =
+      ⊎_elim
+      (λ (h : r.tie < o). omega arith)
+      (λ (h : o ≤ r.tie).
+      let k : o < r.tie = apart_from q ax ay toward r.key r.tie small least_found q.used q.order q.pos q.placed q.indexed g h in
+      omega arith)
+      (below_or r.tie o)

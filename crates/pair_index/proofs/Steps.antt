@@ -13,8 +13,8 @@ use lib.ListN.{get_or}
 use lib.Pow.{pow_pos}
 use lib.Ieee.{Float}
 use borrow.Author.Tests.{ltb-true, ltb-false, eqb-true, eq-eqb, ne_eqb}
-use Rattle.rules.specs.declared.Direction.{Direction}
-use Rattle.rules.specs.declared.Direction.TheVariants.{Toward}
+use Rattle.rules.specs.Answers.{Direction}
+use Rattle.rules.specs.Answers.{Toward}
 use Rattle.pair_laws.specs.Ends.{key_of}
 use Rattle.pair_bounds.specs.declared.Bounds.{Bounds}
 use Rattle.pair_bounds.specs.Box.{lower_of}
@@ -57,9 +57,9 @@ one_less h = omega arith
 -- ---- whether a node's directions are one
 
 module _ (w : List ℕ) (t n : ℕ) where
-  pub point_first : (get_or w (t + 5 * n) 0 ≡ get_or w (t + 5 * n + 2) 0 → ⊥) → false ≡ pointed w t n
+  pub point_first : (get_or w (t + 5 * n) 0 ≡ get_or w (t + 5 * n + 2) 0 → ⊥) → eqb (get_or w (t + 5 * n) 0) (get_or w (t + 5 * n + 2) 0) ≡ pointed w t n
   unfolding pointed
-  point_first h = ap (λ (b : Bool). b && eqb (get_or w (t + 5 * n + 1) 0) (get_or w (t + 5 * n + 3) 0)) (sym (ne_eqb _ _ h))
+  point_first h = ne_eqb _ _ h ∙ ap (λ (b : Bool). b && eqb (get_or w (t + 5 * n + 1) 0) (get_or w (t + 5 * n + 3) 0)) (sym (ne_eqb _ _ h))
 
   pub point_second : get_or w (t + 5 * n) 0 ≡ get_or w (t + 5 * n + 2) 0 → eqb (get_or w (t + 5 * n + 1) 0) (get_or w (t + 5 * n + 3) 0) ≡ pointed w t n
   unfolding pointed

@@ -1,10 +1,10 @@
 -- The index over the ends of a pairing: which leaf is whose, and what a query gives.
-use Rattle.std.specs.Prelude.{ℕ, ◌+◌, ◌*◌, ◌^◌, ◌≤◌, ◌<◌, ◌≡◌, Bool, true, false, cond, not, ◌||◌, ◌⊎◌, List, length, T, Float}
+use Rattle.std.specs.Prelude.{ℕ, ◌+◌, ◌*◌, ◌^◌, ◌≤◌, ◌<◌, ◌≡◌, Bool, true, false, cond, not, ◌||◌, ◌⊎◌, List, length, Option, Some, None, T, Float}
 use Rattle.std.specs.Float.{binary64}
 use Rattle.std.specs.Float.Ieee.{fits, is_nan}
 use Rattle.std.specs.Float.Ieee.Scale.{finite}
-use Rattle.rules.specs.declared.Direction.{Direction}
-use Rattle.rules.specs.declared.Direction.TheVariants.{Absent, Toward}
+use Rattle.rules.specs.Answers.{Direction}
+use Rattle.rules.specs.Answers.{Absent, Toward}
 use Rattle.rules.specs.Selecting.{End, Pair, qualifying, before}
 use Rattle.float_order.specs.Key.{key}
 use Rattle.pair_bounds.specs.declared.Bounds.{Bounds}
@@ -19,8 +19,10 @@ use Rattle.pair_index.specs.declared.Best.{Best}
 use Rattle.pair_index.specs.Nodes.{Indexes}
 use Rattle.pair_index.specs.Search.{round_at}
 
-abbrev pub pair_of : Best → RankedPair
-pair_of b = record { key = b.key; i = b.i; j = b.j }
+-- the pair that is found; its j is 0 where there is none
+abbrev pub pair_of : Option Best → RankedPair
+pair_of None = record { key = 0; i = 0; j = 0 }
+pair_of (Some b) = record { key = b.key; i = b.i; j = b.j }
 
 -- the box of a direction, with the end's index
 abbrev pub box_of : Direction → ℕ → Bounds
@@ -72,9 +74,9 @@ abbrev pub FreeOf : (ℕ → Bool) → ℕ → Pair → Type 0
 FreeOf used o p = ((o ≡ p.i) ⊎ (o ≡ p.j)) × ((used p.i || used p.j) ≡ false)
 
 -- b is the end o's first qualifying pair, in the order, among the ends that are free; where its j is 0 there is none
-pub record FirstPair (limit : Float) (l : List End) (used : ℕ → Bool) (o : ℕ) (b : Best) : Type 0 where
+pub record FirstPair (limit : Float) (l : List End) (used : ℕ → Bool) (o : ℕ) (b : RankedPair) : Type 0 where
   pub nothing : b.j ≡ 0 → (q : Pair) → In q (qualifying limit l) → FreeOf used o q → ⊥
-  pub found : 0 < b.j → (p : Pair) × (keyed p ≡ pair_of b) × In p (qualifying limit l) × FreeOf used o p
+  pub found : 0 < b.j → (p : Pair) × (keyed p ≡ b) × In p (qualifying limit l) × FreeOf used o p
       × ((q : Pair) → In q (qualifying limit l) → FreeOf used o q → before q p ≡ false)
 
 -- the same by keys, as the search compares them
@@ -92,13 +94,13 @@ pub record KeyOf (limit : Float) (k : ℕ) : Type 0 where
   pub is : key limit ≡ k
 
 -- whatever ends are taken, if the index is that of the ends left, in whatever order, and o is one of them
-abbrev pub FirstOf : List ℕ → ℕ → ℕ → ℕ → ℕ → ℕ → Best → Type 0
+abbrev pub FirstOf : List ℕ → ℕ → ℕ → ℕ → ℕ → ℕ → RankedPair → Type 0
 FirstOf w d t height k o b =
     (used : ℕ → Bool) (order pos : ℕ → ℕ) → LeavesPlaced order pos d (2 ^ height) → Indexed w t (2 ^ height) (ends_in w d) used order → used o ≡ false
     → (limit : Float) → KeyOf limit k → FirstPair limit (ends_in w d) used o b
 
 -- what a query gives
-pub record Answers (w : List ℕ) (d t height limit o : ℕ) (b : Best) : Type 0 where
+pub record Answers (w : List ℕ) (d t height limit o : ℕ) (b : RankedPair) : Type 0 where
   pub first : FirstOf w d t height limit o b
   pub i_below : b.i < d
   pub j_below : b.j < d

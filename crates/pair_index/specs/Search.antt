@@ -3,8 +3,8 @@
 use Rattle.std.specs.Prelude.{ℕ, zero, suc, ◌+◌, ◌*◌, ◌^◌, ◌≤◌, ◌<◌, min, ◌≡◌, Bool, true, ◌&&◌, List, ◌⊎◌, length, get_or, T, eqb, Float}
 use Rattle.std.proofs.Math.Bool.{cond}
 use Rattle.std.specs.Float.Ieee.Scale.{finite}
-use Rattle.rules.specs.declared.Direction.{Direction}
-use Rattle.rules.specs.declared.Direction.TheVariants.{Toward}
+use Rattle.rules.specs.Answers.{Direction}
+use Rattle.rules.specs.Answers.{Toward}
 use Rattle.float_order.specs.Key.{low_key}
 use Rattle.pair_bounds.specs.declared.Bounds.{Bounds}
 use Rattle.pair_bounds.specs.Box.{empty_of, point_of, union_of, round_way, lower_of}

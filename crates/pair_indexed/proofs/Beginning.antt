@@ -1,5 +1,5 @@
 -- How the route begins: what is asked is asked again where words behind the ends are written, and so each step finds what it asks.
-use Prim.Native.Nat.{ℕ, ◌+◌, ◌-◌, ◌*◌, ◌^◌, ◌≤◌, ◌<◌}
+use Prim.Native.Nat.{ℕ, ◌+◌, ◌*◌, ◌^◌, ◌≤◌, ◌<◌}
 use mathlib.Core.Path.{◌≡◌, sym, ◌∙◌, ap, subst}
 use mathlib.Core.List.{List}
 use mathlib.Core.Bool.{Bool, true, false, cond}
@@ -29,13 +29,12 @@ use Rattle.pair_all_directions.specs.Around.{Every, round_of, around_of, beyond_
 use Rattle.pair_all_directions.proofs.Nothing.{finite_tame, all_round, apart_none}
 use Rattle.pair_index.specs.Search.{round_at}
 use Rattle.pair_index.specs.Index.{leaf_of, Indexed, Finite, Noted}
-use Rattle.pair_heap.specs.Heap.{node_at}
 use Rattle.pair_owners.specs.Tables.{order_at}
 use Rattle.pair_owners.proofs.Seats.{seated}
 use Rattle.pair_owners.proofs.Turns.{room_kept, take_kept, ends_kept}
 use Rattle.pair_indexed.specs.declared.Size.{Size}
 use Rattle.pair_indexed.specs.Route.{marks_in}
-use Rattle.pair_indexed.specs.Start.{Asks, noted_from, Notes, Fits, Arranged, Plants, Planted, Clears, Cleared, Startable, Fills}
+use Rattle.pair_indexed.specs.Start.{Asks, noted_from, Notes, Fits, Arranged, Planted, Cleared, Startable, Fills}
 use Rattle.pair_indexed.proofs.Sizes.{sized}
 use Rattle.pair_indexed.proofs.Parts.{same_below, same_beyond, drop_kept, marks_kept, indexes_kept}
 use Rattle.pair_indexed.proofs.Arranging.{arranged_kept}
@@ -72,19 +71,7 @@ begins_kept {w} {w'} {d} c h k x =
 -- ---- the index and the heap
 
 module _ {w : List ℕ} {d base height slots limit : ℕ} (e : base ≡ 2 ^ height) (x : Startable w d height slots limit) where
-  pub begins_plants : Plants w d base
-  begins_plants =
-      record {
-        sorted = x.arranged.sorted;
-        finite_ends = x.asks.finite_ends;
-        some = omega (arith, x.sized.few, x.sized.some, x.sized.narrow);
-        most = omega (arith, x.sized.most);
-      }
-
   module _ {w₁ : List ℕ} (p : Planted w w₁ d base) where
-    pub begins_clears : Clears w₁ d slots
-    begins_clears = record { room = room_kept p.kept x.asks.room; narrow = x.sized.narrow }
-
     module _ {w₂ : List ℕ} (k : Cleared w₁ w₂ d slots) where
       both : Changes w w₂ (d * heap_from) (d * note_from)
       both =
@@ -107,9 +94,6 @@ module _ {w : List ℕ} {d base height slots limit : ℕ} (e : base ≡ 2 ^ heig
           same : (q : ℕ) → q < base → leaf_of (ends_in w d) nobody (seated (order_at w d) d q) ≡ leaf_of (ends_in w d) nobody (seated (order_at w₂ d) d q)
           same q h =
               ap (λ (y : ℕ). leaf_of (ends_in w d) nobody (cond (ltb q d) y d)) (sym (both.below (d * order_from + q) (omega (arith, h, e, x.sized.most))))
-
-      pub begins_changes : {w₃ : List ℕ} → Changes w₂ w₃ (d * heap_from) (d * index_from) → Changes w w₃ (d * heap_from) (d * note_from)
-      begins_changes c = changes_then both (changes_wider (d * heap_from) (d * note_from) (omega arith) (omega arith) c)
 
 -- ---- the whole
 
@@ -164,9 +148,6 @@ module _ {w : List ℕ} {d : ℕ} (room : EndsRoom w d) (some : d ≡ 0 → ⊥)
 module _ {w₀ w : List ℕ} {d limit : ℕ} (x₀ : Asks w₀ d limit) (n : Notes w₀ w d) where
   pub noted_asks : Asks w d limit
   noted_asks = asks_kept n.kept (omega arith) x₀
-
-  pub noted_room : EndsRoom w d
-  noted_room = room_kept n.kept x₀.room
 
   pub noted_here : Noted w d (ends_in w d)
   noted_here = subst (λ (l : List End). Noted w d l) (sym (ends_kept n.kept (omega arith) x₀.room)) (λ h. all_round x₀.room (found h))

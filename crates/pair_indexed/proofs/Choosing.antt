@@ -4,7 +4,7 @@ use Prim.Native.Nat.{ℕ, ◌+◌, ◌*◌, ◌<◌}
 use mathlib.Core.Path.{◌≡◌, refl, sym, ◌∙◌, ap, subst}
 use mathlib.Core.Bool.{Bool, true, false}
 use mathlib.Core.List.{List}
-use mathlib.Core.Logic.{◌⊎◌, inl, inr, ⊎_elim}
+use mathlib.Core.Logic.{inl, inr, ⊎_elim}
 use native.Mathlib.Omega.{arith}
 use lib.Dec.{ltb}
 use lib.ListN.{length, get_or}
@@ -23,9 +23,11 @@ use Rattle.pair_ends.specs.Blocks.{heap_from}
 use Rattle.pair_ends.proofs.Reading.{ends_in_length}
 use Rattle.pair_tree.specs.Flat.{own}
 use Rattle.pair_tree.proofs.Flat.{same_or, kept_same}
+use Rattle.pair_tree.specs.Places.{gone}
 use Rattle.pair_heap.specs.declared.Entry as heap
-use Rattle.pair_heap.specs.Heap.{node_at, Any, Heaps, coded, Decoded}
-use Rattle.pair_heap.proofs.Top.{Plausible, AtSlot, no_pair, a_pair}
+use Rattle.pair_tree.specs.Rows.{Any}
+use Rattle.pair_heap.specs.Heap.{node_at, Heaps, coded, Decoded}
+use Rattle.pair_heap.proofs.Top.{Plausible, AtSlot, no_pair, a_pair, code_pair}
 use Rattle.pair_owners.proofs.Next.{owners_lead}
 use Rattle.pair_indexed.specs.Route.{taken_in, Bound, Owning}
 use Rattle.pair_indexed.proofs.Keeping.{there_in}
@@ -117,6 +119,10 @@ module _ {l : List End} {w : List ℕ} {d height slots limit : ℕ} (s : Owning 
     -- the slot that it is
     pub at_slot : (r.j ≡ 0 → ⊥) → (x : ℕ) × AtSlot s.owner s.P slots r x
     at_slot = a_pair w (d * heap_from) slots s.owner s.P s.ground.sized.some plausible heap_leaves r c
+
+    -- a node that is not of no pair is a pair's
+    pub some_pair : (get_or w (d * heap_from + 3) 0 ≡ gone → ⊥) → r.j ≡ 0 → ⊥
+    some_pair = code_pair w (d * heap_from) slots s.owner s.P s.ground.sized.some plausible heap_leaves r c
 
     module _ {x : ℕ} (t : AtSlot s.owner s.P slots r x) where
       holder : (s.owner x < d) × (s.slot (s.owner x) ≡ x) × (taken_in w d (s.owner x) ≡ false) × (x < d)

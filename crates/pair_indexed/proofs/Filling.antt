@@ -1,10 +1,10 @@
 -- What the route keeps where a slot gets its pair, and where a taken end hands its slot on. In between the pair of that slot is still to come, and all else is said
 -- as before; so it is the same whether the slot is its owner's still, or another end's, or nobody's.
-use Prim.Native.Nat.{ℕ, ◌+◌, ◌-◌, ◌*◌, ◌^◌, ◌<◌}
+use Prim.Native.Nat.{ℕ, ◌+◌, ◌*◌, ◌^◌, ◌<◌}
 use mathlib.Core.Path.{◌≡◌, refl, sym, ◌∙◌, ap, subst}
 use mathlib.Core.Bool.{Bool, false}
 use mathlib.Core.List.{List}
-use mathlib.Core.Logic.{◌⊎◌, ⊎_elim}
+use mathlib.Core.Logic.{⊎_elim}
 use native.Mathlib.Omega.{arith}
 use Rattle.rules.specs.Selecting.{End}
 use Rattle.pair_laws.specs.Ranked.{RankedPair}
@@ -14,7 +14,7 @@ use Rattle.pair_tree.specs.Flat.{changed}
 use Rattle.pair_tree.specs.Places.{none}
 use Rattle.pair_tree.specs.Words.{Changes}
 use Rattle.pair_tree.proofs.Flat.{same_or}
-use Rattle.pair_index.specs.Index.{pair_of, leaf_of, Indexed}
+use Rattle.pair_index.specs.Index.{leaf_of, Indexed}
 use Rattle.pair_heap.specs.Heap.{coded, Sets}
 use Rattle.pair_heap.proofs.Top.{coded_none}
 use Rattle.pair_owners.specs.Owners.{Owners}
@@ -104,10 +104,10 @@ module _ {l : List End} {w : List ℕ} {d height slots limit : ℕ} {past : ℕ 
   pub owning_refreshed : (o : ℕ) → o < d → but < d → s.slot o ≡ but → past o ≡ false → taken_in w d o ≡ false → {w' : List ℕ} → Refreshed w w' d slots height limit o
       → Owning l w' d height slots limit past slots
   owning_refreshed o h i q k f {w'} r =
-      owning_filled (pair_of r.best)
-      (subst (λ (y : ℕ). Sets w w' (d * heap_from) slots but (coded y (pair_of r.best))) (sym owner_is)
-      (subst (λ (y : ℕ). Sets w w' (d * heap_from) slots y (coded o (pair_of r.best))) (slot_here s o h ∙ q) r.sets))
-      (λ e a b c y. subst (λ (x : ℕ). Bound (node_of l) limit (taken_in w d) x (pair_of r.best)) (sym (one e a b c y)) (bound_of (answered s.ground s.indexed o r.best r.answers f)))
+      owning_filled r.best
+      (subst (λ (y : ℕ). Sets w w' (d * heap_from) slots but (coded y r.best)) (sym owner_is)
+      (subst (λ (y : ℕ). Sets w w' (d * heap_from) slots y (coded o r.best)) (slot_here s o h ∙ q) r.sets))
+      (λ e a b c y. subst (λ (x : ℕ). Bound (node_of l) limit (taken_in w d) x r.best) (sym (one e a b c y)) (bound_of (answered s.ground s.indexed o r.best r.answers f)))
       (λ _. (subst (λ (y : ℕ). y < d) (sym owner_is) h, ap s.slot owner_is ∙ q, ap past owner_is ∙ k, i))
     where
       in_slot : s.slot o < d

@@ -1,6 +1,6 @@
 -- What the route keeps where a taken end hands its slot on: to the free end of its direction that is due, or, where there is none, to nobody. The owners are
 -- enough still, and only the pair of that slot is to come.
-use Prim.Native.Nat.{ℕ, ◌+◌, ◌-◌, ◌*◌, ◌^◌, ◌≤◌, ◌<◌}
+use Prim.Native.Nat.{ℕ, ◌+◌, ◌*◌, ◌^◌, ◌≤◌, ◌<◌}
 use mathlib.Core.Path.{◌≡◌, refl, sym, ◌∙◌, ap, subst}
 use mathlib.Core.Bool.{Bool, true, false}
 use mathlib.Core.List.{List}
@@ -19,32 +19,16 @@ use Rattle.pair_tree.proofs.Flat.{same_or, below_or}
 use Rattle.pair_tree.proofs.Words.{changes_none, changes_set, changes_then, changes_wider}
 use Rattle.pair_index.specs.Index.{leaf_of, Indexed}
 use Rattle.pair_heap.specs.Heap.{coded, Sets}
-use Rattle.pair_owners.specs.Tables.{mark_at, order_at, position_at, group_at, cursor_at, slot_at, TablesSorted, Due}
+use Rattle.pair_owners.specs.Tables.{mark_at, order_at, group_at, cursor_at, slot_at, Due}
 use Rattle.pair_owners.specs.Owners.{Owners, without}
 use Rattle.pair_owners.proofs.Next.{same_at, same_past, without_not, is_without, no_slot, no_next, next}
 use Rattle.pair_owners.proofs.Seats.{seated}
 use Rattle.pair_ends.specs.Blocks.{pairs_from, marks_from, order_from, sort_keys_from, groups_from, cursors_from, slots_from, heap_from, index_from, note_from}
 use Rattle.rules.specs.Refusals.{end_room}
-use Rattle.pair_indexed.specs.Route.{marks_in, taken_in, Moving, Bound, Ground, Filled, Owning, Stale, Refreshed, Replaces, Replaced}
+use Rattle.pair_indexed.specs.Route.{marks_in, taken_in, Moving, Bound, Filled, Owning, Stale, Refreshed, Replaces, Replaced}
 use Rattle.pair_indexed.proofs.Parts.{same_below, same_beyond, marks_kept, is_taken, is_free, indexes_kept, heaped_kept}
 use Rattle.pair_indexed.proofs.Keeping.{ground_kept, there_in, heap_in, slot_here, slots_apart, query, heap_whole}
 use Rattle.pair_indexed.proofs.Filling.{owning_cleared, owning_refreshed, sets_changes}
-
--- the tables hold an order
-pub ground_sorted : {l : List End} {w : List ℕ} {d height slots limit : ℕ} {order pos group : ℕ → ℕ} → Ground l w d height slots limit order pos group → TablesSorted w d
-ground_sorted {l} {w} {d} {height} {slots} {limit} {order} {pos} g =
-    let f = g.fixed in
-    let z = g.ordered in
-    record {
-      room = g.room;
-      order =
-          record {
-            order_in = λ p h. omega (arith, f.order_is p h, z.order_in p h);
-            pos_in = λ e h. omega (arith, f.pos_is e h, z.pos_in e h);
-            seat = λ e h. ap (order_at w d) (f.pos_is e h) ∙ f.order_is (pos e) (z.pos_in e h) ∙ z.seat e h;
-            back = λ p h. ap (position_at w d) (f.order_is p h) ∙ f.pos_is (order p) (z.order_in p h) ∙ z.back p h;
-          };
-    }
 
 module _ {l : List End} {w : List ℕ} {d height slots limit : ℕ} {past : ℕ → Bool} (s : Owning l w d height slots limit past slots) (x : ℕ) (x-in : x < d)
     (x_used : taken_in w d x ≡ true) (x-holds : past x ≡ false) where
@@ -181,12 +165,6 @@ module _ {l : List End} {w : List ℕ} {d height slots limit : ℕ} {past : ℕ 
 
       o_free : taken_in w d o ≡ false
       o_free = is_free w d o o_in (ap (mark_at w d) (sym (s.ground.fixed.order_is stop stop_in)) ∙ (u.some e).3)
-
-      pub due_below : c < d
-      due_below = omega (arith, c_is, stop_in)
-
-      pub due_end : order_at w d c < d
-      due_end = omega (arith, o_is, o_in)
 
       pub two_words : Changes w w₂ (d * cursors_from) (d * heap_from)
       two_words =

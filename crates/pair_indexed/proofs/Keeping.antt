@@ -1,6 +1,6 @@
 -- What the route keeps where a pair is written, and where an end is marked and leaves the index. Each step writes one part of the workspace, so that what is
 -- said of the others stays; and more ends taken leave a bound a bound.
-use Prim.Native.Nat.{ℕ, ◌+◌, ◌-◌, ◌*◌, ◌^◌, ◌≤◌, ◌<◌}
+use Prim.Native.Nat.{ℕ, ◌+◌, ◌*◌, ◌^◌, ◌≤◌, ◌<◌}
 use mathlib.Core.Path.{◌≡◌, sym, ◌∙◌, ap, subst}
 use mathlib.Core.Bool.{Bool, true, false, cond, ◌||◌}
 use mathlib.Core.List.{List}
@@ -24,11 +24,10 @@ use Rattle.pair_tree.specs.Flat.{changed, own}
 use Rattle.pair_tree.specs.Words.{Changes}
 use Rattle.pair_tree.proofs.Flat.{same_or, below_or, kept_same}
 use Rattle.pair_tree.proofs.Words.{changes_set}
-use Rattle.pair_index.specs.declared.Best.{Best}
 use Rattle.pair_index.specs.Nodes.{node_at, Indexes, Removes}
 use Rattle.pair_index.specs.Nodes as index
 use Rattle.pair_index.specs.Search.{round_at}
-use Rattle.pair_index.specs.Index.{pair_of, box_of, leaf_of, LeavesPlaced, Indexed, Finite, Noted, Query, RankedFirst, Answers}
+use Rattle.pair_index.specs.Index.{box_of, leaf_of, LeavesPlaced, Indexed, Finite, Noted, Query, RankedFirst, Answers}
 use Rattle.pair_ends.proofs.Reading.{ends_in_placed}
 use Rattle.pair_index.proofs.Leaves.{there_below}
 use Rattle.pair_index.proofs.Book.{from_book}
@@ -142,9 +141,9 @@ module _ {l : List End} {w : List ℕ} {d height slots limit : ℕ} {order pos g
         indexed = indexed_ends;
       }
 
-  pub answered : (o : ℕ) (b : Best) → Answers w d (d * index_from) height limit o b → taken_in w d o ≡ false → RankedFirst (node_of l) limit (taken_in w d) o (pair_of b)
+  pub answered : (o : ℕ) (b : RankedPair) → Answers w d (d * index_from) height limit o b → taken_in w d o ≡ false → RankedFirst (node_of l) limit (taken_in w d) o b
   answered o b a f =
-      subst (λ (z : List End). RankedFirst (node_of z) limit (taken_in w d) o (pair_of b)) g.ends
+      subst (λ (z : List End). RankedFirst (node_of z) limit (taken_in w d) o b) g.ends
       (from_book g.bounded.1 (ends_in_placed w d (omega (arith, g.room.long)))
       (a.first (taken_in w d) (seated order d) pos seats indexed_ends f g.bounded.0 g.bounded.1))
 

@@ -1,7 +1,7 @@
 -- The parts of the workspace: what is written in one leaves the others, as lists, as tables and as trees.
 use Prim.Native.Nat.{ℕ, ◌+◌, ◌-◌, ◌*◌, ◌≤◌, ◌<◌, min}
-use mathlib.Core.Path.{◌≡◌, refl, sym, ◌∙◌, ap, subst}
-use mathlib.Core.Bool.{Bool, true, false, not, ◌||◌}
+use mathlib.Core.Path.{◌≡◌, sym, ◌∙◌, ap}
+use mathlib.Core.Bool.{true, false, not}
 use mathlib.Core.List.{List}
 use mathlib.Core.Logic.{⊎_elim}
 use native.Mathlib.Omega.{arith}
@@ -11,24 +11,22 @@ use lib.ListN.{length, get_or, set, take, drop, length-drop}
 use lib.Seq.{slice, length-slice, take-set-lt, drop-set-add, get_or-drop, get_or-take, length-take-le, ext_get_or}
 use Rattle.pair_bounds.specs.declared.Bounds.{Bounds}
 use Rattle.pair_bounds.specs.Box.{union_of, Sound}
+use Rattle.pair_bounds.proofs.Reading.{bounds_alone, place_alone}
+use Rattle.pair_tree.specs.Rows.{Any}
 use Rattle.pair_ends.specs.Blocks.{pairs_from, marks_from, order_from, heap_from, index_from}
 use Rattle.pair_ends.specs.Ends.{EndsRoom, ends_in}
 use Rattle.pair_ends.proofs.Reading.{get_d_slice, ends_in_kept}
-use Rattle.pair_tree.specs.declared.Place.{Place}
-use Rattle.pair_tree.specs.Places.{worth}
 use Rattle.pair_tree.specs.Words.{Changes}
 use Rattle.pair_tree.specs.Flat.{changed, own}
 use Rattle.pair_laws.specs.Ranked.{RankedPair}
 use Rattle.pair_tree.proofs.Flat.{same_or, kept_agree, kept_same}
 use Rattle.pair_tree.proofs.Words.{changes_set}
 use Rattle.pair_index.specs.Nodes.{node_at, Indexes, IndexWhole}
-use Rattle.pair_index.proofs.Nodes.{node_kept}
 use Rattle.pair_heap.specs.Heap.{coded}
 use Rattle.pair_heap.specs.Heap as heap
-use Rattle.pair_heap.proofs.Nodes as heaps
-use Rattle.pair_owners.specs.Tables.{mark_at, position_at, slot_at}
+use Rattle.pair_owners.specs.Tables.{mark_at, position_at}
 use Rattle.pair_owners.proofs.Next.{same_at, same_past}
-use Rattle.pair_indexed.specs.Route.{pairs_in, marks_in, taken_in, Heaped, Retires, marked, Offers, Refreshed}
+use Rattle.pair_indexed.specs.Route.{pairs_in, marks_in, taken_in, Heaped, Retires, marked}
 
 -- the words from a to b are unchanged
 abbrev pub Same : List ℕ → List ℕ → ℕ → ℕ → Type 0
@@ -68,14 +66,6 @@ module _ (w : List ℕ) (d : ℕ) where
   pub is_free : (e : ℕ) → e < d → mark_at w d e ≡ 0 → taken_in w d e ≡ false
   is_free e h z = taken_at e h ∙ ap not (eq-eqb (mark_at w d e) 0 z)
 
-  -- where i is free, j's mark decides
-  pub free_both : (i j : ℕ) → i < d → j < d → mark_at w d i ≡ 0 → eqb (mark_at w d j) 0 ≡ not (taken_in w d i || taken_in w d j)
-  free_both i j h k z = rw (is_free i h z, taken_at j k) (twice (eqb (mark_at w d j) 0))
-    where
-      twice : (b : Bool) → b ≡ not (not b)
-      twice true = refl
-      twice false = refl
-
   pub marks_length : EndsRoom w d → length (marks_in w d) ≡ d
   marks_length r = length-slice (d * marks_from) (d * order_from) w (omega (arith, r.long)) ∙ left
     where
@@ -95,20 +85,20 @@ marks_kept w w' d r l f = slice_kept w w' (d * marks_from) (d * order_from) l (o
 
 pub indexes_kept : (w w' : List ℕ) (t base : ℕ) (l : ℕ → Bounds) → Same w w' t (t + 10 * base) → Indexes w t base l → Indexes w' t base l
 indexes_kept w w' t base l f k =
-    kept_agree union_of Sound (node_at w t) (node_at w' t) base l (λ n h. node_kept w w' t n (λ x a b. f x (omega arith) (omega arith))) k
+    kept_agree union_of Sound (node_at w t) (node_at w' t) base l (λ n h. bounds_alone w w' (t + 5 * n) (λ i a. f (t + 5 * n + i) (omega arith) (omega arith))) k
 
 pub heaped_kept : {d slots but : ℕ} {owner : ℕ → ℕ} {P : ℕ → RankedPair} (w w' : List ℕ) → Same w w' (d * heap_from) (d * heap_from + 4 * slots) → Heaped w d slots owner P but
     → Heaped w' d slots owner P but
 heaped_kept {d} {slots} w w' f k =
     record {
       whole =
-          kept_same min heap.Any (heap.node_at w' (d * heap_from)) slots 1 0 (own (heap.node_at w (d * heap_from)) slots) (own (heap.node_at w' (d * heap_from)) slots) (λ x h. sym (same (slots + x) (omega arith)))
-          (kept_agree min heap.Any (heap.node_at w (d * heap_from)) (heap.node_at w' (d * heap_from)) slots (own (heap.node_at w (d * heap_from)) slots) (λ n h. same n h) k.whole);
+          kept_same min Any (heap.node_at w' (d * heap_from)) slots 1 0 (own (heap.node_at w (d * heap_from)) slots) (own (heap.node_at w' (d * heap_from)) slots) (λ x h. sym (same (slots + x) (omega arith)))
+          (kept_agree min Any (heap.node_at w (d * heap_from)) (heap.node_at w' (d * heap_from)) slots (own (heap.node_at w (d * heap_from)) slots) (λ n h. same n h) k.whole);
       leaf = λ s h n. same (slots + s) (omega arith) ∙ k.leaf s h n;
     }
   where
     same : (n : ℕ) → n < 2 * slots → heap.node_at w' (d * heap_from) n ≡ heap.node_at w (d * heap_from) n
-    same n h = heaps.node_kept w w' (d * heap_from) n (λ y a b. f y (omega arith) (omega arith))
+    same n h = place_alone w w' (d * heap_from + 2 * n) (λ i a. f (d * heap_from + 2 * n + i) (omega arith) (omega arith))
 
 -- the leaves by their own names
 pub indexes_own : (w : List ℕ) (t base : ℕ) (l : ℕ → Bounds) → Indexes w t base l → Indexes w t base (own (node_at w t) base)
@@ -132,7 +122,7 @@ pub heaped_set : {w w' : List ℕ} {d slots : ℕ} {owner : ℕ → ℕ} {P : �
 heaped_set {w} {w'} {d} {slots} {owner} {P} s p k c =
     record {
       whole =
-          kept_same min heap.Any (heap.node_at w' (d * heap_from)) slots 1 0 (changed (own (heap.node_at w (d * heap_from)) slots) s (coded (owner s) p))
+          kept_same min Any (heap.node_at w' (d * heap_from)) slots 1 0 (changed (own (heap.node_at w (d * heap_from)) slots) s (coded (owner s) p))
           (own (heap.node_at w' (d * heap_from)) slots) (λ x h. sym (c.whole.leaves x h)) c.whole;
       leaf =
           λ x h n. c.whole.leaves x h ∙ ⊎_elim
@@ -154,8 +144,3 @@ ends_same w w' d r l f =
     get_or-take (d * pairs_from) w' i 0 j ∙ f i (omega arith) j ∙ sym (get_or-take (d * pairs_from) w i 0 j)))
 
 -- ---- an owner's pair
-
-pub refreshed : {w w' : List ℕ} {d slots height limit o : ℕ} {v : Place} → Offers w d height limit o v → heap.Sets w w' (d * heap_from) slots (slot_at w d o) (worth v)
-    → Refreshed w w' d slots height limit o
-refreshed {w} {w'} {d} {slots} {height} {limit} {o} f s =
-    record { best = f.best; answers = f.answers; sets = subst (λ (y : ℕ). heap.Sets w w' (d * heap_from) slots (slot_at w d o) y) f.coded_is s }

@@ -3,15 +3,15 @@ use Prim.Native.Nat.{ℕ, ◌+◌, ◌*◌, ◌≤◌, ◌<◌}
 use mathlib.Core.Path.{◌≡◌, refl, sym, ◌∙◌, ap, subst}
 use mathlib.Core.Bool.{true, false, cond}
 use mathlib.Core.List.{List}
-use mathlib.Core.Logic.{◌⊎◌, ⊎_elim}
+use mathlib.Core.Logic.{⊎_elim}
 use native.Mathlib.Omega.{arith}
 use lib.Dec.{ltb}
 use lib.ListN.{length}
-use Rattle.rules.specs.declared.Direction.{Direction}
-use Rattle.rules.specs.declared.Direction.TheVariants.{Absent, Toward}
+use Rattle.rules.specs.Answers.{Direction}
+use Rattle.rules.specs.Answers.{Absent, Toward}
 use Rattle.rules.specs.Selecting.{End}
 use Rattle.pair_bounds.specs.declared.Bounds.{Bounds}
-use Rattle.pair_bounds.specs.Box.{empty_of, union_of, Sound}
+use Rattle.pair_bounds.specs.Box.{empty_of, Sound}
 use Rattle.pair_bounds.proofs.Union.{empty_sound, point_sound}
 use Rattle.pair_laws.specs.Ends.{end_at, there}
 use Rattle.pair_laws.specs.Ranked.{none as nobody}
@@ -19,19 +19,18 @@ use Rattle.pair_laws.proofs.Order.{two, tf}
 use Rattle.pair_ends.specs.Blocks.{order_from, heap_from, index_from, note_from}
 use Rattle.rules.specs.Refusals.{end_room}
 use Rattle.pair_ends.specs.Ends.{EndsRoom, direction_at, ends_in}
-use Rattle.pair_tree.specs.Flat.{own}
 use Rattle.pair_tree.specs.Places.{none}
 use Rattle.pair_tree.specs.Words.{Changes}
-use Rattle.pair_tree.proofs.Flat.{same_or, kept_same}
-use Rattle.pair_tree.proofs.Words.{changes_none, changes_then, changes_wider}
-use Rattle.pair_index.specs.Nodes.{node_at, IndexPut, Leaves, IndexJoined}
+use Rattle.pair_tree.proofs.Flat.{same_or}
+use Rattle.pair_tree.proofs.Words.{changes_then, changes_wider}
+use Rattle.pair_index.specs.Nodes.{node_at, IndexPut, Leaves}
 use Rattle.pair_index.specs.Index.{box_of, leaf_of, Finite}
 use Rattle.pair_index.proofs.Leaves.{direction_is, there_below}
 use Rattle.pair_heap.specs.Heap as heap
-use Rattle.pair_owners.specs.Tables.{order_at, TablesSorted}
+use Rattle.pair_owners.specs.Tables.{order_at}
 use Rattle.pair_owners.proofs.Seats.{seated, seated_in, seated_out}
-use Rattle.pair_owners.proofs.Turns.{ends_kept, sorted_kept}
-use Rattle.pair_indexed.specs.Start.{Plants, Planted, Clears, Cleared}
+use Rattle.pair_owners.proofs.Turns.{ends_kept}
+use Rattle.pair_indexed.specs.Start.{Plants, Clears}
 
 -- ---- one leaf
 
@@ -72,13 +71,7 @@ pub record Planting (w₀ w : List ℕ) (d base p : ℕ) : Type 0 where
   pub done : (q : ℕ) → q < p → node_at w (d * index_from) (base + q) ≡ leaf_of (ends_in w₀ d) nobody (seated (order_at w₀ d) d q)
   pub kept : Changes w₀ w (d * index_from) (d * note_from)
 
-pub planting_start : (w : List ℕ) (d base : ℕ) → Planting w w d base 0
-planting_start w d base = record { done = λ q h. absurd (omega arith); kept = changes_none w (d * index_from) (d * note_from) }
-
 module _ {w₀ w : List ℕ} {d base p : ℕ} (z : Plants w₀ d base) (s : Planting w₀ w d base p) where
-  pub planting_sorted : TablesSorted w d
-  planting_sorted = sorted_kept s.kept (omega arith) z.sorted
-
   pub planting_room : (d * index_from + 10 * base ≤ d * note_from) × (d * end_room ≤ length w)
   planting_room = (omega (arith, z.most), omega (arith, z.sorted.room.long, s.kept.long))
 
@@ -118,28 +111,13 @@ module _ {w₀ w : List ℕ} {d base p : ℕ} (z : Plants w₀ d base) (s : Plan
           sound = λ x i. subst (λ (y : Bounds). Sound y) (sym (s.done x (omega arith))) (leaf_sound (ends_in w₀ d) z.finite_ends (seated (order_at w₀ d) d x));
         }
 
-    pub planting_stop : {w' : List ℕ} → IndexJoined w w' (d * index_from) base → Planted w₀ w' d base
-    planting_stop {w'} k =
-        record {
-          indexed =
-              kept_same union_of Sound (node_at w' (d * index_from)) base 1 0 (own (node_at w (d * index_from)) base) (λ q. leaf_of (ends_in w₀ d) nobody (seated (order_at w₀ d) d q))
-              (λ x i. s.done x (omega arith)) k.whole;
-          kept = changes_then s.kept (changes_wider (d * index_from) (d * note_from) (omega arith) planting_room.0 k.kept);
-        }
-
 -- ---- the leaves of the heap
 
 pub record Clearing (w₀ w : List ℕ) (d slots s : ℕ) : Type 0 where
   pub done : (q : ℕ) → q < s → heap.node_at w (d * heap_from) (slots + q) ≡ none
   pub kept : Changes w₀ w (d * heap_from) (d * index_from)
 
-pub clearing_start : (w : List ℕ) (d slots : ℕ) → Clearing w w d slots 0
-clearing_start w d slots = record { done = λ q h. absurd (omega arith); kept = changes_none w (d * heap_from) (d * index_from) }
-
 module _ {w₀ w : List ℕ} {d slots s : ℕ} (z : Clears w₀ d slots) (k : Clearing w₀ w d slots s) where
-  pub clearing_room : (d * heap_from + 4 * slots ≤ d * index_from) × (d * end_room ≤ length w)
-  clearing_room = (omega (arith, z.narrow), omega (arith, z.room.long, k.kept.long))
-
   pub clearing_next : s < slots → {w' : List ℕ} {v : ℕ} → v ≡ none → heap.HeapPut w w' (d * heap_from) (slots + s) v → Clearing w₀ w' d slots (s + 1)
   clearing_next h {w'} e r =
       record {
@@ -156,6 +134,3 @@ module _ {w₀ w : List ℕ} {d slots s : ℕ} (z : Clears w₀ d slots) (k : Cl
 
       below : {q : ℕ} → (q ≡ s → ⊥) → q < s + 1 → q < s
       below c i = omega arith
-
-pub clearing_stop : {w₀ w : List ℕ} {d slots s : ℕ} → Clearing w₀ w d slots s → slots ≤ s → Cleared w₀ w d slots
-clearing_stop k h = record { empty = λ q i. k.done q (omega arith); kept = k.kept }

@@ -1,30 +1,38 @@
--- The trees' sizes: a base is doubled until it is no less than the number of things, so that it is a power of two and below twice that number, or 1.
-use Prim.Native.Nat.{ℕ, suc, ◌+◌, ◌*◌, ◌^◌, ◌≤◌, ◌<◌}
-use mathlib.Core.Path.{◌≡◌, refl, sym, ◌∙◌, ap}
-use mathlib.Core.Logic.{◌⊎◌, inl, inr, ⊎_elim}
+-- The trees' sizes: the least power of two that is no less than the number of things, so that it is below twice that number, or 1.
+use Prim.Native.Nat.{ℕ, ◌*◌, ◌/◌, ◌^◌, ◌≤◌, ◌<◌, max}
+use mathlib.Core.Path.{◌≡◌, ◌∙◌, ap}
+use mathlib.Core.Logic.{inl, inr, ⊎_elim}
 use native.Mathlib.Omega.{arith}
-use native.Mathlib.Nat.{pow-suc, one-le-pow}
+use native.Mathlib.Nat.{one-le-pow}
+use Rattle.std.specs.Int.{IsPowerOfTwo}
+use Rattle.std.proofs.lemmas.Nat.{pow_below}
+use Rattle.std.proofs.Math.Pow.{pow_mono}
+use lib.Pow.{pow_pos}
+use Rattle.pair_tree.proofs.Flat.{below_or, twice}
 use Rattle.pair_indexed.specs.declared.Size.{Size}
 use Rattle.pair_indexed.specs.Route.{Sized}
 use Rattle.pair_indexed.specs.Start.{Fits}
 
-pub record Sizing (n base height : ℕ) : Type 0 where
-  pub power : base ≡ 2 ^ height
-  pub most : (base ≡ 1) ⊎ (base ≤ 2 * n)
-  pub some : height < base
+-- a power of two between a power and twice that power is that power
+same_power : (k h : ℕ) → 2 ^ h ≤ 2 ^ k → 2 ^ k < 2 * 2 ^ h → k ≡ h
+same_power k h p q =
+    ⊎_elim
+    (λ (l : k < h). absurd (omega (arith, pow_below k h l)))
+    (λ (l : h ≤ k). ⊎_elim (λ (m : h < k). absurd (omega (arith, pow_mono m, twice h))) (λ (m : k ≤ h). omega arith) (below_or h k))
+    (below_or k h)
 
-pub sizing_start : (n : ℕ) → Sizing n 1 0
-sizing_start n = record { power = refl; most = inl refl; some = omega arith }
-
-pub sizing_next : {n base height : ℕ} → Sizing n base height → base < n → Sizing n (base * 2) (height + 1)
-sizing_next {n} {base} {height} s h =
-    record { power = ap (λ (b : ℕ). b * 2) s.power ∙ sym (ap (λ (k : ℕ). 2 ^ k) again ∙ pow-suc 2 height); most = inr (omega arith); some = omega (arith, s.some) }
-  where
-    again : height + 1 ≡ suc height
-    again = omega arith
-
-pub sizing_stop : (n base height : ℕ) → Sizing n base height → n ≤ base → Fits n (record { base = base; height = height })
-sizing_stop n base height s h = record { power = s.power; few = h; most = s.most }
+pub fits : {n base height : ℕ} → IsPowerOfTwo base → n ≤ base → base / 2 < max 1 n → 2 ^ height ≤ base → base < 2 * 2 ^ height
+    → Fits n (record { base = base; height = height })
+fits {n} {base} {height} power low high p q =
+    record {
+      power = power.1 ∙ ap (λ (k : ℕ). 2 ^ k) (same_power power.0 height (omega (arith, p, power.1)) (omega (arith, q, power.1)));
+      few = low;
+      most =
+          ⊎_elim
+          (λ (l : 1 < base). inr (omega (arith, high)))
+          (λ (l : base ≤ 1). inl (omega (arith, power.1, pow_pos power.0)))
+          (below_or 1 base);
+    }
 
 -- ---- the sizes for d ends and m owners
 

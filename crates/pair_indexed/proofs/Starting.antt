@@ -3,16 +3,15 @@ use Prim.Native.Nat.{ℕ, ◌+◌, ◌*◌, ◌^◌, ◌≤◌, ◌<◌, min}
 use mathlib.Core.Path.{◌≡◌, refl, sym, ◌∙◌, ap, subst}
 use mathlib.Core.Bool.{Bool}
 use mathlib.Core.List.{List}
-use mathlib.Core.Logic.{◌⊎◌, ⊎_elim}
+use mathlib.Core.Logic.{⊎_elim}
 use native.Mathlib.Omega.{arith}
-use lib.ListN.{length, replicate}
+use lib.ListN.{replicate}
 use Rattle.rules.specs.Selecting.{End}
 use Rattle.pair_laws.specs.Ranked.{RankedPair, none as nobody}
 use Rattle.pair_laws.specs.Ends.{node_of}
 use Rattle.pair_laws.specs.Taking.{used_of}
 use Rattle.pair_laws.proofs.Taking.{used_none}
 use Rattle.pair_ends.specs.Blocks.{pairs_from, marks_from, order_from, sort_keys_from, groups_from, cursors_from, slots_from, heap_from, index_from, note_from}
-use Rattle.rules.specs.Refusals.{end_room}
 use Rattle.pair_ends.specs.Ends.{ends_in}
 use Rattle.pair_tree.specs.declared.Place.{Place}
 use Rattle.pair_tree.specs.Flat.{changed, own}
@@ -20,8 +19,9 @@ use Rattle.pair_tree.specs.Places.{worth}
 use Rattle.pair_tree.specs.Words.{Changes}
 use Rattle.pair_tree.proofs.Flat.{same_or, kept_same}
 use Rattle.pair_tree.proofs.Words.{changes_none, changes_then, changes_wider}
-use Rattle.pair_index.specs.Index.{pair_of, leaf_of, Indexed, Query}
-use Rattle.pair_heap.specs.Heap.{node_at, Any, coded, HeapPut, HeapRoom, HeapJoined}
+use Rattle.pair_index.specs.Index.{leaf_of, Indexed, Query}
+use Rattle.pair_tree.specs.Rows.{Any}
+use Rattle.pair_heap.specs.Heap.{node_at, coded, HeapPut, HeapJoined}
 use Rattle.pair_heap.proofs.Top.{coded_none}
 use Rattle.pair_owners.specs.Tables.{order_at, position_at, group_at, cursor_at, slot_at, owners, Started}
 use Rattle.pair_owners.specs.Owners.{Owners}
@@ -82,9 +82,6 @@ pairing_start w d height slots limit f =
 module _ {w₀ w : List ℕ} {d height slots limit p : ℕ} (s : Pairing w₀ w d height slots limit p) where
   abbrev l : List End
   l = ends_in w₀ d
-
-  pub pairing_long : d * end_room ≤ length w
-  pairing_long = omega (arith, s.fills.begins.asks.room.long, s.kept.long)
 
   ground : Ground l w d height slots limit (order_at w₀ d) (position_at w₀ d) (group_at w₀ d)
   ground =
@@ -197,12 +194,12 @@ module _ {w₀ w : List ℕ} {d height slots limit p : ℕ} (s : Pairing w₀ w 
           }
         where
           b : RankedPair
-          b = pair_of a.best
+          b = a.best
 
-          bound : Bound (node_of l) limit nobody o (pair_of a.best)
+          bound : Bound (node_of l) limit nobody o a.best
           bound =
-              subst (λ (z : ℕ). Bound (node_of l) limit nobody z (pair_of a.best)) pairing_order
-              (subst (λ (u : ℕ → Bool). Bound (node_of l) limit u (order_at w d p) (pair_of a.best)) free
+              subst (λ (z : ℕ). Bound (node_of l) limit nobody z a.best) pairing_order
+              (subst (λ (u : ℕ → Bool). Bound (node_of l) limit u (order_at w d p) a.best) free
               (bound_of (answered ground indexed (order_at w d p) a.best a.answers (ap (λ (u : ℕ → Bool). u (order_at w d p)) free ∙ unfold nobody in refl))))
 
           below : {q : ℕ} → (q ≡ p → ⊥) → q < p + 1 → q < p
@@ -224,10 +221,6 @@ module _ {w₀ w : List ℕ} {d height slots limit p : ℕ} (s : Pairing w₀ w 
 
   -- all positions
   module _ (h : d ≤ p) where
-    pub pairing_wide : HeapRoom w (d * heap_from) slots
-    pairing_wide =
-        record { some = s.fills.begins.sized.some; inside = omega (arith, s.fills.begins.sized.narrow, pairing_long) }
-
     module _ {w' : List ℕ} (r : HeapJoined w w' (d * heap_from) slots) where
       pub pairing_changes : Changes w₀ w' (d * heap_from) (d * index_from)
       pairing_changes =

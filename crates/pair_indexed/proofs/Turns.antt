@@ -1,10 +1,10 @@
 -- The turns of the route: the pairs taken so far are written, and with what can still be selected they are all. With each turn two more ends are taken, or one pair
 -- in the heap less has an end that is taken.
-use Prim.Native.Nat.{ℕ, zero, suc, ◌+◌, ◌-◌, ◌*◌, ◌/◌, ◌%◌, ◌^◌, ◌≤◌, ◌<◌}
+use Prim.Native.Nat.{ℕ, zero, suc, ◌+◌, ◌*◌, ◌/◌, ◌%◌, ◌^◌, ◌≤◌, ◌<◌}
 use mathlib.Core.Path.{◌≡◌, refl, sym, ◌∙◌, ap, subst}
 use mathlib.Core.Bool.{Bool, true, false, cond, not, ◌||◌}
 use mathlib.Core.List.{List}
-use mathlib.Core.Logic.{◌⊎◌, ⊎_elim}
+use mathlib.Core.Logic.{⊎_elim}
 use native.Mathlib.Omega.{arith}
 use native.Mathlib.Nat.{mul-le-mul_right}
 use lib.Dec.{eqb}
@@ -28,7 +28,6 @@ use Rattle.pair_tree.specs.Places.{gone, none}
 use Rattle.pair_tree.specs.Words.{Changes}
 use Rattle.pair_tree.proofs.Flat.{same_or}
 use Rattle.pair_tree.proofs.Words.{changes_none, changes_then, changes_wider}
-use Rattle.pair_index.specs.Index.{pair_of}
 use Rattle.pair_heap.specs.declared.Entry.{Entry}
 use Rattle.pair_heap.specs.Heap.{node_at, code_of, coded, Decoded}
 use Rattle.pair_heap.proofs.Top.{AtSlot, coded_none, coded_some, code_at, code_small}
@@ -41,7 +40,7 @@ use Rattle.pair_indexed.proofs.Parts.{same_below, slice_kept, drop_kept, marks_k
 use Rattle.pair_indexed.proofs.Third.{no_third}
 use Rattle.pair_indexed.proofs.Keeping.{query, heap_whole, answered, slot_here}
 use Rattle.pair_indexed.proofs.Filling.{owning_again, sets_changes}
-use Rattle.pair_indexed.proofs.Choosing.{many, none_left, at_slot, owner_in, owner_slot, owner_free, slot_in, pair_lower, pair_below, next_pair}
+use Rattle.pair_indexed.proofs.Choosing.{many, none_left, at_slot, some_pair, owner_in, owner_slot, owner_free, slot_in, pair_lower, pair_below, next_pair}
 
 -- ---- what falls
 
@@ -127,9 +126,6 @@ module _ {w₀ w : List ℕ} {d height slots limit n : ℕ} (g : Going w₀ w d 
   pub first_in : d * heap_from + 3 < length w
   first_in = omega (arith, g.owning.ground.room.long, g.owning.ground.sized.some, g.owning.ground.sized.narrow)
 
-  pub few_pairs : n ≤ 8192
-  few_pairs = omega (arith, g.taken.room, many g.owning, g.owning.ground.room.few)
-
 -- what `live` says
 pub both_free : {q b : Bool} → q ≡ not b → q ≡ true → b ≡ false
 both_free {q} {b} e h = not-true b (sym e ∙ h)
@@ -143,6 +139,10 @@ module _ {w₀ w : List ℕ} {d height slots limit n : ℕ} (g : Going w₀ w d 
 
   room : EndsRoom w d
   room = g.owning.ground.room
+
+  -- what a code that is found tells
+  pub going_some : (get_or w (d * heap_from + 3) 0 ≡ gone → ⊥) → r.j ≡ 0 → ⊥
+  going_some = some_pair g.owning r c
 
   -- ---- no pair is left
   module _ (e : r.j ≡ 0) where
@@ -269,16 +269,16 @@ module _ {w₀ w : List ℕ} {d height slots limit n : ℕ} (g : Going w₀ w d 
           at_x : slot_at w d r.owner ≡ x
           at_x = slot_here g.owning r.owner o_in ∙ owner_slot g.owning r c t
 
-          leaf : (y : ℕ) → y < slots → node_at w' (d * heap_from) (slots + y) ≡ cond (eqb y x) (coded r.owner (pair_of f.best)) (node_at w (d * heap_from) (slots + y))
-          leaf y h = f.sets.whole.leaves y h ∙ ap (λ (z : ℕ). cond (eqb y z) (coded r.owner (pair_of f.best)) (node_at w (d * heap_from) (slots + y))) at_x
+          leaf : (y : ℕ) → y < slots → node_at w' (d * heap_from) (slots + y) ≡ cond (eqb y x) (coded r.owner f.best) (node_at w (d * heap_from) (slots + y))
+          leaf y h = f.sets.whole.leaves y h ∙ ap (λ (z : ℕ). cond (eqb y z) (coded r.owner f.best) (node_at w (d * heap_from) (slots + y))) at_x
 
-          fresh : old (taken_in w d) (coded r.owner (pair_of f.best)) ≡ false
+          fresh : old (taken_in w d) (coded r.owner f.best) ≡ false
           fresh =
               ⊎_elim
-              (λ (q : f.best.j ≡ 0). old_none (taken_in w d) r.owner (pair_of f.best) q)
+              (λ (q : f.best.j ≡ 0). old_none (taken_in w d) r.owner f.best q)
               (λ (q : f.best.j ≡ 0 → ⊥).
               let k : 0 < f.best.j = omega arith in
-              old_busy (taken_in w d) r.owner (pair_of f.best) k (omega (arith, f.answers.i_below, room.few)) (omega (arith, f.answers.j_below, room.few))
+              old_busy (taken_in w d) r.owner f.best k (omega (arith, f.answers.i_below, room.few)) (omega (arith, f.answers.j_below, room.few))
               ∙ (answered g.owning.ground g.owning.indexed r.owner f.best f.answers (owner_free g.owning r c t)).free k)
               (same_or f.best.j 0)
 
@@ -286,8 +286,8 @@ module _ {w₀ w : List ℕ} {d height slots limit n : ℕ} (g : Going w₀ w d 
           less =
               subst (λ (m : List ℕ). tally (λ y. old (used_of m) (node_at w' (d * heap_from) (slots + y))) slots < olds w d slots) (sym marks_same)
               (tally_less (λ y. old (taken_in w d) (node_at w (d * heap_from) (slots + y))) (λ y. old (taken_in w d) (node_at w' (d * heap_from) (slots + y))) slots x t.within before_is
-              (ap (old (taken_in w d)) (leaf x t.within ∙ same_at (own (node_at w (d * heap_from)) slots) x (coded r.owner (pair_of f.best)) x refl) ∙ fresh)
-              (λ y h q. ap (old (taken_in w d)) (leaf y h ∙ same_past (own (node_at w (d * heap_from)) slots) x (coded r.owner (pair_of f.best)) y q)))
+              (ap (old (taken_in w d)) (leaf x t.within ∙ same_at (own (node_at w (d * heap_from)) slots) x (coded r.owner f.best) x refl) ∙ fresh)
+              (λ y h q. ap (old (taken_in w d)) (leaf y h ∙ same_past (own (node_at w (d * heap_from)) slots) x (coded r.owner f.best) y q)))
 
     -- it is free, and taken
     module _ (b : (taken_in w d r.i || taken_in w d r.j) ≡ false) where

@@ -14,10 +14,9 @@ use Rattle.pair_tree.specs.declared.Place.{Place}
 use Rattle.pair_tree.specs.Places.{worth, gone}
 use Rattle.pair_tree.specs.Flat.{own}
 use Rattle.pair_tree.specs.Words.{Changes}
-use Rattle.pair_index.specs.declared.Best.{Best}
 use Rattle.pair_index.specs.Nodes.{node_at}
 use Rattle.pair_index.specs.Nodes as index
-use Rattle.pair_index.specs.Index.{pair_of, Indexed, Finite, Noted, Query, KeyOf, Answers}
+use Rattle.pair_index.specs.Index.{Indexed, Finite, Noted, Query, KeyOf, Answers}
 use Rattle.pair_heap.specs.Heap.{Heaps, coded, Enters, Sets}
 use Rattle.pair_heap.specs.Heap as heap
 use Rattle.pair_owners.specs.Tables.{order_at, position_at, group_at, cursor_at, slot_at, OneDirection, Ordered, GroupRuns, GroupOfDirection}
@@ -116,9 +115,9 @@ NoThird w d slots =
 
 -- the owner o's first pair, as the heap holds it
 pub record Offers (w : List ℕ) (d height limit o : ℕ) (r : Place) : Type 0 where
-  pub best : Best
+  pub best : RankedPair
   pub answers : Answers w d (d * index_from) height limit o best
-  pub coded_is : worth r ≡ coded o (pair_of best)
+  pub coded_is : worth r ≡ coded o best
 
 -- what renewing the owner o's pair asks, and what it gives
 pub record Stale (w : List ℕ) (d slots height limit o : ℕ) : Type 0 where
@@ -126,9 +125,9 @@ pub record Stale (w : List ℕ) (d slots height limit o : ℕ) : Type 0 where
   pub whole : heap.HeapWhole w (d * heap_from) slots (slot_at w d o)
 
 pub record Refreshed (w w' : List ℕ) (d slots height limit o : ℕ) : Type 0 where
-  pub best : Best
+  pub best : RankedPair
   pub answers : Answers w d (d * index_from) height limit o best
-  pub sets : Sets w w' (d * heap_from) slots (slot_at w d o) (coded o (pair_of best))
+  pub sets : Sets w w' (d * heap_from) slots (slot_at w d o) (coded o best)
 
 -- what taking the end x out of the index asks; the mark is set first
 pub record Retires (w : List ℕ) (d base x : ℕ) : Type 0 where

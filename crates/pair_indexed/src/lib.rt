@@ -18,7 +18,6 @@ ghost use Rattle.pair_indexed.specs.Start.{Notes, Fits, Arranged, Plants, Plante
 use pair_bounds::Bounds;
 use pair_ends::{CURSORS, GROUPS, HEAP, INDEX, MARKS, NOTE, ORDER, PAIRS, POSITIONS, SLOTS};
 use pair_tree::Place;
-use rules::Direction;
 
 // A tree with a leaf for each of some number of things: how many leaves, and how high.
 #[derive(Clone, Copy)]
@@ -27,18 +26,25 @@ pub struct Size {
     pub height: u64,
 }
 
+// What a call goes by: how many ends, the tree of the index, how many slots the heap has, and the limit's key.
+#[derive(Clone, Copy)]
+struct Plan {
+    d: usize,
+    index: Size,
+    slots: usize,
+    limit: u64,
+}
+
 // The least tree with a leaf for each of n.
 fn tree_for(n: usize) -> Size
     requires { n ≤ most_ends }
     ensures { Fits n result }
 {
-    let mut base = 1;
-    let mut height = 0;
-    while base < n {
-        base = base * 2;
-        height += 1;
+    let base = n.next_power_of_two();
+    Size {
+        base,
+        height: base.ilog2() as u64,
     }
-    Size { base, height }
 }
 
 // From so many ends on it is worth a look whether all directions are in the disk.
@@ -49,12 +55,8 @@ fn note(w: &mut [u64], d: usize)
     requires { EndsRoom w.old d × (d ≡ 0 → ⊥) }
     ensures { Notes w.old w.new d }
 {
-    if d < NOTED {
-        w[d * NOTE] = 0;
-        return;
-    }
-    let round = pair_all_directions::all_round(w, d) as u64;
-    w[d * NOTE] = round;
+    let round = NOTED <= d && pair_all_directions::all_round(w, d);
+    w[d * NOTE] = round as u64;
 }
 
 // The ends in order and in groups; how many are owners.
@@ -74,20 +76,19 @@ fn leaf(w: &[u64], d: usize, p: usize) -> Bounds
     requires { TablesSorted w.now d }
     ensures { result ≡ leaf_of (ends_in w.now d) nobody (seated (order_at w.now d) d p) }
 {
-    if d <= p {
-        return Bounds::empty();
+    if p < d {
+        let e = w[d * ORDER + p] as usize;
+        if let Some((x, y)) = pair_ends::direction_at(w, d, e) {
+            return Bounds {
+                low_x: x,
+                low_y: y,
+                high_x: x,
+                high_y: y,
+                first: e as u64,
+            };
+        }
     }
-    let e = w[d * ORDER + p] as usize;
-    let Direction::Toward(x, y) = pair_ends::direction_at(w, d, e) else {
-        return Bounds::empty();
-    };
-    Bounds {
-        low_x: x,
-        low_y: y,
-        high_x: x,
-        high_y: y,
-        first: e as u64,
-    }
+    Bounds::empty()
 }
 
 // The index of all ends with a direction, by their positions.
@@ -96,31 +97,33 @@ fn plant(w: &mut [u64], d: usize, base: usize)
     ensures { Planted w.old w.new d base }
 {
     let t = d * INDEX;
-    let mut p = 0;
-    while p < base {
+    for p in 0..base {
         let b = leaf(w, d, p);
-        pair_index::put(w, t, base + p, b);
-        p += 1;
+        pair_tree::put(w, t, base + p, b);
     }
-    pair_index::join(w, t, base);
+    pair_tree::join::<Bounds>(w, t, base);
 }
 
 // The owner o's first pair among the free ends, as the heap holds it.
-fn first_of(w: &[u64], d: usize, height: u64, limit: u64, o: usize) -> Place
-    requires { Query w.now d (d * index_from) height limit o }
-    ensures { Offers w.now d height limit o result }
+fn first_of(w: &[u64], plan: Plan, o: usize) -> Place
+    requires { Query w.now plan.d (plan.d * index_from) plan.index.height plan.limit o }
+    ensures { Offers w.now plan.d plan.index.height plan.limit o result }
 {
-    pair_heap::coded(o, pair_index::first_pair(w, d, d * INDEX, height, limit, o))
+    let d = plan.d;
+    pair_heap::coded(
+        o,
+        pair_index::first_pair(w, d, d * INDEX, plan.index.height, plan.limit, o),
+    )
 }
 
 // The owner o's pair anew.
-fn refresh(w: &mut [u64], d: usize, slots: usize, height: u64, limit: u64, o: usize)
-    requires { Stale w.old d slots height limit o }
-    ensures { Refreshed w.old w.new d slots height limit o }
+fn refresh(w: &mut [u64], plan: Plan, o: usize)
+    requires { Stale w.old plan.d plan.slots plan.index.height plan.limit o }
+    ensures { Refreshed w.old w.new plan.d plan.slots plan.index.height plan.limit o }
 {
-    let s = w[d * SLOTS + o] as usize;
-    let v = first_of(w, d, height, limit, o);
-    pair_heap::set(w, d * HEAP, slots, s, v);
+    let s = w[plan.d * SLOTS + o] as usize;
+    let v = first_of(w, plan, o);
+    pair_tree::set(w, plan.d * HEAP, plan.slots, s, v);
 }
 
 // No slot has a pair.
@@ -128,40 +131,36 @@ fn clear(w: &mut [u64], d: usize, slots: usize)
     requires { Clears w.old d slots }
     ensures { Cleared w.old w.new d slots }
 {
-    let mut s = 0;
-    while s < slots {
-        pair_heap::put(w, d * HEAP, slots + s, Place::none());
-        s += 1;
+    for s in 0..slots {
+        pair_tree::put(w, d * HEAP, slots + s, Place::none());
     }
 }
 
 // Each first owner's pair.
-fn fill(w: &mut [u64], d: usize, slots: usize, height: u64, limit: u64)
-    requires { Fills w.old d height slots limit }
-    ensures { (RouteReady w.new d height slots limit) × Changes w.old w.new (d * heap_from) (d * index_from) }
+fn fill(w: &mut [u64], plan: Plan)
+    requires { Fills w.old plan.d plan.index.height plan.slots plan.limit }
+    ensures { (RouteReady w.new plan.d plan.index.height plan.slots plan.limit) × Changes w.old w.new (plan.d * heap_from) (plan.d * index_from) }
 {
-    let mut p = 0;
-    while p < d {
+    let d = plan.d;
+    for p in 0..d {
         let o = w[d * ORDER + p] as usize;
         let s = w[d * SLOTS + o] as usize;
-        p += 1;
-        if d <= s {
-            continue;
+        if s < d {
+            let v = first_of(w, plan, o);
+            pair_tree::put(w, d * HEAP, plan.slots + s, v);
         }
-        let v = first_of(w, d, height, limit, o);
-        pair_heap::put(w, d * HEAP, slots + s, v);
     }
-    pair_heap::join(w, d * HEAP, slots);
+    pair_tree::join::<Place>(w, d * HEAP, plan.slots);
 }
 
 // The index and the heap, while no end is taken.
-fn begin(w: &mut [u64], d: usize, base: usize, slots: usize, height: u64, limit: u64)
-    requires { (base ≡ 2 ^ height) × Startable w.old d height slots limit }
-    ensures { (RouteReady w.new d height slots limit) × Changes w.old w.new (d * heap_from) (d * note_from) }
+fn begin(w: &mut [u64], plan: Plan)
+    requires { (plan.index.base ≡ 2 ^ plan.index.height) × Startable w.old plan.d plan.index.height plan.slots plan.limit }
+    ensures { (RouteReady w.new plan.d plan.index.height plan.slots plan.limit) × Changes w.old w.new (plan.d * heap_from) (plan.d * note_from) }
 {
-    plant(w, d, base);
-    clear(w, d, slots);
-    fill(w, d, slots, height, limit);
+    plant(w, plan.d, plan.index.base);
+    clear(w, plan.d, plan.slots);
+    fill(w, plan);
 }
 
 // The end x is taken: it is marked, and leaves the index.
@@ -171,14 +170,15 @@ fn retire(w: &mut [u64], d: usize, base: usize, x: usize)
 {
     let p = w[d * POSITIONS + x] as usize;
     w[d * MARKS + x] = 1;
-    pair_index::remove(w, d * INDEX, base, p);
+    pair_tree::set(w, d * INDEX, base, p, Bounds::empty());
 }
 
 // The slot of the taken end x, if it has one, goes to the next free end of its direction.
-fn replace(w: &mut [u64], d: usize, slots: usize, height: u64, limit: u64, x: usize)
-    requires { Replaces w.old d slots height limit x }
-    ensures { Replaced w.old w.new d slots height limit x }
+fn replace(w: &mut [u64], plan: Plan, x: usize)
+    requires { Replaces w.old plan.d plan.slots plan.index.height plan.limit x }
+    ensures { Replaced w.old w.new plan.d plan.slots plan.index.height plan.limit x }
 {
+    let d = plan.d;
     let s = w[d * SLOTS + x] as usize;
     if d <= s {
         return;
@@ -186,15 +186,14 @@ fn replace(w: &mut [u64], d: usize, slots: usize, height: u64, limit: u64, x: us
     let g = w[d * GROUPS + x];
     let k = d * CURSORS + g as usize;
     let from = w[k] as usize;
-    let c = pair_owners::due(w, d, g, from);
-    if c == d {
-        pair_heap::set(w, d * HEAP, slots, s, Place::none());
+    let Some(c) = pair_owners::due(w, d, g, from) else {
+        pair_tree::set(w, d * HEAP, plan.slots, s, Place::none());
         return;
-    }
+    };
     let o = w[d * ORDER + c] as usize;
     w[k] = (c + 1) as u64;
     w[d * SLOTS + o] = s as u64;
-    refresh(w, d, slots, height, limit, o);
+    refresh(w, plan, o);
 }
 
 // Whether neither end is taken.
@@ -202,54 +201,36 @@ fn live(w: &[u64], d: usize, i: usize, j: usize) -> bool
     requires { EndsRoom w.now d × (i < d) × (j < d) }
     ensures { result ≡ not (taken_in w.now d i || taken_in w.now d j) }
 {
-    if w[d * MARKS + i] != 0 {
-        return false;
-    }
-    w[d * MARKS + j] == 0
+    w[d * MARKS + i] == 0 && w[d * MARKS + j] == 0
 }
 
 // The pair i, j is the one after n others: it is written, and its ends are taken.
-fn take(
-    w: &mut [u64],
-    d: usize,
-    base: usize,
-    slots: usize,
-    height: u64,
-    limit: u64,
-    n: usize,
-    i: usize,
-    j: usize,
-)
-    requires { (base ≡ 2 ^ height) × Takes w.old d height slots limit n i j }
-    ensures { Takings w.old w.new d height slots limit n i j }
+fn take(w: &mut [u64], plan: Plan, n: usize, i: usize, j: usize)
+    requires { (plan.index.base ≡ 2 ^ plan.index.height) × Takes w.old plan.d plan.index.height plan.slots plan.limit n i j }
+    ensures { Takings w.old w.new plan.d plan.index.height plan.slots plan.limit n i j }
 {
+    let d = plan.d;
     w[d * PAIRS + n * 2] = i as u64;
     w[d * PAIRS + n * 2 + 1] = j as u64;
-    retire(w, d, base, i);
-    retire(w, d, base, j);
-    replace(w, d, slots, height, limit, i);
-    replace(w, d, slots, height, limit, j);
+    retire(w, d, plan.index.base, i);
+    retire(w, d, plan.index.base, j);
+    replace(w, plan, i);
+    replace(w, plan, j);
 }
 
 // The selected pairs, one after another; how many.
-fn choose(w: &mut [u64], d: usize, base: usize, slots: usize, height: u64, limit: u64) -> usize
-    requires { (base ≡ 2 ^ height) × RouteReady w.old d height slots limit }
-    ensures { Selected w.old d limit result w.new }
+fn choose(w: &mut [u64], plan: Plan) -> usize
+    requires { (plan.index.base ≡ 2 ^ plan.index.height) × RouteReady w.old plan.d plan.index.height plan.slots plan.limit }
+    ensures { Selected w.old plan.d plan.limit result w.new }
 {
     let mut n = 0;
-    loop {
-        let c = pair_heap::first(w, d * HEAP);
-        let i = c.i;
-        let j = c.j;
-        if j == 0 {
-            break;
-        }
-        if live(w, d, i, j) {
-            take(w, d, base, slots, height, limit, n, i, j);
+    while let Some(c) = pair_heap::first(w, plan.d * HEAP) {
+        if live(w, plan.d, c.i, c.j) {
+            take(w, plan, n, c.i, c.j);
             n += 1;
-            continue;
+        } else {
+            refresh(w, plan, c.owner);
         }
-        refresh(w, d, slots, height, limit, c.owner);
     }
     n
 }
@@ -263,13 +244,16 @@ pub fn indexed(w: &mut [u64], d: usize, limit: u64) -> usize
         return 0;
     }
     note(w, d);
-    let a = tree_for(d);
+    let index = tree_for(d);
     point_slices::fill_from(w, d * MARKS, d, 0);
     let m = arrange(w, d);
-    let b = tree_for(m);
-    let base = a.base;
-    let slots = b.base;
-    let height = a.height;
-    begin(w, d, base, slots, height, limit);
-    choose(w, d, base, slots, height, limit)
+    let slots = tree_for(m).base;
+    let plan = Plan {
+        d,
+        index,
+        slots,
+        limit,
+    };
+    begin(w, plan);
+    choose(w, plan)
 }

@@ -10,8 +10,8 @@ use lib.ListN.{length, length-map}
 use lib.Dec.{T, eqb, leb}
 use lib.Ieee.{Float, binary64, le, is_nan, fits}
 use borrow.Author.Tests.{not-true}
-use Rattle.rules.specs.declared.Direction.{Direction}
-use Rattle.rules.specs.declared.Direction.TheVariants.{Absent, Toward}
+use Rattle.rules.specs.Answers.{Direction}
+use Rattle.rules.specs.Answers.{Absent, Toward}
 use Rattle.rules.specs.Plane.{measure}
 use Rattle.rules.specs.Selecting.{End, Pair, within, pair, qualifying, select}
 use Rattle.rules.specs.Layout.{listed}

@@ -8,8 +8,8 @@ use native.Mathlib.Omega.{arith}
 use lib.ListN.{length, take, drop, length-append, length-map}
 use lib.Seq.{take_at}
 use lib.Ieee.{le}
-use Rattle.rules.specs.declared.Answer.{Answer}
-use Rattle.rules.specs.declared.Answer.TheVariants.{Accepted}
+use Rattle.rules.specs.Answers.{Answer}
+use Rattle.rules.specs.Answers.{Accepted}
 use Rattle.rules.specs.Lists.{keep}
 use Rattle.rules.specs.Selecting.{End, Pair, select}
 use Rattle.rules.specs.Layout.{ends, listed}

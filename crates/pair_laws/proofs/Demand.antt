@@ -9,8 +9,8 @@ use mathlib.Core.List.{List, [], ◌∷◌, ◌++◌}
 use lib.Dec.{T, eqb}
 use lib.Ieee.{Float, le}
 use borrow.Author.Tests.{le-leb}
-use Rattle.rules.specs.declared.Direction.{Direction}
-use Rattle.rules.specs.declared.Direction.TheVariants.{Absent, Toward}
+use Rattle.rules.specs.Answers.{Direction}
+use Rattle.rules.specs.Answers.{Absent, Toward}
 use Rattle.rules.specs.Lists.{keep, stands}
 use Rattle.rules.specs.Plane.{measure}
 use Rattle.rules.specs.Selecting.{End, Pair, within, pair, pairs_with, qualifying, before, sorted, greedy, select}

@@ -11,8 +11,8 @@ use lib.Seq.{get_or-drop}
 use lib.Dec.{T}
 use lib.Ieee.{Float, nan, binary64, is_nan, fits}
 use borrow.Author.Tests.{eq-eqb}
-use Rattle.rules.specs.declared.Direction.{Direction}
-use Rattle.rules.specs.declared.Direction.TheVariants.{Absent, Toward}
+use Rattle.rules.specs.Answers.{Direction}
+use Rattle.rules.specs.Answers.{Absent, Toward}
 use Rattle.rules.specs.Selecting.{End, select}
 use Rattle.rules.specs.Layout.{given, ends, listed}
 use Rattle.float_order.specs.Key.{key}

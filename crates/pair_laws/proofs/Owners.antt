@@ -9,7 +9,7 @@ use native.Mathlib.Omega.{arith}
 use lib.ListN.{length}
 use lib.Dec.{eqb, leb}
 use borrow.Author.Tests.{eqb-true, eqb-false, ne_eqb}
-use Rattle.rules.specs.declared.Direction.{Direction}
+use Rattle.rules.specs.Answers.{Direction}
 use Rattle.rules.specs.Selecting.{End}
 use Rattle.pair_laws.specs.Ranked.{RankedPair, Node, before, qualifies, candidates, busy}
 use Rattle.pair_laws.specs.Sets.{In, EndOf, Enough, PairEnds}

@@ -8,7 +8,7 @@ use mathlib.Core.List.{List, [], ◌∷◌, map}
 use native.Mathlib.Omega.{arith}
 use lib.ListN.{length}
 use lib.Ieee.{Float}
-use Rattle.rules.specs.declared.Direction.TheVariants.{Toward}
+use Rattle.rules.specs.Answers.{Toward}
 use Rattle.rules.specs.Plane.{measure}
 use Rattle.rules.specs.Selecting.{End, Pair, pair, qualifying, before, select}
 use Rattle.pair_laws.specs.Ranked as ranked
@@ -35,8 +35,8 @@ one_place l n a b h k e = go (three a b)
     go (inr (inr x)) = absurd (omega (arith, n.rises b a x h))
 
 -- two directions have one pair
-toward_is : (ax ay bx by : Float) → Toward ax ay ≡ Toward bx by → (ax ≡ bx) × (ay ≡ by)
-toward_is ax ay bx by e = (cc, cc)
+pub toward_is : (ax ay bx by : Float) → Toward ax ay ≡ Toward bx by → (ax ≡ bx) × (ay ≡ by)
+toward_is ax ay bx by e = let p : ◌≡◌ {A = Float × Float} (ax, ay) (bx, by) = cc in (ap (λ (z : Float × Float). z.0) p, ap (λ (z : Float × Float). z.1) p)
 
 pair_once : (limit : Float) (a b : End) (p q : Pair) → In p (pair limit a b) → In q (pair limit a b) → p ≡ q
 pair_once limit a b p q h k =

@@ -9,7 +9,7 @@ use lib.Dec.{T}
 use lib.Ieee.{Float, binary64, fits}
 use lib.ListN.{length, get_or, drop, replicate, length-append, length-drop, length-map}
 use lib.Seq.{slice}
-use Rattle.rules.specs.declared.Answer.TheVariants.{Accepted, Refused}
+use Rattle.rules.specs.Answers.{Accepted, Refused}
 use Rattle.rules.specs.Selecting.{End}
 use Rattle.rules.specs.Layout.{ends, listed}
 use Rattle.rules.specs.Refusals.{LentEnds, end_room, pair_refusal_of}

@@ -1,56 +1,73 @@
 // What a pairing call lends, put into its workspace, and the pairs taken out of it.
 #![tactic(auto)]
 
-ghost use Rattle.std.specs.Prelude.{◌≡◌, ◌++◌, ◌+◌, ◌≤◌, length, drop};
+ghost use Rattle.std.specs.Prelude.{◌≡◌, ℕ, ◌++◌, ◌+◌, ◌≤◌, length, drop, map};
 ghost use Rattle.std.proofs.Math.Seq.{slice};
+ghost use Rattle.float_bits.specs.Bits.{bits_of};
 ghost use Rattle.point_slices.specs.Holds.{HoldsFrom};
 ghost use Rattle.pair_lending.specs.Lent.{Matched, DirectionsKept, Put, Takeable};
 
-// The marks into w from `at` on.
-fn put_marks(w: &mut [u64], at: usize, marks: &[u8])
-    requires { at + length marks.now ≤ length w.old }
-    ensures { HoldsFrom w.new w.old at (length marks.now) marks.now }
-{
-    let mut i = 0;
-    while i < marks.len() {
-        w[at + i] = marks[i] as u64;
-        i += 1;
+use rules::Ends;
+
+// What a workspace keeps in one word: a mark, a piece number, and a direction's number by its bits.
+trait Word {
+    ghost word_of: { Self → ℕ };
+
+    fn word(&self) -> u64
+        ensures { result ≡ word_of self.now };
+}
+
+impl Word for u8 {
+    ghost word_of = { λ n. n };
+
+    fn word(&self) -> u64 {
+        *self as u64
     }
 }
 
-// The bits of the directions' numbers into w from `at` on.
+impl Word for u32 {
+    ghost word_of = { λ n. n };
+
+    fn word(&self) -> u64 {
+        *self as u64
+    }
+}
+
+impl Word for f64 {
+    ghost word_of = { bits_of };
+
+    fn word(&self) -> u64 {
+        float_bits::bits_of(*self)
+    }
+}
+
+// Each of `items` as a word into w, from `at` on.
+fn put<T: Word>(w: &mut [u64], at: usize, items: &[T])
+    requires { at + length items.now ≤ length w.old }
+    ensures { HoldsFrom w.new w.old at (length items.now) (map T.word_of items.now) }
+{
+    for (i, item) in items.iter().enumerate() {
+        w[at + i] = item.word();
+    }
+}
+
+// The directions' numbers into w from `at` on. Each is a float of 64 bits, so that its bits tell it.
 fn put_directions(w: &mut [u64], at: usize, directions: &[f64])
     requires { at + length directions.now ≤ length w.old }
     ensures { DirectionsKept w.new w.old at directions.now }
 {
-    let mut i = 0;
-    while i < directions.len() {
-        w[at + i] = float_bits::bits_of(directions[i]);
-        i += 1;
-    }
-}
-
-// The piece numbers into w from `at` on.
-fn put_pieces(w: &mut [u64], at: usize, pieces: &[u32])
-    requires { at + length pieces.now ≤ length w.old }
-    ensures { HoldsFrom w.new w.old at (length pieces.now) pieces.now }
-{
-    let mut i = 0;
-    while i < pieces.len() {
-        w[at + i] = pieces[i] as u64;
-        i += 1;
-    }
+    put(w, at, directions);
 }
 
 // The lent ends into the workspace, where a route reads them.
-pub fn put_ends(w: &mut [u64], present: &[u8], directions: &[f64], pieces: &[u32])
-    requires { Matched w.old present.now directions.now pieces.now }
-    ensures { Put w.new w.old present.now directions.now pieces.now }
+pub fn put_ends(w: &mut [u64], ends: &Ends)
+    requires { Matched w.old ends.now.present.now ends.now.directions.now ends.now.pieces.now }
+    ensures { Put w.new w.old ends.now.present.now ends.now.directions.now ends.now.pieces.now }
 {
-    let d = pieces.len();
-    put_marks(w, 0, present);
-    put_directions(w, d, directions);
-    put_pieces(w, d * pair_ends::PIECES, pieces);
+    let d = ends.pieces.len();
+    put(w, 0, ends.present);
+    put_directions(w, d, ends.directions);
+    put(w, d * pair_ends::PIECES, ends.pieces);
 }
 
 // The n words of w from `at` on to the beginning of the pairs.
@@ -58,9 +75,7 @@ pub fn take_pairs(w: &[u64], at: usize, n: usize, pairs: &mut [u32])
     requires { Takeable w.now at n pairs.old }
     ensures { pairs.new ≡ slice at (at + n) w.now ++ drop n pairs.old }
 {
-    let mut i = 0;
-    while i < n {
+    for i in 0..n {
         pairs[i] = w[at + i] as u32;
-        i += 1;
     }
 }

@@ -1,7 +1,7 @@
 -- The angle of a direction by the cases of the code, and the turns of writing the keys: the three words of one end more are written, and those of the ends
 -- before it stay, since each end has three words of its own behind all that is read.
-use Prim.Native.Nat.{ℕ, ◌+◌, ◌-◌, ◌*◌, ◌/◌, ◌^◌, ◌≤◌, ◌<◌}
-use mathlib.Core.Path.{◌≡◌, sym, ◌∙◌, ap, ap₂}
+use Prim.Native.Nat.{ℕ, ◌+◌, ◌*◌, ◌/◌, ◌≤◌, ◌<◌}
+use mathlib.Core.Path.{◌≡◌, ◌∙◌, ap, ap₂}
 use mathlib.Core.Bool.{true, false}
 use mathlib.Core.List.{List}
 use mathlib.Core.Logic.{⊎_elim}
@@ -9,8 +9,6 @@ use native.Mathlib.Omega.{arith}
 use lib.Ieee.{Float, binary64, add, sub, div, lt}
 use lib.ListN.{length, get_or, set}
 use lib.Seq.{get_or-set_same, get_or-set_other}
-use Rattle.rules.specs.declared.Direction.{Direction}
-use Rattle.rules.specs.declared.Direction.TheVariants.{Absent, Toward}
 use Rattle.rules.specs.Plane.{float, nought, unity}
 use Rattle.rules.specs.Layout.{given}
 use Rattle.float_order.specs.Key.{key}
@@ -20,7 +18,7 @@ use Rattle.pair_ends.specs.Ends.{EndsRoom, direction_at}
 use Rattle.pair_tree.specs.Words.{Changes}
 use Rattle.pair_tree.proofs.Flat.{same_or}
 use Rattle.pair_tree.proofs.Words.{changes_none, changes_then, changes_wider, changes_set}
-use Rattle.pair_owners.specs.Angles.{three, size_of, share_of, angle_toward, angle_along, angle_at, AngleKeyed, Keys}
+use Rattle.pair_owners.specs.Angles.{three, size_of, share_of, angle_toward, angle_along, angle_at, AngleKeyed}
 
 -- ---- one direction
 
@@ -37,14 +35,6 @@ module _ (x y : Float) {a b : Float} (p : a ≡ size_of x) (q : b ≡ size_of y)
   unfolding angle_toward
   angle_upper h e = e ∙ ap (λ (t : Float). key (sub binary64 unity t) / 2) share ∙ other (lt y nought) _ _ h
 
-pub angle_none : {a b : Direction} → a ≡ b → a ≡ Absent → 2 ^ 64 - 1 ≡ angle_along b
-unfolding angle_along
-angle_none p q = ap angle_along (sym q ∙ p)
-
-pub angle_some : {a b : Direction} {x y : Float} {r : ℕ} → a ≡ b → a ≡ Toward x y → r ≡ angle_toward x y → r ≡ angle_along b
-unfolding angle_along
-angle_some p q e = e ∙ ap angle_along (sym q ∙ p)
-
 -- ---- the turns of writing the keys
 
 pub record Keying (w₀ w : List ℕ) (d e : ℕ) : Type 0 where
@@ -54,9 +44,6 @@ pub record Keying (w₀ w : List ℕ) (d e : ℕ) : Type 0 where
 
 pub keying_start : (w : List ℕ) (d : ℕ) → Keying w w d 0
 keying_start w d = record { within = omega arith; each = λ q h. absurd (omega arith); kept = changes_none w (d * sort_keys_from) (d * groups_from) }
-
-pub keying_stop : {w₀ w : List ℕ} {d e : ℕ} → Keying w₀ w d e → d ≤ e → Keys w₀ w d
-keying_stop s h = record { each = λ q k. s.each q (omega arith); kept = s.kept }
 
 -- an end's direction is read before the keys
 direction_kept : {w₀ w : List ℕ} {d e : ℕ} → Changes w₀ w (d * sort_keys_from) (d * groups_from) → e < d → direction_at w d e ≡ direction_at w₀ d e

@@ -1,4 +1,4 @@
--- Two ends are alike where all tests of `alike_at` pass, and then they are `Like`. The first test that fails decides, and where the words agree the numbers do.
+-- Two ends are alike where all tests of `alike_at` pass, and then they are `Like`.
 use Prim.Native.Nat.{ℕ, ◌+◌, ◌-◌, ◌*◌, ◌<◌}
 use mathlib.Core.Path.{◌≡◌, sym, ap, ◌∙◌}
 use mathlib.Core.Bool.{Bool, true, false, cond, ◌&&◌}
@@ -7,48 +7,13 @@ use native.Mathlib.Nat.{pos_of_ne-zero}
 use native.Mathlib.Omega.{arith}
 use lib.Dec.{eqb, ltb}
 use lib.ListN.{get_or}
-use borrow.Author.Tests.{eq-eqb, ne_eqb, eqb-true, ltb-true, lt-ltb, le-ltb}
+use borrow.Author.Tests.{eqb-true, ltb-true, lt-ltb, le-ltb}
 use Rattle.pair_laws.proofs.Order.{and_left, and_right}
 use Rattle.pair_ends.specs.Ends.{EndsRoom, ends_in}
 use Rattle.pair_owners.specs.Tables.{order_at, group_at, Like, alike_at, group_of}
 use Rattle.pair_owners.proofs.Turns.{like}
 
 module _ (w : List ℕ) (d a e : ℕ) where
-  pub first_absent : (get_or w a 0 ≡ 1 → ⊥) → false ≡ alike_at w d a e
-  unfolding alike_at
-  first_absent p = rw (ne_eqb (get_or w a 0) 1 p)
-
-  module _ (p : get_or w a 0 ≡ 1) where
-    pub second_absent : (get_or w e 0 ≡ 1 → ⊥) → false ≡ alike_at w d a e
-    unfolding alike_at
-    second_absent q = rw (eq-eqb (get_or w a 0) 1 p, ne_eqb (get_or w e 0) 1 q)
-
-    module _ (q : get_or w e 0 ≡ 1) where
-      pub first_differs : (get_or w (d + a * 2) 0 ≡ get_or w (d + e * 2) 0 → ⊥) → false ≡ alike_at w d a e
-      unfolding alike_at
-      first_differs x = rw (eq-eqb (get_or w a 0) 1 p, eq-eqb (get_or w e 0) 1 q, ne_eqb (get_or w (d + a * 2) 0) (get_or w (d + e * 2) 0) x)
-
-      module _ (x : get_or w (d + a * 2) 0 ≡ get_or w (d + e * 2) 0) where
-        pub second_differs : (get_or w (d + a * 2 + 1) 0 ≡ get_or w (d + e * 2 + 1) 0 → ⊥) → false ≡ alike_at w d a e
-        unfolding alike_at
-        second_differs y =
-            rw (
-              eq-eqb (get_or w a 0) 1 p,
-              eq-eqb (get_or w e 0) 1 q,
-              eq-eqb (get_or w (d + a * 2) 0) (get_or w (d + e * 2) 0) x,
-              ne_eqb (get_or w (d + a * 2 + 1) 0) (get_or w (d + e * 2 + 1) 0) y,
-            )
-
-        pub lower_decides : get_or w (d + a * 2 + 1) 0 ≡ get_or w (d + e * 2 + 1) 0 → ltb a e ≡ alike_at w d a e
-        unfolding alike_at
-        lower_decides y =
-            rw (
-              eq-eqb (get_or w a 0) 1 p,
-              eq-eqb (get_or w e 0) 1 q,
-              eq-eqb (get_or w (d + a * 2) 0) (get_or w (d + e * 2) 0) x,
-              eq-eqb (get_or w (d + a * 2 + 1) 0) (get_or w (d + e * 2 + 1) 0) y,
-            )
-
   pub alike_like : EndsRoom w d → a < d → e < d → alike_at w d a e ≡ true → Like (ends_in w d) a e
   unfolding alike_at
   alike_like room i j t =

@@ -9,8 +9,8 @@ use native.Mathlib.Omega.{arith}
 use lib.Ieee.{Float, binary64, add, sub, lt}
 use lib.Ieee.Fits.{add-fits, sub-fits}
 use lib.ListN.{get_or}
-use Rattle.rules.specs.declared.Direction.{Direction}
-use Rattle.rules.specs.declared.Direction.TheVariants.{Toward}
+use Rattle.rules.specs.Answers.{Direction}
+use Rattle.rules.specs.Answers.{Toward}
 use Rattle.rules.specs.Plane.{float, nought, unity}
 use Rattle.float_order.specs.Key.{key_nan, key}
 use Rattle.float_order.proofs.Keys.{key_most}

@@ -1,15 +1,16 @@
 -- The turns of the loops over the order, as words are written: one position more is grouped, or one taken end more is passed over.
 use Prim.Native.Nat.{ℕ, ◌+◌, ◌-◌, ◌*◌, ◌≤◌, ◌<◌}
 use mathlib.Core.Path.{◌≡◌, refl, sym, ◌∙◌, ap, subst}
-use mathlib.Core.Bool.{true, false, cond}
+use mathlib.Core.Bool.{Bool, true, false, cond}
 use mathlib.Core.Logic.{◌⊎◌, inl, inr, ⊎_elim}
 use mathlib.Core.List.{List}
 use native.Mathlib.Omega.{arith}
-use lib.Dec.{eqb}
+use mir.Val.{bool_byte}
+use lib.Dec.{eqb, ltb}
 use lib.ListN.{length, get_or, set, take}
 use lib.Seq.{get_or-set_same, get_or-set_other, get_or-take, ext_get_or, length-take-le}
-use borrow.Author.Tests.{eq-eqb, ne_eqb, lt-ltb}
-use Rattle.rules.specs.declared.Direction.TheVariants.{Toward}
+use borrow.Author.Tests.{eq-eqb, ne_eqb, lt-ltb, ltb-true, ltb-false}
+use Rattle.rules.specs.Answers.{Toward}
 use Rattle.rules.specs.Plane.{float}
 use Rattle.rules.specs.Selecting.{End}
 use Rattle.pair_laws.specs.Ends.{there}
@@ -23,7 +24,7 @@ use Rattle.pair_tree.specs.Words.{Changes}
 use Rattle.pair_tree.proofs.Flat.{below_or}
 use Rattle.pair_tree.proofs.Words.{changes_none, changes_then, changes_wider, changes_set}
 use Rattle.pair_index.proofs.Leaves.{direction_is, is_there}
-use Rattle.pair_owners.specs.Tables.{mark_at, order_at, position_at, group_at, cursor_at, slot_at, owners, OneDirection, Together, TablesSorted, Like, GroupRuns, GroupOfDirection, alike_at, group_of, Grouped, Slotted, Started, Groups, Due}
+use Rattle.pair_owners.specs.Tables.{mark_at, order_at, position_at, group_at, cursor_at, slot_at, owners, OneDirection, Together, TablesSorted, Like, GroupRuns, GroupOfDirection, alike_at, group_of, Grouped, Slotted, Started, Groups}
 use Rattle.pair_owners.proofs.Grouping.{runs_next, whole_next, started_none, started_one, runs_start, started_start}
 
 -- ---- what a write elsewhere keeps
@@ -147,9 +148,6 @@ grouping_stop {w₀} {w} {d} {p} {m} s h =
     }
 
 module _ {w₀ w : List ℕ} {d p m : ℕ} (z : TablesSorted w₀ d) (s : Grouping w₀ w d p m) where
-  pub grouping_sorted : TablesSorted w d
-  grouping_sorted = sorted_kept s.frame (omega arith) z
-
   ends_same : ends_in w d ≡ ends_in w₀ d
   ends_same = ends_kept s.frame (omega arith) z.room
 
@@ -181,13 +179,6 @@ module _ {w₀ w : List ℕ} {d p m : ℕ} (z : TablesSorted w₀ d) (s : Groupi
               (subst (λ (v : ℕ). Like (ends_in w d) v e₀) o (subst (λ (v : ℕ). Like (ends_in w d) (order_at w d (p - 1)) v) e_same x.2)),
         ))
         grouped.1
-
-    pub grouping_low : g ≤ p
-    grouping_low = ⊎_elim
-        (λ (x : g ≡ p). omega arith)
-        (λ (x : (0 < p) × (g ≡ group_at w d (order_at w₀ d (p - 1))) × Like (ends_in w₀ d) (order_at w₀ d (p - 1)) e₀).
-        omega (arith, x.0, x.1, s.runs.below (p - 1) (omega (arith, x.0))))
-        joins
 
     module _ (slot : ℕ) (slotted : Slotted w d p g m slot) (together : Together w₀ d (order_at w₀ d)) where
       -- the three words that are written
@@ -310,30 +301,30 @@ module _ {w₀ w : List ℕ} {d p m : ℕ} (z : TablesSorted w₀ d) (s : Groupi
           taken : slot ≡ m → cond (eqb m slot) (m + 1) m ≡ m + 1
           taken q = rw (eq-eqb m slot (sym q))
 
+-- what the test for an owner tells: the end at position p of group g is present, and one of the first in its group
+module _ (w : List ℕ) (d : ℕ) (s : TablesSorted w d) (p : ℕ) (h : p < d) (g m : ℕ) where
+  inside : order_at w d p < d
+  inside = s.order.order_in p h
+
+  pub slotted_present : get_or w (order_at w d p) 0 ≡ 1 → Slotted w d p g m (cond (ltb p (g + owners)) m d)
+  slotted_present q = go (ltb p (g + owners)) refl
+    where
+      go : (b : Bool) → ltb p (g + owners) ≡ b → Slotted w d p g m (cond b m d)
+      go true t = record { one_of = inr (refl, there_is w d s.room (order_at w d p) inside q, ltb-true p (g + owners) t); due = λ _ _. refl }
+      go false t = record { one_of = inl refl; due = λ _ k. absurd (omega (arith, k, ltb-false p (g + owners) t)) }
+
+  pub slotted_absent : (get_or w (order_at w d p) 0 ≡ 1 → ⊥) → Slotted w d p g m (cond (eqb (get_or w (order_at w d p) 0) 1) m d)
+  slotted_absent n =
+      subst (λ (b : Bool). Slotted w d p g m (cond b m d)) (sym (ne_eqb (get_or w (order_at w d p) 0) 1 n))
+      (record { one_of = inl refl; due = λ t. absurd (there_not w d s.room (order_at w d p) inside n t) })
+
+-- one more than m, if the end has the slot m
+pub one_more : (b : Bool) (m d : ℕ) → m < d → m + bool_byte b ≡ cond (eqb m (cond b m d)) (m + 1) m
+one_more true m d h = rw (eq-eqb m m refl)
+one_more false m d h = rw (ne_eqb m d (λ e. omega arith)) (omega arith)
+
 -- ---- the turns of looking for the next owner
 
 pub record Looking (w : List ℕ) (d g from c : ℕ) : Type 0 where
   pub reached : from ≤ c
   pub passed : (q : ℕ) → from ≤ q → q < c → mark_at w d (order_at w d q) ≡ 0 → ⊥
-
-pub looking_start : (w : List ℕ) (d g from : ℕ) → Looking w d g from from
-looking_start w d g from = record { reached = omega arith; passed = λ q a b. absurd (omega arith) }
-
-module _ {w : List ℕ} {d g from c : ℕ} (s : Looking w d g from c) where
-  pub looking_next : (mark_at w d (order_at w d c) ≡ 0 → ⊥) → Looking w d g from (c + 1)
-  looking_next n =
-      record {
-        reached = omega (arith, s.reached);
-        passed =
-            λ q a b. ⊎_elim
-            (λ (k : q < c). s.passed q a k)
-            (λ (k : c ≤ q). let e : q ≡ c = omega arith in (λ x. n (ap (λ (v : ℕ). mark_at w d (order_at w d v)) (sym e) ∙ x)))
-            (below_or q c);
-      }
-
-  pub due_found : c < d → group_at w d (order_at w d c) ≡ g → mark_at w d (order_at w d c) ≡ 0 → Due w d g from c
-  due_found h e m =
-      record { stop = c; reached = s.reached; passed = s.passed; none = λ x. absurd (omega arith); some = λ _. (refl, h, e, m) }
-
-  pub due_none : (d ≤ c) ⊎ (group_at w d (order_at w d c) ≡ g → ⊥) → Due w d g from d
-  due_none v = record { stop = c; reached = s.reached; passed = s.passed; none = λ _. v; some = λ n. absurd (n refl) }

@@ -2,8 +2,8 @@
 use Rattle.std.specs.Prelude.{ℕ, ◌+◌, ◌-◌, ◌*◌, ◌/◌, ◌^◌, ◌<◌, ◌≡◌, false, cond, List, pos, get_or, Float}
 use Rattle.std.specs.Float.{fin, binary64}
 use Rattle.std.specs.Float.Ieee.{add, sub, div, lt}
-use Rattle.rules.specs.declared.Direction.{Direction}
-use Rattle.rules.specs.declared.Direction.TheVariants.{Absent, Toward}
+use Rattle.rules.specs.Answers.{Direction}
+use Rattle.rules.specs.Answers.{Absent, Toward}
 use Rattle.rules.specs.Plane.{nought, unity}
 use Rattle.float_order.specs.Key.{key}
 use Rattle.pair_ends.specs.Blocks.{sort_keys_from, groups_from}

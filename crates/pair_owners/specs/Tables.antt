@@ -1,6 +1,6 @@
 -- The tables of a route in its workspace, a word for each of the d ends or positions: which ends are taken, the order of the ends and the positions in it, the
 -- groups of one direction, and of each group the cursor; and the slots that owners have in the heap. An entry of d stands for none.
-use Rattle.std.specs.Prelude.{ℕ, ◌+◌, ◌*◌, ◌-◌, ◌≤◌, ◌<◌, ◌≡◌, Bool, cond, ◌&&◌, List, ◌⊎◌, get_or, eqb, ltb}
+use Rattle.std.specs.Prelude.{ℕ, ◌+◌, ◌*◌, ◌-◌, ◌≤◌, ◌<◌, ◌≡◌, Bool, cond, ◌&&◌, List, ◌⊎◌, get_or, eqb, ltb, Option, Some, None}
 use Rattle.rules.specs.Selecting.{End}
 use Rattle.pair_ends.specs.Blocks.{marks_from, order_from, positions_from, groups_from, cursors_from, slots_from, heap_from}
 use Rattle.pair_ends.specs.Ends.{EndsRoom, ends_in}
@@ -109,6 +109,11 @@ pub record Groups (w w' : List ℕ) (d m : ℕ) : Type 0 where
   pub kept : Changes w w' (d * groups_from) (d * heap_from)
 
 -- ---- the next owner
+
+-- the position that is found; d where there is none
+abbrev pub place_or : ℕ → Option ℕ → ℕ
+place_or d None = d
+place_or d (Some c) = c
 
 -- From the position `from` on, all ends before `stop` are taken. There the group g ends, or a free end of it stands, which is the one due.
 pub record Due (w : List ℕ) (d g from r : ℕ) : Type 0 where

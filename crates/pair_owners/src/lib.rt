@@ -2,19 +2,17 @@
 // together, and near directions near each other.
 #![tactic(auto)]
 
-ghost use Rattle.std.specs.Prelude.{◌≡◌, cond, ◌+◌, ◌*◌, ◌<◌, ◌≤◌, eqb};
-ghost use Rattle.rules.specs.Refusals.{most_ends};
+ghost use Rattle.std.specs.Prelude.{◌≡◌, ℕ, cond, ◌<◌, ◌≤◌, IsSome};
 ghost use Rattle.pair_ends.specs.Ends.{EndsRoom};
-ghost use Rattle.pair_owners.specs.Tables.{order_at, alike_at, group_of, Together, TablesSorted, Grouped, Slotted, Groups, Due};
+ghost use Rattle.pair_owners.specs.Tables.{order_at, alike_at, group_of, Together, TablesSorted, Grouped, Slotted, Groups, place_or, Due};
 ghost use Rattle.pair_owners.specs.Angles.{size_of, angle_toward, angle_at, Keys};
 
 use pair_ends::{CURSORS, GROUPS, MARKS, ORDER, SLOTS, SORT_KEYS};
-use rules::Direction;
 
 // How many ends of one direction are owners.
 const OWNERS: usize = 2;
 
-// The greater of x and -x.
+// The greater of x and -x. `Keys` speaks of this number, which f64::abs is not where x is -0.
 fn size(x: f64) -> f64
     ensures { result ≡ size_of x }
 {
@@ -26,10 +24,7 @@ fn angle(x: f64, y: f64) -> u64
     ensures { result ≡ angle_toward x y }
 {
     let t = x / (size(x) + size(y));
-    if y < 0.0 {
-        return float_order::key(3.0 + t) / 2;
-    }
-    float_order::key(1.0 - t) / 2
+    float_order::key(if y < 0.0 { 3.0 + t } else { 1.0 - t }) / 2
 }
 
 // The angle of end e; where it has no direction, one behind all others.
@@ -37,10 +32,7 @@ fn angle_of(w: &[u64], d: usize, e: usize) -> u64
     requires { EndsRoom w.now d × (e < d) }
     ensures { result ≡ angle_at w.now d e }
 {
-    let Direction::Toward(x, y) = pair_ends::direction_at(w, d, e) else {
-        return float_order::GREATEST;
-    };
-    angle(x, y)
+    pair_ends::direction_at(w, d, e).map_or(float_order::GREATEST, |(x, y)| angle(x, y))
 }
 
 // The keys that the ends are sorted by: the angle, and then the direction's bits.
@@ -48,15 +40,13 @@ pub fn keys(w: &mut [u64], d: usize)
     requires { EndsRoom w.old d }
     ensures { Keys w.old w.new d }
 {
-    let mut e = 0;
-    while e < d {
+    for e in 0..d {
         let k = d * SORT_KEYS + e * 3;
         let x = w[d + e * 2];
         let y = w[d + e * 2 + 1];
         w[k] = angle_of(w, d, e);
         w[k + 1] = x;
         w[k + 2] = y;
-        e += 1;
     }
 }
 
@@ -65,19 +55,11 @@ fn alike(w: &[u64], d: usize, a: usize, e: usize) -> bool
     requires { EndsRoom w.now d × (a < d) × (e < d) }
     ensures { result ≡ alike_at w.now d a e }
 {
-    if w[a] != 1 {
-        return false;
-    }
-    if w[e] != 1 {
-        return false;
-    }
-    if w[d + a * 2] != w[d + e * 2] {
-        return false;
-    }
-    if w[d + a * 2 + 1] != w[d + e * 2 + 1] {
-        return false;
-    }
-    a < e
+    w[a] == 1
+        && w[e] == 1
+        && w[d + a * 2] == w[d + e * 2]
+        && w[d + a * 2 + 1] == w[d + e * 2 + 1]
+        && a < e
 }
 
 // The group of the end at position p, which is the position of the group's first end.
@@ -97,67 +79,47 @@ fn group(w: &[u64], d: usize, p: usize) -> u64
     p as u64
 }
 
-// The slot m for the end at position p, of group g, if it is one of the first owners; d for none.
-fn slot(w: &[u64], d: usize, p: usize, g: u64, m: usize) -> usize
+// Whether the end at position p, of group g, is one of the first owners: then it has the slot m.
+fn owner(w: &[u64], d: usize, p: usize, g: u64) -> bool
     requires { TablesSorted w.now d × (p < d) × (g ≤ p) }
-    ensures { Slotted w.now d p g m result }
+    ensures { (m : ℕ) → Slotted w.now d p g m (cond result m d) }
 {
     let e = w[d * ORDER + p] as usize;
-    if w[e] != 1 {
-        return d;
-    }
-    if p < g as usize + OWNERS {
-        return m;
-    }
-    d
+    w[e] == 1 && p < g as usize + OWNERS
 }
 
-// One more than m, if that is the slot s.
-fn counted(m: usize, s: usize) -> usize
-    requires { m < most_ends }
-    ensures { result ≡ cond (eqb m s) (m + 1) m }
-{
-    if m == s {
-        return m + 1;
-    }
-    m
-}
-
-// The groups, their cursors, and the slots of the first owners; how many these are.
+// The groups, their cursors, and the slots of the first owners; how many these are. In the table, which has a word for each end (fixed memory), d is no slot.
 pub fn groups(w: &mut [u64], d: usize) -> usize
     requires { TablesSorted w.old d × Together w.old d (order_at w.old d) }
     ensures { Groups w.old w.new d result }
 {
     let mut m = 0;
-    let mut p = 0;
-    while p < d {
+    for p in 0..d {
         let g = group(w, d, p);
-        let s = slot(w, d, p, g, m);
+        let owns = owner(w, d, p, g);
         let e = w[d * ORDER + p] as usize;
         w[d * GROUPS + e] = g;
         w[d * CURSORS + p] = (p + OWNERS) as u64;
-        w[d * SLOTS + e] = s as u64;
-        m = counted(m, s);
-        p += 1;
+        w[d * SLOTS + e] = if owns { m } else { d } as u64;
+        m += owns as usize;
     }
     m
 }
 
-// The first position from `from` on with a free end of group g, where only taken ends stand before it; d where there is none.
-pub fn due(w: &[u64], d: usize, g: u64, from: usize) -> usize
+// The first position from `from` on with a free end of group g, where only taken ends stand before it.
+pub fn due(w: &[u64], d: usize, g: u64, from: usize) -> Option<usize>
     requires { TablesSorted w.now d }
-    ensures { Due w.now d g from result }
+    ensures due { Due w.now d g from (place_or d result) }
+    ensures below { IsSome result → place_or d result < d }
 {
-    let mut c = from;
-    while c < d {
+    for c in from..d {
         let e = w[d * ORDER + c] as usize;
         if w[d * GROUPS + e] != g {
-            return d;
+            return None;
         }
         if w[d * MARKS + e] == 0 {
-            return c;
+            return Some(c);
         }
-        c += 1;
     }
-    d
+    None
 }

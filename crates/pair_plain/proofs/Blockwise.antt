@@ -64,31 +64,19 @@ module _ (w : List ℕ) (at from : ℕ) where
 
 upper_most : (d b : ℕ) → (upper_of d b ≤ d) × (upper_of d b ≤ b * 16 + 16)
 unfolding upper_of
-upper_most d b = go (ltb (b * 16 + 16) d) refl
-  where
-    go : (t : Bool) → ltb (b * 16 + 16) d ≡ t → (cond t (b * 16 + 16) d ≤ d) × (cond t (b * 16 + 16) d ≤ b * 16 + 16)
-    go true e = omega (arith, ltb-true (b * 16 + 16) d e)
-    go false e = omega (arith, ltb-false (b * 16 + 16) d e)
+upper_most d b = omega arith
 
 -- a row is in its block
 in_block : (d x : ℕ) → x < d → (x / 16 * 16 ≤ x) × (x < upper_of d (x / 16))
 unfolding upper_of
-in_block d x h = go (ltb (x / 16 * 16 + 16) d)
-  where
-    go : (t : Bool) → (x / 16 * 16 ≤ x) × (x < cond t (x / 16 * 16 + 16) d)
-    go true = omega arith
-    go false = omega arith
+in_block d x h = omega arith
 
 pub block_below : (d x : ℕ) → x < d → x / 16 < blocks_of d
 block_below d x h = omega arith
 
 pub blocks_fit : (d b : ℕ) → b < blocks_of d → (b < d) × (b * 16 ≤ upper_of d b) × (upper_of d b ≤ d)
 unfolding upper_of
-blocks_fit d b h = go (ltb (b * 16 + 16) d) refl
-  where
-    go : (t : Bool) → ltb (b * 16 + 16) d ≡ t → (b < d) × (b * 16 ≤ cond t (b * 16 + 16) d) × (cond t (b * 16 + 16) d ≤ d)
-    go true e = omega (arith, ltb-true (b * 16 + 16) d e)
-    go false e = omega arith
+blocks_fit d b h = omega arith
 
 module _ (w : List ℕ) (d : ℕ) (lows : Lows w d all) (low : Low) (s : IsLow w (d * lows_from) 0 (blocks_of d) low) where
   low_all : (x : ℕ) → x < d → low.key ≤ get_or w (d * row_keys_from + x) 0

@@ -8,7 +8,7 @@ use mathlib.Core.List.{List, [], ◌∷◌}
 use native.Mathlib.Omega.{arith}
 use lib.Dec.{eqb, leb}
 use borrow.Author.Tests.{eqb-true, eqb-false, leb-true}
-use Rattle.float_order.specs.Key.{key_nan, key}
+use Rattle.float_order.specs.Key.{key_nan}
 use Rattle.pair_laws.specs.Ranked.{RankedPair, Node, candidates, qualifies, busy, before, mark, sort, greedy, none, select_from, select}
 use Rattle.pair_laws.specs.Sets.{In, Least}
 use Rattle.pair_laws.specs.Taking.{IsFirst}

@@ -8,7 +8,8 @@ use native.Mathlib.Omega.{arith}
 use lib.Ieee.{Float}
 use lib.ListN.{length, get_or, set}
 use lib.Seq.{get_or-set_same, get_or-set_other}
-use Rattle.rules.specs.declared.Direction.{Direction}
+use Rattle.rules.specs.Answers.{Direction}
+use Rattle.std.specs.Int.{from_bool}
 use Rattle.rules.specs.Lists.{one}
 use Rattle.rules.specs.Refusals.{limit_bad}
 use Rattle.pair_laws.proofs.Order.{Three, three}
@@ -31,6 +32,10 @@ last P k x h p q = which (three x k)
     which (inr (inr a)) = absurd (omega arith)
 
 -- ---- marks
+
+pub byte_one : (b : Bool) → from_bool b ≡ one b
+byte_one true = refl
+byte_one false = refl
 
 pub record MarkedTo (w : List ℕ) (d k : ℕ) (w' : List ℕ) : Type 0 where
   pub marks : (e : ℕ) → e < k → mark_at w' d e ≡ mark_of w d e

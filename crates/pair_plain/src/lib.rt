@@ -3,14 +3,14 @@
 // that the least pair is found without asking every row; where one block would do there is none.
 #![tactic(auto)]
 
-ghost use Rattle.std.specs.Prelude.{◌≡◌, false, ◌+◌, ◌*◌, ◌/◌, ◌<◌, ◌≤◌, length};
+ghost use Rattle.std.specs.Prelude.{◌≡◌, true, false, ◌+◌, ◌*◌, ◌/◌, ◌<◌, ◌≤◌, length, IfSome};
 ghost use Rattle.rules.specs.Refusals.{most_ends, limit_bad};
-ghost use Rattle.float_order.specs.Key.{key};
+ghost use Rattle.float_order.specs.Key.{key, key_nan};
 ghost use Rattle.pair_ends.specs.Blocks.{row_keys_from};
 ghost use Rattle.pair_ends.specs.Ends.{EndsRoom, Selected};
 ghost use Rattle.pair_first_of_end.specs.Row.{RowReady};
-ghost use Rattle.pair_plain.specs.Lows.{lesser_of, IsLow, upper_of, blocks_of, LowsSettled, Lows, all};
-ghost use Rattle.pair_plain.specs.Steps.{mark_of, Marked, Playable, Renewed, Rows, Levelled, taken_from};
+ghost use Rattle.pair_plain.specs.Lows.{lesser_of, IsLow, low_words, upper_of, blocks_of, LowsSettled, RowSettled, Lows, all};
+ghost use Rattle.pair_plain.specs.Steps.{Marked, Playable, Renewed, Rows, Levelled, taken_from};
 
 use float_order::GREATEST;
 use pair_ends::{LOWS, MARKS, PAIRS, PARTNERS, ROW_KEYS, TOPS};
@@ -18,7 +18,7 @@ use pair_ends::{LOWS, MARKS, PAIRS, PARTNERS, ROW_KEYS, TOPS};
 // How many rows a block has.
 const BLOCK: usize = 16;
 
-// The least of some keys, and where it stands.
+// A row's key that is not the greatest, and where it stands.
 #[derive(Clone, Copy)]
 pub struct Low {
     pub key: u64,
@@ -26,30 +26,31 @@ pub struct Low {
 }
 
 // The lesser of a least key and a key that stands after it.
+#[tactic(auto, unfolding(crate::specs::Lows::lesser_of))]
 fn lesser(low: Low, key: u64, place: usize) -> Low
     ensures { result ≡ lesser_of low key place }
 {
     if key < low.key {
-        return Low { key, place };
+        Low { key, place }
+    } else {
+        low
     }
-    low
 }
 
-// The least of the keys from `from` to `to` in the region that begins at `at`, and of equals the first.
-fn least(w: &[u64], at: usize, from: usize, to: usize) -> Low
+// The least of the keys from `from` to `to` in the region that begins at `at`, and of equals the first; none where each is the greatest key.
+fn least(w: &[u64], at: usize, from: usize, to: usize) -> Option<Low>
     requires { (from ≤ to) × (at + to ≤ length w.now) }
-    ensures { IsLow w.now at from to result }
+    ensures is { IsLow w.now at from to (low_words result) }
+    ensures some { IfSome result (λ low. low.key < key_nan) }
 {
     let mut low = Low {
         key: GREATEST,
-        place: 0,
+        place: from,
     };
-    let mut x = from;
-    while x < to {
+    for x in from..to {
         low = lesser(low, w[at + x], x);
-        x += 1;
     }
-    low
+    (low.key < GREATEST).then_some(low)
 }
 
 // How many blocks d rows make.
@@ -57,19 +58,16 @@ fn blocks(d: usize) -> usize
     requires { d ≤ most_ends }
     ensures { result ≡ blocks_of d }
 {
-    (d + 15) / BLOCK
+    d.div_ceil(BLOCK)
 }
 
 // Where block b of d rows ends.
+#[tactic(auto, unfolding(crate::specs::Lows::upper_of))]
 fn upper(d: usize, b: usize) -> usize
     requires { b < most_ends }
     ensures { result ≡ upper_of d b }
 {
-    let end = b * BLOCK + BLOCK;
-    if end < d {
-        return end;
-    }
-    d
+    d.min(b * BLOCK + BLOCK)
 }
 
 // The least key of block b, found anew.
@@ -78,35 +76,9 @@ fn settle(w: &mut [u64], d: usize, b: usize)
     ensures { LowsSettled w.old d b w.new }
 {
     let low = least(w, d * ROW_KEYS, b * BLOCK, upper(d, b));
-    w[d * LOWS + b] = low.key;
-    w[d * TOPS + b] = low.place as u64;
-}
-
-// The least key of all rows, and its row.
-fn top(w: &[u64], d: usize) -> Low
-    requires { EndsRoom w.now d × Lows w.now d all }
-    ensures { IsLow w.now (d * row_keys_from) 0 d result }
-{
-    let low = least(w, d * LOWS, 0, blocks(d));
-    if low.key == GREATEST {
-        return low;
-    }
-    let b = low.place;
-    Low {
-        key: low.key,
-        place: w[d * TOPS + b] as usize,
-    }
-}
-
-// The mark of end e before any is taken.
-fn mark(w: &[u64], d: usize, e: usize) -> u64
-    requires { EndsRoom w.now d × (e < d) }
-    ensures { result ≡ mark_of w.now d e }
-{
-    if pair_first_of_end::is_numbered(w, d, e) {
-        return 0;
-    }
-    1
+    let (key, place) = low.map_or((GREATEST, 0), |low| (low.key, low.place as u64));
+    w[d * LOWS + b] = key;
+    w[d * TOPS + b] = place;
 }
 
 // The marks before any end is taken.
@@ -114,10 +86,8 @@ fn mark_all(w: &mut [u64], d: usize)
     requires { EndsRoom w.old d }
     ensures { Marked w.old d w.new }
 {
-    let mut e = 0;
-    while e < d {
-        w[d * MARKS + e] = mark(w, d, e);
-        e += 1;
+    for e in 0..d {
+        w[d * MARKS + e] = u64::from(!pair_first_of_end::is_numbered(w, d, e));
     }
 }
 
@@ -127,8 +97,9 @@ fn renew(w: &mut [u64], d: usize, limit: f64, i: usize)
     ensures { Renewed w.old d limit i w.new }
 {
     let held = pair_first_of_end::first_of(w, d, limit, i);
-    w[d * ROW_KEYS + i] = held.key;
-    w[d * PARTNERS + i] = held.partner as u64;
+    let (key, partner) = held.map_or((GREATEST, 0), |held| (held.key, held.partner as u64));
+    w[d * ROW_KEYS + i] = key;
+    w[d * PARTNERS + i] = partner;
 }
 
 // What each row holds.
@@ -136,10 +107,8 @@ fn renew_all(w: &mut [u64], d: usize, limit: f64)
     requires { Playable w.old d limit }
     ensures { Rows w.old d limit d w.new }
 {
-    let mut i = 0;
-    while i < d {
+    for i in 0..d {
         renew(w, d, limit, i);
-        i += 1;
     }
 }
 
@@ -148,11 +117,8 @@ fn settle_all(w: &mut [u64], d: usize)
     requires { EndsRoom w.old d }
     ensures { Levelled w.old d w.new }
 {
-    let n = blocks(d);
-    let mut b = 0;
-    while b < n {
+    for b in 0..blocks(d) {
         settle(w, d, b);
-        b += 1;
     }
 }
 
@@ -169,57 +135,55 @@ fn take(w: &mut [u64], d: usize, n: usize, i: usize, j: usize)
     w[d * ROW_KEYS + j] = GREATEST;
 }
 
-// The selected pairs of d ends whose rows are few: the least key is found by asking every row.
-fn few(w: &mut [u64], d: usize, limit: f64) -> usize
-    requires { EndsRoom w.old d × (limit_bad limit ≡ false) }
-    ensures { Selected w.old d (key limit) result w.new }
+// The least key of all rows, and its row, if a row holds a pair.
+fn lowest<const BLOCKS: bool>(w: &[u64], d: usize) -> Option<Low>
+    requires { EndsRoom w.now d × (BLOCKS ≡ true → Lows w.now d all) }
+    ensures is { IsLow w.now (d * row_keys_from) 0 d (low_words result) }
+    ensures some { IfSome result (λ low. low.key < key_nan) }
 {
-    mark_all(w, d);
-    renew_all(w, d, limit);
-    let mut n = 0;
-    loop {
-        let low = least(w, d * ROW_KEYS, 0, d);
-        if low.key == GREATEST {
-            break;
-        }
-        let i = low.place;
-        let j = w[d * PARTNERS + i] as usize;
-        let gone = w[d * MARKS + j];
-        if gone != 0 {
-            renew(w, d, limit, i);
-            continue;
-        }
-        take(w, d, n, i, j);
-        n += 1;
+    if !BLOCKS {
+        return least(w, d * ROW_KEYS, 0, d);
     }
-    n
+    let low = least(w, d * LOWS, 0, blocks(d))?;
+    Some(Low {
+        key: low.key,
+        place: w[d * TOPS + low.place] as usize,
+    })
 }
 
-// The selected pairs of d ends whose rows stand in blocks.
-fn many(w: &mut [u64], d: usize, limit: f64) -> usize
+// The least key of row i's block, found anew where rows stand in blocks.
+fn settle_row<const BLOCKS: bool>(w: &mut [u64], d: usize, i: usize)
+    requires { EndsRoom w.old d × (i < d) }
+    ensures { RowSettled BLOCKS w.old d i w.new }
+{
+    if BLOCKS {
+        settle(w, d, i / BLOCK);
+    }
+}
+
+// The selected pairs of d ends, whose rows stand in blocks or not.
+fn select<const BLOCKS: bool>(w: &mut [u64], d: usize, limit: f64) -> usize
     requires { EndsRoom w.old d × (limit_bad limit ≡ false) }
     ensures { Selected w.old d (key limit) result w.new }
 {
     mark_all(w, d);
     renew_all(w, d, limit);
-    settle_all(w, d);
+    if BLOCKS {
+        settle_all(w, d);
+    }
     let mut n = 0;
-    loop {
-        let low = top(w, d);
-        if low.key == GREATEST {
-            break;
-        }
+    while let Some(low) = lowest::<BLOCKS>(w, d) {
         let i = low.place;
         let j = w[d * PARTNERS + i] as usize;
         if w[d * MARKS + j] != 0 {
             renew(w, d, limit, i);
-            settle(w, d, i / BLOCK);
-            continue;
+            settle_row::<BLOCKS>(w, d, i);
+        } else {
+            take(w, d, n, i, j);
+            settle_row::<BLOCKS>(w, d, i);
+            settle_row::<BLOCKS>(w, d, j);
+            n += 1;
         }
-        take(w, d, n, i, j);
-        settle(w, d, i / BLOCK);
-        settle(w, d, j / BLOCK);
-        n += 1;
     }
     n
 }
@@ -230,10 +194,10 @@ pub fn plain(w: &mut [u64], d: usize, limit: f64) -> usize
     ensures { Selected w.old d (key limit) result w.new }
 {
     if d <= BLOCK {
-        return few(w, d, limit);
+        return select::<false>(w, d, limit);
     }
     if pair_all_directions::idle(w, d, float_order::key(limit)) {
         return 0;
     }
-    many(w, d, limit)
+    select::<true>(w, d, limit)
 }

@@ -9,8 +9,8 @@ use lib.Dec.{eqb, ltb}
 use lib.Ieee.{Float}
 use lib.ListN.{length}
 use borrow.Author.Tests.{ltb-true, eqb-false}
-use Rattle.rules.specs.declared.Answer.{Answer}
-use Rattle.rules.specs.declared.Answer.TheVariants.{Accepted}
+use Rattle.rules.specs.Answers.{Answer}
+use Rattle.rules.specs.Answers.{Accepted}
 use Rattle.rules.specs.Selecting.{End, select}
 use Rattle.rules.specs.Layout.{listed}
 use Rattle.rules.specs.Refusals.{LentEnds, first_of, pair_refusal_of, end_room}

@@ -8,8 +8,9 @@ use mathlib.Core.List.{List, [], ◌∷◌}
 use lib.Dec.{eqb}
 use lib.Ieee.{Float, le}
 use borrow.Author.Tests.{eqb-true, eqb-false, eq-eqb, ne_eqb}
-use Rattle.rules.specs.declared.Direction.{Direction}
-use Rattle.rules.specs.declared.Direction.TheVariants.{Absent, Toward}
+use Rattle.pair_laws.proofs.Settled.{toward_is}
+use Rattle.rules.specs.Answers.{Direction}
+use Rattle.rules.specs.Answers.{Absent, Toward}
 use Rattle.rules.specs.Plane.{measure}
 use Rattle.rules.specs.Selecting.{End, Pair, within, pair}
 use Rattle.rules.specs.declared.Reason.TheVariants.{Selected, SamePiece, AbsentDirection, NotQualifying, Blocked}
@@ -182,11 +183,9 @@ high_unfit limit a b ax ay bx by from to h = go (two (unfit limit a b))
         let w = (in_pair limit a b t.0 t.1).1 in
         let f : Toward w.ax w.ay ≡ Toward ax ay = sym w.from ∙ from in
         let g : Toward w.bx w.by ≡ Toward bx by = sym w.to ∙ to in
-        let f₀ : w.ax ≡ ax = cc in
-        let f₁ : w.ay ≡ ay = cc in
-        let g₀ : w.bx ≡ bx = cc in
-        let g₁ : w.by ≡ by = cc in
-        absurd (tf ((λ i. le (measure (sym f₀ i) (sym f₁ i) (sym g₀ i) (sym g₁ i)) limit) ∙ w.low) h)
+        let p = toward_is w.ax w.ay ax ay f in
+        let q = toward_is w.bx w.by bx by g in
+        absurd (tf ((λ i. le (measure (sym p.0 i) (sym p.1 i) (sym q.0 i) (sym q.1 i)) limit) ∙ w.low) h)
 
 -- ---- the reason, by the tests
 

@@ -2,7 +2,7 @@
 use Rattle.std.specs.Prelude.{ℕ, ◌*◌, ◌<◌, ◌≡◌, true, false, ◌⊎◌, List, [], ◌∷◌, Float, length, get_or, take}
 use Rattle.std.specs.Float.{nan}
 use Rattle.std.specs.Float.Ieee.{le}
-use Rattle.rules.specs.declared.Direction.TheVariants.{Absent, Toward}
+use Rattle.rules.specs.Answers.{Absent, Toward}
 use Rattle.rules.specs.Plane.{measure}
 use Rattle.rules.specs.Selecting.{End, Pair, qualifying, before, sorted, select}
 use Rattle.rules.specs.Layout.{listed}

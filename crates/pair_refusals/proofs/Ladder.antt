@@ -1,6 +1,6 @@
 -- The refusal by lengths is the book's: it looks at nothing else of the two rooms.
 use Prim.Native.Nat.{ℕ, ◌*◌}
-use mathlib.Core.Path.{◌≡◌, refl, sym}
+use mathlib.Core.Path.{◌≡◌, refl}
 use mathlib.Core.Bool.{Bool, true, false, not, ◌&&◌, ◌||◌, true≢false}
 use mathlib.Core.List.{List}
 use lib.Dec.{eqb}
@@ -32,10 +32,8 @@ tables_agree a b d h = go (eqb a d) (eqb b (d * 2)) refl refl h
     go false t e f h = absurd (true≢false h)
 
 -- the last test is asked of the indexed route alone
-pub not_asked : (alone wild : Bool) → not alone ≡ true → (alone && wild) ≡ false
-not_asked true wild e = absurd (true≢false (sym e))
-not_asked false wild e = refl
+pub not_asked : (alone wild : Bool) → alone ≡ false → (alone && wild) ≡ false
+not_asked alone wild e = rw e
 
-pub asked : (alone wild : Bool) → not alone ≡ false → (alone && wild) ≡ wild
-asked true wild e = refl
-asked false wild e = absurd (true≢false e)
+pub asked : (alone wild : Bool) → alone ≡ true → (alone && wild) ≡ wild
+asked alone wild e = rw e

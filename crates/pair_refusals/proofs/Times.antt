@@ -1,7 +1,9 @@
 -- How often a number stands among the first of a list. None stands more than twice in all where each was met at most once before its place.
-use Prim.Native.Nat.{ℕ, zero, suc, ◌+◌, ◌-◌, ◌≤◌, ◌<◌}
+use Prim.Native.Nat.{ℕ, zero, suc, ◌+◌, ◌≤◌, ◌<◌}
 use mathlib.Core.Path.{◌≡◌, refl, sym, ◌∙◌, ap}
-use mathlib.Core.Bool.{Bool, true, false}
+use mathlib.Core.Bool.{Bool, true, false, cond}
+use Rattle.std.specs.Prelude.{count_by}
+use Rattle.std.proofs.lemmas.List.Recursion.{is_count_by}
 use mathlib.Core.List.{List, [], ◌∷◌}
 use native.Mathlib.Decide.{ℕ_discrete}
 use native.Mathlib.Omega.{arith}
@@ -12,6 +14,15 @@ use lib.Seq.{take_all}
 use borrow.Author.Tests.{ltb-true, ltb-false, lt-ltb, le-ltb, eq-eqb, ne_eqb}
 use Rattle.rules.specs.Lists.{one, count}
 use Rattle.rules.specs.Refusals.{more_than_twice}
+
+one_more : (b : Bool) (n : ℕ) → one b + n ≡ cond b (1 + n) n
+one_more true n = refl
+one_more false n = omega arith
+
+-- the book's count is the library's
+pub counted : (p : ℕ) (l : List ℕ) → count p l ≡ count_by (eqb p) l
+unfolding count
+counted p = is_count_by (count p) (eqb p) refl (λ x xs. one_more (eqb p x) (count p xs))
 
 pub none_first : (p : ℕ) (l : List ℕ) → count p (take 0 l) ≡ 0
 unfolding count

@@ -3,12 +3,13 @@
 
 ghost use Rattle.std.specs.Prelude.{◌≡◌, not, ◌&&◌, ◌||◌, ◌*◌, ◌≤◌, ◌<◌, eqb, ltb, length, take};
 ghost use Rattle.std.specs.Float.Ieee.Scale.{finite};
+ghost use Rattle.rules.specs.Answers.{found};
 ghost use Rattle.rules.specs.Lists.{count};
 ghost use Rattle.rules.specs.Refusals.{most_ends, end_room, more_than_twice, any_wild};
 ghost use Rattle.pair_refusals.specs.Linked.{bucket_of, LinkedChain};
 ghost use Rattle.pair_refusals.specs.Ladder.{pair_refusal_by};
 
-use rules::{END_ROOM, MOST_ENDS};
+use rules::{END_ROOM, Ends, MOST_ENDS, Refusal};
 
 // Below so many pieces each is compared with all before it.
 const FEW: usize = 80;
@@ -18,10 +19,7 @@ fn tables_differ(d: usize, present: usize, directions: usize) -> bool
     requires { d ≤ most_ends }
     ensures { result ≡ not (eqb present d) || not (eqb directions (d * 2)) }
 {
-    if present != d {
-        return true;
-    }
-    directions != d * 2
+    present != d || directions != d * 2
 }
 
 // Whether a room is shorter than d ends ask for.
@@ -29,38 +27,24 @@ fn room_short(d: usize, pairs: usize, workspace: usize) -> bool
     requires { d ≤ most_ends }
     ensures { result ≡ ltb pairs d || ltb workspace (d * end_room) }
 {
-    if pairs < d {
-        return true;
-    }
-    workspace < d * END_ROOM
+    pairs < d || workspace < d * END_ROOM
 }
 
-// How often p stands among the first n pieces.
-fn times_before(pieces: &[u32], n: usize, p: u32) -> usize
-    requires { n ≤ length pieces.now }
-    ensures { result ≡ count p (take n pieces.now) }
+// How often p stands among some pieces.
+fn times_among(pieces: &[u32], p: u32) -> usize
+    ensures { result ≡ count p pieces.now }
 {
-    let mut c: usize = 0;
-    let mut k = 0;
-    while k < n {
-        if pieces[k] == p {
-            c += 1;
-        }
-        k += 1;
-    }
-    c
+    pieces.iter().filter(|q| p == **q).count()
 }
 
 // Whether a piece stands more than twice, by comparing each with all before it.
 fn thrice_few(pieces: &[u32]) -> bool
     ensures { result ≡ more_than_twice pieces.now pieces.now }
 {
-    let mut i = 0;
-    while i < pieces.len() {
-        if 1 < times_before(pieces, i, pieces[i]) {
+    for (i, p) in pieces.iter().enumerate() {
+        if 1 < times_among(&pieces[..i], *p) {
             return true;
         }
-        i += 1;
     }
     false
 }
@@ -96,17 +80,14 @@ fn thrice_many(pieces: &[u32]) -> bool
 {
     let mut last = [0u16; 8192];
     let mut next = [0u16; 8192];
-    let mut i = 0;
-    while i < pieces.len() {
-        let p = pieces[i];
-        let b = bucket(p);
+    for (i, p) in pieces.iter().enumerate() {
+        let b = bucket(*p);
         let from = last[b];
-        if 1 < times_linked(pieces, &next, from, p) {
+        if 1 < times_linked(pieces, &next, from, *p) {
             return true;
         }
         next[i] = from;
-        i += 1;
-        last[b] = i as u16;
+        last[b] = i as u16 + 1;
     }
     false
 }
@@ -117,22 +98,17 @@ fn more_than_twice(pieces: &[u32]) -> bool
     ensures { result ≡ more_than_twice pieces.now pieces.now }
 {
     if pieces.len() < FEW {
-        return thrice_few(pieces);
+        thrice_few(pieces)
+    } else {
+        thrice_many(pieces)
     }
-    thrice_many(pieces)
 }
 
 // Whether an end is present with a direction that isn't finite.
 fn wild(mark: u8, x: f64, y: f64) -> bool
     ensures { result ≡ eqb mark 1 && not (finite x && finite y) }
 {
-    if mark != 1 {
-        return false;
-    }
-    if float_order::is_finite(x) {
-        return !float_order::is_finite(y);
-    }
-    true
+    mark == 1 && !(float_order::is_finite(x) && float_order::is_finite(y))
 }
 
 // Whether a present direction isn't finite.
@@ -140,52 +116,45 @@ fn any_wild(present: &[u8], directions: &[f64]) -> bool
     requires { (length present.now ≤ most_ends) × (length directions.now ≡ length present.now * 2) }
     ensures { result ≡ any_wild present.now directions.now }
 {
-    let mut e = 0;
-    while e < present.len() {
-        if wild(present[e], directions[e * 2], directions[e * 2 + 1]) {
+    for (e, mark) in present.iter().enumerate() {
+        if wild(*mark, directions[e * 2], directions[e * 2 + 1]) {
             return true;
         }
-        e += 1;
     }
     false
 }
 
-// The number of the first refusal that applies, or 0; of the two rooms only the lengths are asked. `alone` is the indexed route, called on its own.
+// The first refusal that applies; of the two rooms only the lengths are asked. `alone` is the indexed route, called on its own.
 pub fn pair_refusal(
     alone: bool,
-    present: &[u8],
-    directions: &[f64],
-    pieces: &[u32],
+    ends: &Ends,
     limit: f64,
     pairs: usize,
     workspace: usize,
-) -> u64
-    ensures { result ≡ pair_refusal_by alone present.now directions.now pieces.now limit pairs workspace }
+) -> Result<(), Refusal>
+    ensures { found result ≡ pair_refusal_by alone ends.now.present.now ends.now.directions.now ends.now.pieces.now limit pairs workspace }
 {
-    let d = pieces.len();
+    let d = ends.pieces.len();
     if MOST_ENDS < d {
-        return 1;
+        return Err(Refusal::TooMany);
     }
-    if tables_differ(d, present.len(), directions.len()) {
-        return 2;
+    if tables_differ(d, ends.present.len(), ends.directions.len()) {
+        return Err(Refusal::TablesDiffer);
     }
-    if build_refusals::any_above_one(present) {
-        return 3;
+    if build_refusals::any_above_one(ends.present) {
+        return Err(Refusal::MarkAboveOne);
     }
     if build_refusals::limit_bad(limit) {
-        return 6;
+        return Err(Refusal::BadLimit);
     }
     if room_short(d, pairs, workspace) {
-        return 7;
+        return Err(Refusal::RoomTooShort);
     }
-    if more_than_twice(pieces) {
-        return 8;
+    if more_than_twice(ends.pieces) {
+        return Err(Refusal::PieceTooOften);
     }
-    if !alone {
-        return 0;
+    if alone && any_wild(ends.present, ends.directions) {
+        return Err(Refusal::NotFinite);
     }
-    if any_wild(present, directions) {
-        return 9;
-    }
-    0
+    Ok(())
 }

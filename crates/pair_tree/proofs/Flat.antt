@@ -111,12 +111,6 @@ module _ {A : Type 0} (join : A → A → A) (S : A → Type 0) (S-join : (a b :
   joining_start N base h f = record { some = h; within = omega arith; kept = kept_leaves join S N base (own N base) (λ x k. refl) f }
 
   module _ {N₀ N : ℕ → A} {base n : ℕ} (s : Joining N₀ N base n) where
-    pub joining_left : 1 < n → S (N (2 * (n - 1)))
-    joining_left h = s.kept.sound (2 * (n - 1)) (omega arith) (omega (arith, s.within))
-
-    pub joining_right : 1 < n → S (N (2 * (n - 1) + 1))
-    joining_right h = s.kept.sound (2 * (n - 1) + 1) (omega arith) (omega (arith, s.within))
-
     pub joining_next : {N' : ℕ → A} → 1 < n → Stored N N' (n - 1) (join (N (2 * (n - 1))) (N (2 * (n - 1) + 1))) → Joining N₀ N' base (n - 1)
     joining_next {N'} h r =
         record {
@@ -159,12 +153,6 @@ module _ {A : Type 0} (join : A → A → A) (S : A → Type 0) (S-join : (a b :
         (subst (λ (m : ℕ). NodesKept join S N' base 1 m (own N₁ base)) g c.kept)
 
   module _ {N₀ N : ℕ → A} {base q : ℕ} (s : Climbing N₀ N base q) (h : q ≡ 0 → ⊥) where
-    pub climbing_left : S (N (2 * q))
-    climbing_left = s.kept.sound (2 * q) (omega arith) (omega (arith, s.within))
-
-    pub climbing_right : S (N (2 * q + 1))
-    climbing_right = s.kept.sound (2 * q + 1) (omega arith) (omega (arith, s.within))
-
     pub climbing_next : {N' : ℕ → A} → Stored N N' q (join (N (2 * q)) (N (2 * q + 1))) → Climbing N₀ N' base (q / 2)
     climbing_next {N'} r = record { within = omega (arith, s.within); kept = kept_up join S S-join N N' base (own N₀ base) q (omega arith) s.within s.kept r }
 

@@ -2,3 +2,5 @@
 pub mod Flat
 pub mod Words
 pub mod Order
+pub mod Rows
+pub mod Stores

@@ -1,3 +1,4 @@
 pub mod Places
 pub mod Flat
 pub mod Words
+pub mod Rows

@@ -6,8 +6,8 @@ use mathlib.Core.Bool.{Bool, true, false}
 use mathlib.Core.List.{List, [], ◌∷◌}
 use native.Mathlib.Omega.{arith}
 use lib.ListN.{length, take}
-use Rattle.rules.specs.declared.Answer.{Answer}
-use Rattle.rules.specs.declared.Answer.TheVariants.{Accepted, Refused}
+use Rattle.rules.specs.Answers.{Answer}
+use Rattle.rules.specs.Answers.{Accepted, Refused}
 use Rattle.rules.specs.Layout.{listed}
 use Rattle.rules.specs.Refusals.{LentEnds, first_of, pair_refusal_of, most_ends, end_room}
 use Rattle.rules.specs.Calls.{unless, answer_of, written, cleared, ends_of, pairs_of}
@@ -125,9 +125,9 @@ module _ {i : LentEnds} {a b : ℕ} {r : Answer} {pairs workspace : List ℕ} (k
           words_are = words;
         }
 
-    pub answered : (w : Reason) (q : ℕ) → w ≡ reason_here i.present i.directions i.pieces i.limit a b → q ≡ reason_number w
+    pub answered_by : (w : Reason) (q : ℕ) → w ≡ reason_here i.present i.directions i.pieces i.limit a b → q ≡ reason_number w
         → Why i a b (Accepted q) pairs workspace
     unfolding reason_here reason_of pairs_of answer_of unless
-    answered w q f g =
+    answered_by w q f g =
         with_answer (Accepted q)
         (ap Accepted (g ∙ ap reason_number f) ∙ ap (λ (m : ℕ). answer_of m (reason_number (reason_of i a b))) (sym free.0 ∙ same_refusal i a b k.two_ends))

@@ -9,8 +9,8 @@ use lib.Dec.{eqb}
 use lib.Ieee.{Float, le}
 use lib.ListN.{length, get_or}
 use borrow.Author.Tests.{eq-eqb, ne_eqb}
-use Rattle.rules.specs.declared.Direction.{Direction}
-use Rattle.rules.specs.declared.Direction.TheVariants.{Absent, Toward}
+use Rattle.rules.specs.Answers.{Direction}
+use Rattle.rules.specs.Answers.{Absent, Toward}
 use Rattle.rules.specs.Plane.{measure}
 use Rattle.rules.specs.Selecting.{End, Pair, select}
 use Rattle.rules.specs.Layout.{ends}

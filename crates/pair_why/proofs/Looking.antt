@@ -2,7 +2,7 @@
 -- any is.
 use Prim.Native.Nat.{ℕ, zero, suc, ◌+◌, ◌*◌, ◌/◌, ◌≤◌, ◌<◌}
 use mathlib.Core.Path.{◌≡◌, refl, sym, ap, ap₂, ◌∙◌}
-use mathlib.Core.Bool.{Bool, true, false, ◌&&◌}
+use mathlib.Core.Bool.{Bool, true, false, not, ◌&&◌, ◌||◌}
 use mathlib.Core.Logic.{◌⊎◌, inl, inr}
 use mathlib.Core.List.{List, [], ◌∷◌, flat_map}
 use native.Mathlib.Omega.{arith}
@@ -10,11 +10,11 @@ use lib.Dec.{eqb, ltb}
 use lib.Ieee.{nan}
 use lib.ListN.{length, get_or, drop, length-drop}
 use lib.Seq.{drop-cons}
-use borrow.Author.Tests.{lt-ltb, le-ltb, ltb-true, eq-eqb, ne_eqb}
+use borrow.Author.Tests.{lt-ltb, le-ltb, ltb-true, eq-eqb}
 use Rattle.rules.specs.Selecting.{Pair}
 use Rattle.rules.specs.Layout.{listed}
 use Rattle.rules.specs.Lists.{any_of, first_place}
-use Rattle.rules.specs.Reasons.{joins, touches}
+use Rattle.rules.specs.Reasons.{joins, touches, no_ends}
 use Rattle.pair_laws.specs.Sets.{In}
 use Rattle.pair_laws.specs.Settled.{shares}
 use Rattle.pair_laws.proofs.Order.{two, tf, and_left, and_right}
@@ -59,21 +59,23 @@ short_none a b (x ∷ y ∷ l) h = absurd (omega arith)
 pub meeting_none : (a b : ℕ) (l : List ℕ) (p : ℕ) → length l / 2 ≤ p → first_meeting a b (drop (p * 2) l) ≡ 0
 meeting_none a b l p h = short_none a b (drop (p * 2) l) (omega (arith, length-drop (p * 2) l))
 
-pub meets_last : (a b x y : ℕ) → (x ≡ a → ⊥) → (x ≡ b → ⊥) → (y ≡ a → ⊥) → eqb y b ≡ meets_at a b x y
-meets_last a b x y d e f = rw (ne_eqb x a d, ne_eqb x b e, ne_eqb y a f) refl
+-- ---- two numbers that are no two ends
 
--- pair p, in one order or the other
-module _ (a b p : ℕ) (l : List ℕ) where
-  pub no_pair : length l / 2 ≤ p → false ≡ joins_at a b p l
-  no_pair h = rw (le-ltb p (length l / 2) h) refl
+pub first_beyond : (d a b : ℕ) → d ≤ a → no_ends d a b ≡ true
+unfolding no_ends
+first_beyond d a b h = rw (le-ltb a d h) refl
 
-  module _ (h : p < length l / 2) where
-    pub pair_one : (eqb (get_or l (p * 2) 0) a && eqb (get_or l (p * 2 + 1) 0) b) ≡ true → true ≡ joins_at a b p l
-    pair_one e = rw (lt-ltb p (length l / 2) h, e) refl
+pub second_beyond : (d a b : ℕ) → d ≤ b → no_ends d a b ≡ true
+unfolding no_ends
+second_beyond d a b h = go (ltb a d)
+  where
+    go : (t : Bool) → (not t || (not (ltb b d) || eqb a b)) ≡ true
+    go true = rw (le-ltb b d h) refl
+    go false = refl
 
-    pub pair_other : (eqb (get_or l (p * 2) 0) a && eqb (get_or l (p * 2 + 1) 0) b) ≡ false
-        → (eqb (get_or l (p * 2) 0) b && eqb (get_or l (p * 2 + 1) 0) a) ≡ joins_at a b p l
-    pair_other e = rw (lt-ltb p (length l / 2) h, e) refl
+pub both_within : (d a b : ℕ) → a < d → b < d → no_ends d a b ≡ eqb a b
+unfolding no_ends
+both_within d a b h k = rw (lt-ltb a d h, lt-ltb b d k) refl
 
 -- ---- the listed pairs
 

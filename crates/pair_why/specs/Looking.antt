@@ -2,8 +2,8 @@
 use Rattle.std.specs.Prelude.{ℕ, suc, ◌+◌, ◌*◌, ◌/◌, ◌≤◌, ◌<◌, ◌≡◌, Bool, true, false, ◌&&◌, ◌||◌, List, [], ◌∷◌, T, eqb, ltb, Float, length, get_or}
 use Rattle.std.specs.Float.{nan, binary64}
 use Rattle.std.specs.Float.Ieee.{fits}
-use Rattle.rules.specs.declared.Answer.{Answer}
-use Rattle.rules.specs.declared.Direction.{Direction}
+use Rattle.rules.specs.Answers.{Answer}
+use Rattle.rules.specs.Answers.{Direction}
 use Rattle.rules.specs.Selecting.{select}
 use Rattle.rules.specs.Layout.{given, ends, listed}
 use Rattle.rules.specs.Refusals.{LentEnds, most_ends}

@@ -6,8 +6,8 @@ use Prim.Native.Nat.{ℕ}
 use lib.IntN.{pos, negsuc}
 use lib.Ieee.{fin, neg, eq, lt, add, sub, mul}
 use Rattle.rules.specs.Root.{root}
-use Rattle.rules.specs.declared.Direction.{Direction}
-use Rattle.rules.specs.declared.Direction.TheVariants.{Absent, Toward}
+use Rattle.rules.specs.Answers.{Direction}
+use Rattle.rules.specs.Answers.{Absent, Toward}
 use Rattle.rules.specs.Plane.{nought, unity, points, toward, direction_of}
 use Rattle.rules.proofs.Computing.{book}
 use Rattle.point_direction.specs.Seen.{seen}

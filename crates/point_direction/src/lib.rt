@@ -16,9 +16,9 @@ fn toward(dx: f64, dy: f64) -> Direction
 {
     let length = float_root::root(dx * dx + dy * dy);
     if length > 0.0 {
-        Direction::Toward(dx / length, dy / length)
+        Some((dx / length, dy / length))
     } else {
-        Direction::Absent
+        None
     }
 }
 
@@ -32,13 +32,16 @@ fn between(px: u64, py: u64, qx: u64, qy: u64) -> Direction
     )
 }
 
+// The searches from either end stay two: they differ in where they begin, in the sign of the step and in the test for the end. The step is a point's
+// numbers: `chunks_exact` divides by it, and of `rchunks_exact` no clause tells what it yields.
+
 // From the first point, to the nearest later one that differs.
 fn from_first(c: &[u64], width: usize) -> Direction
     requires { (2 ≤ width) × Whole width c.now }
     ensures { result ≡ direction_of (points width c.now) }
 {
     if c.len() < width {
-        return Direction::Absent;
+        return None;
     }
     let x = c[0];
     let y = c[1];
@@ -51,7 +54,7 @@ fn from_first(c: &[u64], width: usize) -> Direction
         }
         i += width;
     }
-    Direction::Absent
+    None
 }
 
 // From the last point, to the nearest earlier one that differs.
@@ -60,7 +63,7 @@ fn from_last(c: &[u64], width: usize) -> Direction
     ensures { result ≡ direction_of (reverse (points width c.now)) }
 {
     if c.len() < width {
-        return Direction::Absent;
+        return None;
     }
     let mut i = c.len() - width;
     let x = c[i];
@@ -73,7 +76,7 @@ fn from_last(c: &[u64], width: usize) -> Direction
             return between(x, y, a, b);
         }
     }
-    Direction::Absent
+    None
 }
 
 // At a side of a piece of points of a width: 0 is its first point, and any other number its last.

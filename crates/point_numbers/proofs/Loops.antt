@@ -7,12 +7,17 @@ use mathlib.Core.List.{List}
 use native.Mathlib.Omega.{arith}
 use native.Mathlib.Nat.{add-zero, zero-mul, suc-mul, div-mul-le_self}
 use borrow.Author.Tests.{leb-true, le-leb, lt-leb, eq-eqb, ne_eqb}
+use mir.Val.{bool_byte}
 use lib.Dec.{leb, eqb}
 use lib.ListN.{length, get_or, take, drop}
 use Rattle.rules.specs.Lists.{one}
 use Rattle.rules.specs.Plane.{Point, point, point_of, reads, points, flat}
 use Rattle.rules.specs.Layout.{loop}
 use Rattle.point_numbers.proofs.Points.{at_x, at_y, flat_length, flat_x, flat_y, reads_length, reads_at, points_exact, points_length, points_at}
+
+byte_one : (b : Bool) → bool_byte b ≡ one b
+byte_one true = refl
+byte_one false = refl
 
 module _ (w : ℕ) (part : List ℕ) (two : 2 ≤ w) where
   -- fewer than three points are none
@@ -36,16 +41,14 @@ module _ (w : ℕ) (part : List ℕ) (two : 2 ≤ w) where
     by_numbers =
         simp (points_length, points_at w part 0 (point 0 0) (omega arith), points_at w part (length part / w - 1) (point 0 0) (omega arith), zero-mul, at_x w two, at_y w two, le-leb 3 (length part / w) three)
 
-    pub other_x : (get_or part 0 0 ≡ get_or part ((length part / w - 1) * w) 0 → ⊥) → 0 ≡ one (loop (points w part))
-    other_x h = simp (by_numbers, ne_eqb (get_or part 0 0) (get_or part last 0) h)
+    -- the mark r of the two tests: of equal x it is the test of y, and of others none
+    pub mark_y : (r : Bool) → get_or part 0 0 ≡ get_or part ((length part / w - 1) * w) 0
+        → r ≡ eqb (get_or part 1 0) (get_or part ((length part / w - 1) * w + 1) 0) → bool_byte r ≡ one (loop (points w part))
+    mark_y r e h = byte_one r ∙ ap one (h ∙ sym (simp (by_numbers, eq-eqb (get_or part 0 0) (get_or part last 0) e)))
 
-    pub other_y : get_or part 0 0 ≡ get_or part ((length part / w - 1) * w) 0
-        → (get_or part 1 0 ≡ get_or part ((length part / w - 1) * w + 1) 0 → ⊥) → 0 ≡ one (loop (points w part))
-    other_y e h = simp (by_numbers, eq-eqb (get_or part 0 0) (get_or part last 0) e, ne_eqb (get_or part 1 0) (get_or part (last + 1) 0) h)
-
-    pub same_ends : get_or part 0 0 ≡ get_or part ((length part / w - 1) * w) 0
-        → get_or part 1 0 ≡ get_or part ((length part / w - 1) * w + 1) 0 → 1 ≡ one (loop (points w part))
-    same_ends e f = simp (by_numbers, eq-eqb (get_or part 0 0) (get_or part last 0) e, eq-eqb (get_or part 1 0) (get_or part (last + 1) 0) f)
+    pub mark_x : (r : Bool) → (get_or part 0 0 ≡ get_or part ((length part / w - 1) * w) 0 → ⊥)
+        → r ≡ eqb (get_or part 0 0) (get_or part ((length part / w - 1) * w) 0) → bool_byte r ≡ one (loop (points w part))
+    mark_x r n h = byte_one r ∙ ap one (h ∙ ne_eqb (get_or part 0 0) (get_or part last 0) n ∙ sym (simp (by_numbers, ne_eqb (get_or part 0 0) (get_or part last 0) n)))
 
 -- ---- points written and read again, whatever their extras
 

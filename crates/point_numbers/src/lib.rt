@@ -7,33 +7,23 @@ ghost use Rattle.rules.specs.Lists.{one};
 ghost use Rattle.rules.specs.Plane.{point, points, equal as EqualOf};
 ghost use Rattle.rules.specs.Layout.{loop};
 
-// How many numbers a coordinate of a type has: two, and the extras; 0 for a number that is no type.
+// How many numbers a coordinate of a type has: two, and the extras; 0 for a number that is no type, as the book's `width_of` has it.
 pub fn width_of(wkb_type: u32) -> usize
     ensures { (result ≡ width_of wkb_type) × (result ≤ 4) }
 {
-    if wkb_type == 2 {
-        return 2;
+    match wkb_type {
+        2 => 2,
+        1002 | 2002 => 3,
+        3002 => 4,
+        _ => 0,
     }
-    if wkb_type == 1002 {
-        return 3;
-    }
-    if wkb_type == 2002 {
-        return 3;
-    }
-    if wkb_type == 3002 {
-        return 4;
-    }
-    0
 }
 
 // Whether the points (ax, ay) and (bx, by) are equal by `==`: the zeros are one number, and a NaN equals nothing.
 pub fn equal(ax: u64, ay: u64, bx: u64, by: u64) -> bool
     ensures { result ≡ EqualOf (point ax ay) (point bx by) }
 {
-    if float_bits::same(ax, bx) {
-        return float_bits::same(ay, by);
-    }
-    false
+    float_bits::same(ax, bx) && float_bits::same(ay, by)
 }
 
 // 1 if the points of `part`, of so many numbers each, are a loop, else 0: at least three, the first and the last with the same bits in x and y.
@@ -46,11 +36,5 @@ pub fn loop_mark(part: &[u64], width: usize) -> u32
         return 0;
     }
     let last = (count - 1) * width;
-    if part[0] != part[last] {
-        return 0;
-    }
-    if part[1] != part[last + 1] {
-        return 0;
-    }
-    1
+    (part[0] == part[last] && part[1] == part[last + 1]) as u32
 }

@@ -294,3 +294,20 @@ pub part_then : {d' d l : List ℕ} {at i n : ℕ} (src : List ℕ) (j w : ℕ) 
 part_then {d'} {d} {l} {at} {i} {n} src j w a h b e =
     subst (λ (m : ℕ). HoldsFrom d' l at m (take m (drop j src))) e
     (subst (HoldsFrom d' l at (i + n)) (sym (take-add i n (drop j src) ∙ ap (λ (t : List ℕ). take i (drop j src) ++ take n t) (drop-drop i j src))) (from_then a h b))
+
+-- ---- a slice cut in two: the part before `from` is written with the first n numbers of the other
+pub down_held : (l d f b : List ℕ) (from at n : ℕ) → at + n ≤ from → from + n ≤ length l → f ≡ take from l → b ≡ drop from l
+    → HoldsFrom d f at (length (take n b)) (take n b) → HoldsFrom (d ++ b) l at n (slice from (from + n) l)
+down_held l d f b from at n h k e g s =
+    let q : slice from (from + n) l ≡ take n b = slice_part from n l ∙ ap (take n) (sym g) in
+    let m : length (take n b) ≡ n = ap length (sym q) ∙ part_length from n l k in
+    let front : take at f ≡ take at l = ap (take at) e ∙ take-take at from l (omega arith) in
+    let beyond : drop (at + length (take n b)) f ++ b ≡ drop (at + n) l =
+    ap₂ (λ (t u : List ℕ). drop (at + length (take n b)) t ++ u) e g ∙ ap (λ (x : ℕ). drop (at + x) (take from l) ++ drop from l) m
+    ∙ sym (drop-append-le (at + n) (take from l) (drop from l) (omega (arith, length-take-le from l (omega arith)))) ∙ ap (drop (at + n)) (take-append-drop from l) in
+    record {
+      count = sym (ap length q ∙ m);
+      list = ap (λ (t : List ℕ). t ++ b) s.list
+          ∙ append_assoc (take at f) (take n b ++ drop (at + length (take n b)) f) b
+          ∙ ap₂ (λ (x y : List ℕ). x ++ y) front (append_assoc (take n b) (drop (at + length (take n b)) f) b ∙ ap₂ (λ (x y : List ℕ). x ++ y) (sym q) beyond);
+    }

@@ -7,9 +7,12 @@ use native.Mathlib.Nat.{le_of_suc-le-suc, not-suc-le-zero}
 use native.Mathlib.Decide.{dec_lt}
 use lib.Bits.{bit_or, or_add_and, and_le_l, and_le_r}
 use lib.ListN.{length, take, drop, get_or, replicate, take-append-drop, length-drop, replicate-append-replicate}
-use lib.Seq.{drop-drop, get_or-drop}
+use lib.Seq.{drop-drop, get_or-drop, get_or-take, length-take-le}
+use lib.Dec.{eqb}
+use borrow.Author.Tests.{eqb-true, eqb-false}
+use Rattle.std.specs.Prelude.{fold}
 use Rattle.rules.specs.Calls.{cleared}
-use Rattle.point_slices.specs.Holds.{HoldsFrom}
+use Rattle.point_slices.specs.Holds.{HoldsFrom, Blanks}
 use Rattle.point_slices.proofs.Laws.{from_then}
 
 -- ---- numbers that are zero
@@ -17,30 +20,56 @@ use Rattle.point_slices.proofs.Laws.{from_then}
 or_none : (a b : ℕ) → bit_or a b ≡ 0 → (a ≡ 0) × (b ≡ 0)
 or_none a b e = (omega (arith, or_add_and a b, and_le_l a b, and_le_r a b), omega (arith, or_add_and a b, and_le_l a b, and_le_r a b))
 
+or_left_none : (a b : ℕ) → a ≡ 0 → bit_or a b ≡ b
+or_left_none a b e = omega (arith, or_add_and a b, and_le_l a b, and_le_r a b)
+
+-- numbers are zero where what they make together is, and one of them is not where it is not
+together : ℕ → List ℕ → ℕ
+together a l = fold bit_or a l
+
+all_none : (l : List ℕ) (a : ℕ) → together a l ≡ 0 → (a ≡ 0) × ((j : ℕ) → j < length l → get_or l j 0 ≡ 0)
+unfolding together
+all_none [] a e = (e, λ j h. absurd (not-suc-le-zero h))
+all_none (x ∷ l) a e =
+    let t = all_none l (bit_or a x) e in
+    let n = or_none a x t.0 in
+    (n.0, λ j h. at j h n.1 t.1)
+  where
+    at : (j : ℕ) → j < suc (length l) → x ≡ 0 → ((j : ℕ) → j < length l → get_or l j 0 ≡ 0) → get_or (x ∷ l) j 0 ≡ 0
+    at zero h z t = z
+    at (suc j) h z t = t j (le_of_suc-le-suc h)
+
+some_other : (l : List ℕ) (a : ℕ) → (together a l ≡ 0 → ⊥) → a ≡ 0 → (j : ℕ) × (j < length l) × (get_or l j 0 ≡ 0 → ⊥)
+unfolding together
+some_other [] a n z = absurd (n z)
+some_other (x ∷ l) a n z =
+    elim (dec_lt 0 x) [
+      | yes h ↦ (0, omega arith, λ e. absurd (omega arith))
+      | no h ↦
+          let o : x ≡ 0 = omega arith in
+          let t = some_other l (bit_or a x) n (or_left_none a x z ∙ o) in
+          (suc t.0, omega (arith, t.1), t.2)
+    ]
+
 -- k numbers from i on
 abbrev pub Blank : List ℕ → ℕ → ℕ → Type 0
 Blank w i k = (j : ℕ) → j < k → get_or w (i + j) 0 ≡ 0
 
-pub blank_more : (w : List ℕ) (i k any : ℕ) → (any ≡ 0 → Blank w i k) → bit_or any (get_or w (i + k) 0) ≡ 0 → Blank w i (k + 1)
-blank_more w i k any b e j h =
-    elim (dec_lt j k) [
-      | yes l ↦ b (or_none any (get_or w (i + k) 0) e).0 j l
-      | no l ↦ let s : j ≡ k = omega arith in ap (λ (x : ℕ). get_or w (i + x) 0) s ∙ (or_none any (get_or w (i + k) 0) e).1
-    ]
+module _ (w : List ℕ) (i : ℕ) (room : i + 32 ≤ length w) where
+  long : length (take 32 (drop i w)) ≡ 32
+  long = length-take-le 32 (drop i w) (simp length-drop (omega arith))
 
--- one of k numbers from i on is not zero
-abbrev pub Other : List ℕ → ℕ → ℕ → Type 0
-Other w i k = (j : ℕ) × (j < k) × (get_or w (i + j) 0 ≡ 0 → ⊥)
+  there : (j : ℕ) → j < 32 → get_or (take 32 (drop i w)) j 0 ≡ get_or w (i + j) 0
+  there j h = get_or-take 32 (drop i w) j 0 h ∙ get_or-drop i w j 0
 
-or_left_none : (a b : ℕ) → a ≡ 0 → bit_or a b ≡ b
-or_left_none a b e = omega (arith, or_add_and a b, and_le_l a b, and_le_r a b)
-
-pub other_more : (w : List ℕ) (i k any : ℕ) → ((any ≡ 0 → ⊥) → Other w i k) → (bit_or any (get_or w (i + k) 0) ≡ 0 → ⊥) → Other w i (k + 1)
-other_more w i k any b e =
-    elim (dec_lt 0 any) [
-      | yes l ↦ let t = b (λ z. absurd (omega arith)) in (t.0, omega (arith, t.1), t.2)
-      | no l ↦ let s : any ≡ 0 = omega arith in (k, omega arith, λ z. e (or_left_none any (get_or w (i + k) 0) s ∙ z))
-    ]
+  pub blanks : (n r : ℕ) → n ≡ 32 → r ≡ fold bit_or 0 (take n (drop i w)) → Blanks w i 32 (eqb r 0)
+  unfolding together
+  blanks n r s f = let e : r ≡ fold bit_or 0 (take 32 (drop i w)) = f ∙ ap (λ (m : ℕ). fold bit_or 0 (take m (drop i w))) s in record {
+    zeros = λ z j h. sym (there j h) ∙ (all_none (take 32 (drop i w)) 0 (sym e ∙ eqb-true r 0 z)).1 j (omega (arith, long));
+    other = λ n. let t = some_other (take 32 (drop i w)) 0 (λ z. eqb-false r 0 n (e ∙ z)) refl in
+        let h : t.0 < 32 = omega (arith, t.1, long) in
+        (t.0, h, λ z. t.2 (there t.0 h ∙ z));
+  }
 
 zero_run : (l : List ℕ) (k : ℕ) → k ≤ length l → ((j : ℕ) → j < k → get_or l j 0 ≡ 0) → l ≡ replicate k 0 ++ drop k l
 zero_run l zero h z = refl

@@ -2,7 +2,7 @@
 // A point is `width` numbers in their 64 bits: x, y and its extras.
 #![tactic(auto)]
 
-ghost use Rattle.std.specs.Prelude.{◌≡◌, true, false, [], ◌∷◌, reverse, ◌+◌, ◌≤◌, ◌<◌, length, take, drop, replicate};
+ghost use Rattle.std.specs.Prelude.{◌≡◌, true, false, [], ◌∷◌, reverse, ◌+◌, ◌≤◌, ◌<◌, length, take, drop, replicate, fold, bit_or};
 ghost use Rattle.std.proofs.Math.Seq.{slice};
 ghost use Rattle.rules.specs.Calls.{cleared};
 ghost use Rattle.rules.specs.Plane.{point};
@@ -10,23 +10,24 @@ ghost use Rattle.point_numbers.specs.Width.{point_at, Whole};
 ghost use Rattle.point_slices.specs.Holds.{Holds, HoldsFrom, Blanks};
 ghost use Rattle.point_slices.specs.Run.{laid, walked, Near, Pushed};
 
-// The weight of a number's sign.
-const SIGN: u64 = 0x8000_0000_0000_0000;
+use float_bits::SIGN;
 
 // From so many numbers on a room is more than the nearest cache, and beyond so many more than the next one.
 const NEAR: usize = 8192;
 
 const FAR: usize = 262144;
 
+// Points of two numbers and points of more have loops of their own: loops for any width took 1.6 times the instructions with heights
+// (docs/landings/25-quicker-leaves.md). Forward and backward stay two: they differ in where they begin, in the sign of the step and in the test for the end.
+// The step is a point's numbers: `chunks_exact` divides by it, and of `rchunks_exact` no clause tells what it yields.
+
 // The point x, y behind the first `have` numbers, unless it is equal to the last one there. Returns how many numbers there are.
 fn push_two(rest: &mut [u64], have: usize, x: u64, y: u64) -> usize
     requires { have + 2 ≤ length rest.old }
     ensures { Holds rest.new rest.old result (laid 2 (take have rest.old) (point x y ∷ [])) }
 {
-    if 2 <= have {
-        if point_numbers::equal(rest[have - 2], rest[have - 1], x, y) {
-            return have;
-        }
+    if 2 <= have && point_numbers::equal(rest[have - 2], rest[have - 1], x, y) {
+        return have;
     }
     rest[have] = x;
     rest[have + 1] = y;
@@ -182,16 +183,12 @@ pub fn append_run(rest: &mut [u64], have: usize, width: usize, src: &[u64], turn
     requires { (2 ≤ width) × Whole width src.now × (have + length src.now ≤ length rest.old) }
     ensures { Holds rest.new rest.old result (laid width (take have rest.old) (walked width turned src.now)) }
 {
-    if width == 2 {
-        if turned {
-            return backward_two(rest, have, src);
-        }
-        return forward_two(rest, have, src);
+    match (width == 2, turned) {
+        (true, true) => backward_two(rest, have, src),
+        (true, false) => forward_two(rest, have, src),
+        (false, true) => backward_high(rest, have, width, src),
+        (false, false) => forward_high(rest, have, width, src),
     }
-    if turned {
-        return backward_high(rest, have, width, src);
-    }
-    forward_high(rest, have, width, src)
 }
 
 // `src` into `dst` from `at` on.
@@ -199,11 +196,7 @@ pub fn copy_into(dst: &mut [u64], at: usize, src: &[u64])
     requires { at + length src.now ≤ length dst.old }
     ensures { HoldsFrom dst.new dst.old at (length src.now) src.now }
 {
-    let mut i = 0;
-    while i < src.len() {
-        dst[at + i] = src[i];
-        i += 1;
-    }
+    dst[at..at + src.len()].copy_from_slice(src);
 }
 
 // The n numbers from `from` on, again from `at` on, which lies before them.
@@ -211,11 +204,8 @@ pub fn copy_down(w: &mut [u64], from: usize, at: usize, n: usize)
     requires { (at + n ≤ from) × (from + n ≤ length w.old) }
     ensures { HoldsFrom w.new w.old at n (slice from (from + n) w.old) }
 {
-    let mut i = 0;
-    while i < n {
-        w[at + i] = w[from + i];
-        i += 1;
-    }
+    let (front, back) = w.split_at_mut(from);
+    copy_into(front, at, &back[..n]);
 }
 
 // The n numbers from `from` on, the last first, from `at` on, which lies before them.
@@ -223,10 +213,8 @@ pub fn copy_back(w: &mut [u64], from: usize, at: usize, n: usize)
     requires { (at + n ≤ from) × (from + n ≤ length w.old) }
     ensures { HoldsFrom w.new w.old at n (reverse (slice from (from + n) w.old)) }
 {
-    let mut i = 0;
-    while i < n {
+    for i in 0..n {
         w[at + i] = w[from + (n - 1 - i)];
-        i += 1;
     }
 }
 
@@ -235,11 +223,14 @@ pub fn fill_from(w: &mut [u64], at: usize, n: usize, v: u64)
     requires { at + n ≤ length w.old }
     ensures { HoldsFrom w.new w.old at n (replicate n v) }
 {
-    let mut i = 0;
-    while i < n {
-        w[at + i] = v;
-        i += 1;
-    }
+    w[at..at + n].fill(v);
+}
+
+// What some numbers make together, bit by bit.
+fn together(part: &[u64]) -> u64
+    ensures { result ≡ fold bit_or 0 part.now }
+{
+    part.iter().fold(0, |any, x| any | *x)
 }
 
 // Whether the 32 numbers from i on are zero.
@@ -247,13 +238,7 @@ fn blank(w: &[u64], i: usize) -> bool
     requires { i + 32 ≤ length w.now }
     ensures { Blanks w.now i 32 result }
 {
-    let mut any: u64 = 0;
-    let mut k: usize = 0;
-    while k < 32 {
-        any = any | w[i + k];
-        k += 1;
-    }
-    any == 0
+    together(&w[i..i + 32]) == 0
 }
 
 // Zero in the 32 numbers from i on. Where they are, nothing is written.
@@ -261,10 +246,9 @@ fn wipe(w: &mut [u64], i: usize)
     requires { i + 32 ≤ length w.old }
     ensures { HoldsFrom w.new w.old i 32 (replicate 32 0) }
 {
-    if blank(w, i) {
-        return;
+    if !blank(w, i) {
+        fill_from(w, i, 32, 0);
     }
-    fill_from(w, i, 32, 0);
 }
 
 // Zero in the first n numbers, but for fewer than 32 at the end. Returns how many are zero.
@@ -272,12 +256,11 @@ fn wipe_all(w: &mut [u64], n: usize) -> usize
     requires { n ≤ length w.old }
     ensures { (result ≤ n) × (n < result + 32) × HoldsFrom w.new w.old 0 result (replicate result 0) }
 {
-    let mut i = 0;
-    while i + 32 <= n {
-        wipe(w, i);
-        i += 32;
+    let many = n / 32;
+    for k in 0..many {
+        wipe(w, k * 32);
     }
-    i
+    many * 32
 }
 
 // Zero in the first n numbers; beyond them as before. A room that is read faster than it is written, and has few numbers that are not zero, is read.
@@ -285,11 +268,7 @@ pub fn clear(w: &mut [u64], n: usize)
     requires { n ≤ length w.old }
     ensures { w.new ≡ cleared n w.old }
 {
-    if n < NEAR {
-        fill_from(w, 0, n, 0);
-        return;
-    }
-    if FAR < n {
+    if n < NEAR || FAR < n {
         fill_from(w, 0, n, 0);
         return;
     }

@@ -1,7 +1,7 @@
 -- 01, Ends and Direction: points, the keys that group ends, directions, and the measure of a pair.
 -- A coordinate is its 64 bits: a NaN keeps its payload, and the exact key is the bits.
 use Rattle.std.specs.Prelude.{◌/◌, ◌&&◌, ◌∷◌, ◌++◌}
-use Rattle.rules.specs.Library.{ℕ, zero, suc, Bool, true, false, not, cond, List, [], length, get_or, take, drop, replicate, none, some, eqb, ℤ, pos, negsuc, Float, fin, binary64, of_bits, add, sub, mul, div, lt, eq, Direction, Absent, Toward, Grid, Exact, Cells}
+use Rattle.rules.specs.Library.{ℕ, zero, suc, Bool, true, false, not, cond, List, [], length, get_or, take, drop, replicate, none, some, Some, eqb, ℤ, pos, negsuc, Float, fin, binary64, of_bits, add, sub, mul, div, lt, eq, Direction, Absent, Toward, Grid, Exact, Cells}
 use Rattle.rules.specs.Lists.{first}
 use Rattle.rules.specs.Root.{root}
 use Rattle.rules.specs.Cell.{cell}
@@ -70,7 +70,7 @@ cell_key tolerance ox oy g p = key g (cell tolerance ox p.x) (cell tolerance oy 
 -- the key that a round's grid gives to a point of a group
 unfoldable pub key_of : Grid → ℕ → Point → Key
 key_of Exact g p = exact_key g p
-key_of (Cells tolerance ox oy) g p = cell_key tolerance ox oy g p
+key_of (Some m) g p = cell_key m.tolerance m.origin_x m.origin_y g p
 
 -- ---- directions
 abbrev pub nought : Float

@@ -9,7 +9,7 @@ use lib.Dec.{eqb, ltb}
 use borrow.Author.Tests.{eqb-true, ne_eqb, ltb-false}
 use Rattle.rules.specs.Lists.{total}
 use Rattle.rules.specs.Refusals.{first_of}
-use Rattle.rules.specs.declared.Answer.TheVariants.{Accepted, Refused}
+use Rattle.rules.specs.Answers.{Accepted, Refused}
 use Rattle.rules.specs.Calls.{unless, answer_of, written}
 use Rattle.rules.specs.Wkb.{records_of, run_type, records_refusal, run_refusal, coordinates_of, LentRun, lent_records, read_refusal_of, Read}
 use Rattle.wkb_records.proofs.Records.{run_numbers}
@@ -99,9 +99,6 @@ module _ (i : LentRun) where
 
 -- ---- the tests of the rooms, one by one
 
-pub short_first : (a b : Bool) → a ≡ true → a || b ≡ true
-short_first a b e = rw e
-
 pub short_neither : (a b : Bool) → a ≡ false → b ≡ false → a || b ≡ false
 short_neither a b e f = rw (e, f)
 
@@ -117,6 +114,3 @@ pub tell_one : (t v : ℕ) (l : List ℕ) → 1 ≤ length l → v ≡ t → set
 unfolding written
 tell_one t v [] n e = absurd (omega arith)
 tell_one t v (x ∷ l) n e = ap (λ (a : ℕ). a ∷ l) e
-
-pub or_passed : (a b : Bool) → a ≡ false → a || b ≡ b
-or_passed a b e = rw e

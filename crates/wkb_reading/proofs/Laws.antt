@@ -1,19 +1,24 @@
 -- Laws of reading: sums, the tests of a record, and one more record of a run.
-use Prim.Native.Nat.{ℕ, ◌+◌, ◌-◌, ◌*◌, ◌≤◌, ◌<◌}
-use mathlib.Core.Path.{◌≡◌, refl, sym, ap, ◌∙◌}
+use Prim.Native.Nat.{ℕ, zero, suc, ◌+◌, ◌-◌, ◌*◌, ◌/◌, ◌≤◌, ◌<◌}
+use mathlib.Core.Path.{◌≡◌, refl, sym, ap, ap₂, ◌∙◌}
 use mathlib.Core.Bool.{Bool, true, false, not}
-use mathlib.Core.List.{List, [], ◌∷◌}
+use mathlib.Core.List.{List, [], ◌∷◌, ◌++◌, map}
 use native.Mathlib.Omega.{arith}
 use native.Mathlib.Numerals.{add-one}
-use lib.ListN.{length, take, drop, get_or, drop_of_length-le}
-use lib.Seq.{drop-cons, length-take-le}
+use lib.ListN.{length, take, drop, get_or, drop_of_length-le, length-drop}
+use lib.Seq.{drop-cons, length-take-le, take_all}
 use lib.Dec.{eqb, ltb}
 use borrow.Author.Tests.{eqb-true, eqb-false, eq-eqb, ne_eqb, lt-ltb, le-ltb}
+use Rattle.std.specs.Prelude.{Some, None, slice_get}
+use Rattle.std.specs.Simd.{first_chunks}
+use Rattle.std.proofs.lemmas.List.{take_more, map-append}
+use Rattle.wkb_records.specs.Orders.{order_of, number_in}
+use Rattle.wkb_records.proofs.Bytes.{by_order}
 use Rattle.rules.specs.Lists.{total}
 use Rattle.build_refusals.proofs.Laws.{Left}
 use Rattle.wkb_records.proofs.Records.{records_step, records_none, refusal_pass, refusal_stop}
 use Rattle.rules.specs.Types.{width_of}
-use Rattle.rules.specs.Wkb.{byte_order, type_of, count_of, records_of, run_type, record_refusal, records_refusal}
+use Rattle.rules.specs.Wkb.{doubles_by, doubles_of, byte_order, type_of, count_of, records_of, run_type, record_refusal, records_refusal}
 
 -- the part from f to f + c has c elements
 pub part_is : (l : List ℕ) (f c : ℕ) → take (f + c - f) (drop f l) ≡ take c (drop f l)
@@ -111,3 +116,34 @@ unfolding run_type
 type_first lengths run h s k =
     let m : length (take (get_or lengths 0 0) run) ≡ get_or lengths 0 0 = length-take-le (get_or lengths 0 0) run (omega (arith, total_drop lengths 0 h)) in
     rw (first_record lengths run h) (rw (le-ltb (length (take (get_or lengths 0 0) run)) 9 (omega arith), run_type))
+
+-- the first length, as the library gives it
+pub first_is : (l : List ℕ) (n : ℕ) → Some n ≡ slice_get l 0 → (0 < length l) × (n ≡ get_or l 0 0)
+first_is [] n e = absurd (cc)
+first_is (x ∷ l) n e = (omega arith, cc)
+
+pub first_none : (l : List ℕ) → None ≡ slice_get l 0 → length l ≡ 0
+first_none [] e = refl
+first_none (x ∷ l) e = absurd (cc)
+
+-- ---- eight bytes after eight
+
+pub chunk_more : {A B : Type 0} (f : List A → B) (l : List (List A)) (k : ℕ) → k < length l → map f (take k l) ++ (f (get_or l k []) ∷ []) ≡ map f (take (k + 1) l)
+chunk_more f l k h = sym (ap (map f) (take_more l k [] h) ∙ map-append f (take k l) (get_or l k [] ∷ []))
+
+pub chunks_doubles : (o n : ℕ) (l : List ℕ) → map (number_in (order_of o)) (first_chunks 8 n l) ≡ doubles_by o n l
+unfolding doubles_by
+chunks_doubles o zero l = refl
+chunks_doubles o (suc n) l = ap₂ (λ (a : ℕ) (r : List ℕ). a ∷ r) (by_order o (take 8 l)) (chunks_doubles o n (drop 8 l))
+
+-- all that stands behind the header
+pub chunks_are : (bytes : List ℕ) (l : List (List ℕ)) (k : ℕ) → 9 ≤ length bytes → l ≡ first_chunks 8 (length (take (length bytes - 9) (drop 9 bytes)) / 8) (take (length bytes - 9) (drop 9 bytes))
+    → length l ≡ (length bytes - 9) / 8 → (length bytes - 9) / 8 ≤ k → map (number_in (order_of (get_or bytes 0 0))) (take k l) ≡ doubles_of bytes
+unfolding doubles_of byte_order
+chunks_are bytes l k h e n b =
+    let a : take (length bytes - 9) (drop 9 bytes) ≡ drop 9 bytes = take_all (length bytes - 9) (drop 9 bytes) (omega (arith, length-drop 9 bytes)) in
+    let c : length (drop 9 bytes) ≡ length bytes - 9 = length-drop 9 bytes in
+    ap (map (number_in (order_of (get_or bytes 0 0)))) (take_all k l (omega arith) ∙ e)
+    ∙ ap (λ s. map (number_in (order_of (get_or bytes 0 0))) (first_chunks 8 (length s / 8) s)) a
+    ∙ ap (λ n. map (number_in (order_of (get_or bytes 0 0))) (first_chunks 8 (n / 8) (drop 9 bytes))) c
+    ∙ chunks_doubles (get_or bytes 0 0) ((length bytes - 9) / 8) (drop 9 bytes)

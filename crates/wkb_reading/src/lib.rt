@@ -1,95 +1,66 @@
 // WKB in: a run of records and the table of their lengths, to coordinates and counts. All records are looked at before anything is stored.
 #![tactic(auto)]
 
-ghost use Rattle.std.specs.Prelude.{◌+◌, ◌-◌, ◌*◌, ◌/◌, ◌≤◌, ◌<◌, ◌≡◌, ◌||◌, reverse, eqb, ltb, length, take, drop, get_or};
+ghost use Rattle.std.specs.Prelude.{◌+◌, ◌-◌, ◌*◌, ◌/◌, ◌≤◌, ◌≡◌, ◌||◌, eqb, ltb, length, take, drop};
+ghost use Rattle.rules.specs.Answers.{answered, found};
 ghost use Rattle.rules.specs.Lists.{total};
-ghost use Rattle.rules.specs.Wkb.{little, number_by, byte_order, records_of, run_type, record_refusal, records_refusal, run_refusal, run_as, Read};
+ghost use Rattle.wkb_records.specs.Orders.{number_in};
+ghost use Rattle.rules.specs.Wkb.{number_by, byte_order, records_of, run_type, record_refusal, records_refusal, run_refusal, run_as, Read};
 ghost use Rattle.wkb_reading.specs.Storing.{Storable, RunStored, RecordStored};
 
-use rules::Answer;
+use rules::{Answer, Refusal};
+use wkb_records::Order;
 
 // The bytes of a record before its coordinates, and of each number there.
 const HEADER: usize = 9;
 
 const EIGHT: usize = 8;
 
-// The weight of a number's upper four bytes.
-const UPPER: u64 = 4294967296;
-
-// The byte at `at`.
-fn byte(run: &[u8], at: usize) -> u64
-    requires { at < length run.now }
-    ensures { (result ≡ get_or run.now at 0) × (result < 256) }
-{
-    run[at] as u64
-}
-
-// Four bytes from `at` on as a number, the least first.
-fn four(run: &[u8], at: usize) -> u64
-    requires { at + 4 ≤ length run.now }
-    ensures { (result ≡ little (take 4 (drop at run.now))) × (result < 4294967296) }
-{
-    byte(run, at)
-        + byte(run, at + 1) * 256
-        + byte(run, at + 2) * 65536
-        + byte(run, at + 3) * 16777216
-}
-
-// Four bytes from `at` on as a number, the greatest first.
-fn four_turned(run: &[u8], at: usize) -> u64
-    requires { at + 4 ≤ length run.now }
-    ensures { (result ≡ little (reverse (take 4 (drop at run.now)))) × (result < 4294967296) }
-{
-    byte(run, at + 3)
-        + byte(run, at + 2) * 256
-        + byte(run, at + 1) * 65536
-        + byte(run, at) * 16777216
-}
-
-// Eight bytes from `at` on as a number, in the order that is given.
-fn number(run: &[u8], at: usize, order: u8) -> u64
-    requires { at + 8 ≤ length run.now }
-    ensures { result ≡ number_by order (take 8 (drop at run.now)) }
-{
-    if order == 0 {
-        return four_turned(run, at + 4) + four_turned(run, at) * UPPER;
-    }
-    four(run, at) + four(run, at + 4) * UPPER
-}
-
 // Four bytes of a record as a number, in the record's own order.
 fn word(bytes: &[u8], at: usize) -> u32
     requires { at + 4 ≤ length bytes.now }
-    ensures { (result ≡ number_by (byte_order bytes.now) (take 4 (drop at bytes.now))) × (result < 4294967296) }
+    ensures { result ≡ number_by (byte_order bytes.now) (take 4 (drop at bytes.now)) }
 {
-    if bytes[0] == 0 {
-        return four_turned(bytes, at) as u32;
+    let four = [bytes[at], bytes[at + 1], bytes[at + 2], bytes[at + 3]];
+    match Order::of(bytes[0]) {
+        Order::Big => u32::from_be_bytes(four),
+        Order::Little => u32::from_le_bytes(four),
     }
-    four(bytes, at) as u32
 }
 
-// The refusal of one record in a run of a type, or 0.
-fn record_refusal(bytes: &[u8], wkb_type: u32) -> u64
-    ensures { result ≡ record_refusal wkb_type bytes.now }
+// Eight bytes as a number, in an order.
+#[tactic(auto, using(wkb_records::proofs::Bytes::eight_le, wkb_records::proofs::Bytes::eight_be), unfolding(wkb_records::specs::Orders::number_in))]
+fn number(eight: [u8; 8], order: Order) -> u64
+    ensures { result ≡ number_in order eight }
+{
+    match order {
+        Order::Big => u64::from_be_bytes(eight),
+        Order::Little => u64::from_le_bytes(eight),
+    }
+}
+
+// Why one record is refused in a run of a type.
+fn record_refusal(bytes: &[u8], wkb_type: u32) -> Result<(), Refusal>
+    ensures { found result ≡ record_refusal wkb_type bytes.now }
 {
     if bytes.len() < HEADER {
-        return 13;
+        return Err(Refusal::BadLength);
     }
     if 1 < bytes[0] {
-        return 11;
+        return Err(Refusal::BadByteOrder);
     }
     let own = word(bytes, 1);
     let width = point_numbers::width_of(own);
     if width == 0 {
-        return 12;
+        return Err(Refusal::BadType);
     }
     if own != wkb_type {
-        return 25;
+        return Err(Refusal::MixedTypes);
     }
     if bytes.len() as u64 != 9 + word(bytes, 5) as u64 * width as u64 * 8 {
-        return 13;
+        return Err(Refusal::BadLength);
     }
-    0
+    Ok(())
 }
 
 // Whether the lengths add up to n. The sum is taken from n, and stops where it would pass it.
@@ -97,14 +68,11 @@ fn adds_up(lengths: &[u64], n: u64) -> bool
     ensures { result ≡ eqb (total lengths.now) n }
 {
     let mut left = n;
-    let mut i = 0;
-    while i < lengths.len() {
-        let next = lengths[i];
-        if left < next {
+    for next in lengths {
+        if left < *next {
             return false;
         }
-        left -= next;
-        i += 1;
+        left -= *next;
     }
     left == 0
 }
@@ -114,33 +82,28 @@ fn run_type(run: &[u8], lengths: &[u64]) -> u32
     requires { total lengths.now ≡ length run.now }
     ensures { result ≡ run_type (records_of lengths.now run.now) }
 {
-    if lengths.len() == 0 {
+    let Some(first) = lengths.first() else {
         return 2;
-    }
-    let to = lengths[0] as usize;
+    };
+    let to = *first as usize;
     if to < HEADER {
         return 2;
     }
     word(&run[..to], 1)
 }
 
-// The refusal of the first bad record of a run, or 0.
-fn records_refusal(run: &[u8], lengths: &[u64], wkb_type: u32) -> u64
+// Why the first bad record of a run is refused.
+fn records_refusal(run: &[u8], lengths: &[u64], wkb_type: u32) -> Result<(), Refusal>
     requires { total lengths.now ≡ length run.now }
-    ensures { result ≡ records_refusal wkb_type (records_of lengths.now run.now) }
+    ensures { found result ≡ records_refusal wkb_type (records_of lengths.now run.now) }
 {
     let mut at: usize = 0;
-    let mut i = 0;
-    while i < lengths.len() {
-        let to = at + lengths[i] as usize;
-        let refused = record_refusal(&run[at..to], wkb_type);
-        if refused != 0 {
-            return refused;
-        }
+    for next in lengths {
+        let to = at + *next as usize;
+        record_refusal(&run[at..to], wkb_type)?;
         at = to;
-        i += 1;
     }
-    0
+    Ok(())
 }
 
 // The numbers of a record, from `at` on. Returns where they end.
@@ -148,14 +111,12 @@ fn store_record(bytes: &[u8], coordinates: &mut [u64], at: usize) -> usize
     requires { (9 ≤ length bytes.now) × (at + (length bytes.now - 9) / 8 ≤ length coordinates.old) }
     ensures { RecordStored bytes.now coordinates.new coordinates.old at result }
 {
-    let order = bytes[0];
-    let n = (bytes.len() - HEADER) / EIGHT;
-    let mut k = 0;
-    while k < n {
-        coordinates[at + k] = number(bytes, HEADER + k * EIGHT, order);
-        k += 1;
+    let order = Order::of(bytes[0]);
+    let (eights, _) = bytes[HEADER..].as_chunks();
+    for (k, eight) in eights.iter().enumerate() {
+        coordinates[at + k] = number(*eight, order);
     }
-    at + n
+    at + eights.len()
 }
 
 // The coordinates and counts of a run's records.
@@ -166,22 +127,20 @@ fn store(run: &[u8], lengths: &[u64], coordinates: &mut [u64], counts: &mut [u32
 {
     let mut at: usize = 0;
     let mut have: usize = 0;
-    let mut i = 0;
-    while i < lengths.len() {
-        let to = at + lengths[i] as usize;
+    for (i, next) in lengths.iter().enumerate() {
+        let to = at + *next as usize;
         counts[i] = word(&run[at..to], 5);
         have = store_record(&run[at..to], coordinates, have);
         at = to;
-        i += 1;
     }
 }
 
-// The refusal of a run, or 0: the lengths before any record.
-fn run_refusal(run: &[u8], lengths: &[u64]) -> u64
-    ensures { result ≡ run_refusal run.now lengths.now }
+// Why a run is refused: the lengths before any record.
+fn run_refusal(run: &[u8], lengths: &[u64]) -> Result<(), Refusal>
+    ensures { found result ≡ run_refusal run.now lengths.now }
 {
     if !adds_up(lengths, run.len() as u64) {
-        return 13;
+        return Err(Refusal::BadLength);
     }
     let wkb_type = run_type(run, lengths);
     records_refusal(run, lengths, wkb_type)
@@ -198,13 +157,7 @@ fn room_short(
     requires { records * 9 ≤ run }
     ensures { result ≡ ltb coordinates ((run - records * 9) / 8) || (ltb counts records || ltb wkb_type 1) }
 {
-    if coordinates < (run - records * HEADER) / EIGHT {
-        return true;
-    }
-    if counts < records {
-        return true;
-    }
-    wkb_type < 1
+    coordinates < (run - records * HEADER) / EIGHT || (counts < records || wkb_type < 1)
 }
 
 // Reads a run of records of one type, in the byte orders that they have: the number of records. A refused call changes no slice.
@@ -216,12 +169,9 @@ pub fn read(
     wkb_type: &mut [u32],
 ) -> Answer
     ensures { Read (run_as run.now lengths.now coordinates.old counts.old wkb_type.old)
-        result coordinates.new counts.new wkb_type.new }
+        (answered result) coordinates.new counts.new wkb_type.new }
 {
-    let refused = run_refusal(run, lengths);
-    if refused != 0 {
-        return Answer::Refused(refused);
-    }
+    run_refusal(run, lengths)?;
     if room_short(
         run.len(),
         lengths.len(),
@@ -229,9 +179,9 @@ pub fn read(
         counts.len(),
         wkb_type.len(),
     ) {
-        return Answer::Refused(14);
+        return Err(Refusal::RecordRoomTooShort);
     }
     store(run, lengths, coordinates, counts);
     wkb_type[0] = run_type(run, lengths);
-    Answer::Accepted(lengths.len() as u64)
+    Ok(lengths.len() as u64)
 }

@@ -9,8 +9,8 @@ use lib.Seq.{take_at, drop_at}
 use lib.Dec.{eqb, ltb}
 use borrow.Author.Tests.{eqb-true, eqb-false, ne_eqb, le-ltb}
 use Rattle.rules.specs.Lists.{total, from}
-use Rattle.rules.specs.declared.Answer.{Answer}
-use Rattle.rules.specs.declared.Answer.TheVariants.{Accepted}
+use Rattle.rules.specs.Answers.{Answer}
+use Rattle.rules.specs.Answers.{Accepted}
 use Rattle.rules.specs.Calls.{unless, answer_of, written}
 use Rattle.rules.specs.Types.{width_of}
 use Rattle.rules.specs.Wkb.{any_missing, run_type, records_refusal, records_of, coordinates_of, counts_of, run_refusal, LentRun, lent_records, read_refusal_of, Read, LentChains, chain_record, chains_as, run_of, lengths_of, write_refusal_of, Wrote}

@@ -1,8 +1,8 @@
 -- What the two round trips speak of: numbers that fit their types, a table that names the records of a run, and what each trip gives back.
 use Rattle.std.specs.Prelude.{ℕ, suc, ◌+◌, ◌≤◌, ◌<◌, ◌≡◌, length, take, drop, get_or}
 use mathlib.Core.List.{List, [], ◌∷◌, map, flat_map}
-use Rattle.rules.specs.declared.Answer.{Answer}
-use Rattle.rules.specs.declared.Answer.TheVariants.{Accepted}
+use Rattle.rules.specs.Answers.{Answer}
+use Rattle.rules.specs.Answers.{Accepted}
 use Rattle.rules.specs.Lists.{from}
 use Rattle.rules.specs.Refusals.{entry}
 use Rattle.rules.specs.Calls.{viewed, written}

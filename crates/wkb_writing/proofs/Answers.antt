@@ -1,5 +1,5 @@
 -- What a writing call answers: refused by one of its tests, or accepted with everything written.
-use Prim.Native.Nat.{ℕ, zero, suc, ◌+◌, ◌-◌, ◌*◌, ◌≤◌}
+use Prim.Native.Nat.{ℕ, zero, suc, ◌+◌, ◌*◌, ◌≤◌}
 use mathlib.Core.Path.{◌≡◌, refl, sym, ap, ◌∙◌}
 use mathlib.Core.Bool.{Bool, true, false, ◌||◌}
 use mathlib.Core.List.{List, [], ◌∷◌, flat_map}
@@ -8,7 +8,7 @@ use lib.ListN.{length, length-append}
 use lib.Dec.{eqb, ltb}
 use Rattle.rules.specs.Lists.{from}
 use Rattle.rules.specs.Refusals.{no_chain, entry, record_size}
-use Rattle.rules.specs.declared.Answer.TheVariants.{Accepted, Refused}
+use Rattle.rules.specs.Answers.{Accepted, Refused}
 use Rattle.rules.specs.Calls.{viewed, unless, answer_of}
 use Rattle.build_refusals.proofs.Laws.{Left}
 use Rattle.build_question.proofs.Laws.{stands}
@@ -63,12 +63,15 @@ run_long i e = bytes_are i 0 i.number e
 
 -- ---- the tests, in order
 
+abbrev pub rooms_short : LentChains → Bool
+rooms_short i = ltb (length i.run) (length (run_of i)) || ltb (length i.lengths) i.number
+
 abbrev pub tests : LentChains → List (ℕ × Bool)
 tests i =
     (12, eqb (width_of i.type) 0)
     ∷ (16, ltb 1 i.order)
     ∷ (10, any_missing (width_of i.type) i.input i.merged i.table 0 i.number)
-    ∷ (14, ltb (length i.run) (length (run_of i)) || ltb (length i.lengths) i.number)
+    ∷ (14, rooms_short i)
     ∷ []
 
 pub opened : (i : LentChains) → Left (write_refusal_of i) (tests i)

@@ -1,7 +1,7 @@
 -- Chains of a table: how long the view of a chain that is there is, its record, and chains one after another.
-use Prim.Native.Nat.{ℕ, suc, ◌+◌, ◌-◌, ◌*◌, ◌≤◌, ◌<◌}
-use mathlib.Core.Path.{◌≡◌, sym, ap, ◌∙◌, subst}
-use mathlib.Core.Bool.{true, false}
+use Prim.Native.Nat.{ℕ, zero, suc, ◌+◌, ◌-◌, ◌*◌, ◌≤◌, ◌<◌}
+use mathlib.Core.Path.{◌≡◌, refl, sym, ap, ◌∙◌, subst}
+use mathlib.Core.Bool.{Bool, true, false, ◌||◌}
 use mathlib.Core.List.{List}
 use native.Mathlib.Omega.{arith}
 use native.Mathlib.Nat.{add-mul}
@@ -10,6 +10,7 @@ use lib.ListN.{length, drop, length-drop}
 use lib.Seq.{length-take-le}
 use lib.Dec.{ltb}
 use borrow.Author.Tests.{lt-ltb, le-ltb}
+use Rattle.std.specs.List.{list_any, range_with_len}
 use Rattle.rules.specs.Refusals.{entry, source_of, no_chain}
 use Rattle.rules.specs.Calls.{viewed}
 use Rattle.rules.specs.Types.{width_of}
@@ -63,10 +64,6 @@ module _ (w : ℕ) (input merged table : List ℕ) (j k : ℕ) (h : j < k) where
   unfolding bytes_from
   bytes_next = ap (bytes_from w table j) (rest j k h) ∙ rw add-one
 
-pub missing_none : (w : ℕ) (input merged table : List ℕ) (j k : ℕ) → k ≤ j → any_missing w input merged table j (k - j) ≡ false
-unfolding any_missing
-missing_none w input merged table j k h = let z : k - j ≡ 0 = omega arith in ap (any_missing w input merged table j) z
-
 pub bytes_none : (w : ℕ) (table : List ℕ) (j k : ℕ) → k ≤ j → bytes_from w table j (k - j) ≡ 0
 unfolding bytes_from
 bytes_none w table j k h = let z : k - j ≡ 0 = omega arith in ap (bytes_from w table j) z
@@ -78,5 +75,12 @@ room_passed room all left size rest a b c = sym (lt-ltb room all (omega arith))
 pub room_enough : (room all left : ℕ) → left ≤ room → left + all ≡ room + 0 → false ≡ ltb room all
 room_enough room all left a b = sym (le-ltb room all (omega arith))
 
-pub bytes_start : (w room k : ℕ) (table : List ℕ) → room + bytes_from w table 0 k ≡ room + bytes_from w table 0 (k - 0)
-bytes_start w room k table = let e : k ≡ k - 0 = omega arith in ap (λ (n : ℕ). room + bytes_from w table 0 n) e
+pub missing_is : (w : ℕ) (input merged table : List ℕ) (j k : ℕ) → list_any (no_chain w input merged table) (range_with_len j k) ≡ any_missing w input merged table j k
+unfolding any_missing
+missing_is w input merged table j zero = refl
+missing_is w input merged table j (suc k) = go (no_chain w input merged table j) (ap (λ (i : ℕ). list_any (no_chain w input merged table) (range_with_len i k)) (add-one j) ∙ missing_is w input merged table (suc j) k)
+  where
+    go : (b : Bool) → list_any (no_chain w input merged table) (range_with_len (j + 1) k) ≡ any_missing w input merged table (suc j) k
+        → (b || list_any (no_chain w input merged table) (range_with_len (j + 1) k)) ≡ elim b [ true ↦ true | false ↦ any_missing w input merged table (suc j) k ]
+    go true e = refl
+    go false e = e

@@ -1,16 +1,11 @@
 -- What writing chains asks for, and what it leaves.
-use Rattle.std.specs.Prelude.{ℕ, zero, suc, ◌+◌, ◌*◌, ◌/◌, ◌≤◌, ◌≡◌, false, length, take}
-use mathlib.Core.List.{List, flat_map}
+use Rattle.std.specs.Prelude.{ℕ, zero, suc, ◌+◌, ◌≤◌, ◌≡◌, false, length}
+use mathlib.Core.List.{List}
 use Rattle.rules.specs.Refusals.{entry, no_chain}
 use Rattle.rules.specs.Calls.{written, viewed}
 use Rattle.rules.specs.Types.{width_of}
-use Rattle.rules.specs.Wkb.{bytes_by, size_of, any_missing, record_by, LentChains, run_of, lengths_of}
+use Rattle.rules.specs.Wkb.{size_of, any_missing, record_by, LentChains, run_of, lengths_of}
 use Rattle.point_slices.specs.Holds.{HoldsFrom}
-
--- the bytes of r numbers stand from `at` on, as many as eights of them go
-pub record EightsPut (run' run : List ℕ) (at r order : ℕ) (numbers : List ℕ) : Type 0 where
-  pub many : r ≡ length numbers / 8 * 8
-  pub holds : HoldsFrom run' run at (r * 8) (flat_map (bytes_by order 8) (take r numbers))
 
 -- the bytes stand from `at` up to r
 pub record RecordPut (run' run : List ℕ) (at r : ℕ) (bytes : List ℕ) : Type 0 where

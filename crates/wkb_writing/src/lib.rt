@@ -3,156 +3,78 @@
 #![tactic(auto)]
 
 ghost use Rattle.std.specs.Prelude.{◌+◌, ◌-◌, ◌*◌, ◌≤◌, ◌<◌, ◌≡◌, ltb, length};
-ghost use mathlib.Core.List.{◌++◌, reverse, flat_map};
+ghost use mathlib.Core.List.{flat_map};
 ghost use Rattle.point_slices.specs.Holds.{HoldsFrom};
-ghost use Rattle.rules.specs.Wkb.{little_bytes, bytes_by, record_by, any_missing, chains_as, Wrote};
-ghost use Rattle.wkb_writing.specs.Writing.{bytes_from, EightsPut, RecordPut, chain_bytes, Chain, Writable, Written};
+ghost use Rattle.rules.specs.Answers.{answered};
+ghost use Rattle.rules.specs.Wkb.{bytes_by, record_by, any_missing, chains_as, Wrote};
+ghost use Rattle.wkb_records.specs.Orders.{byte_of};
+ghost use Rattle.wkb_writing.specs.Writing.{bytes_from, RecordPut, chain_bytes, Chain, Writable, Written};
 ghost use Rattle.rules.specs.Refusals.{record_size};
 
-use rules::{Answer, RECORD};
+use rules::{Answer, RECORD, Refusal};
+use wkb_records::Order;
 
 // The bytes of a record before its numbers, and of each number there.
 const HEADER: usize = 9;
 
 const EIGHT: usize = 8;
 
-// The weight of a number's upper four bytes.
-const UPPER: u64 = 4294967296;
-
-// The lower four bytes of n from `at` on, the least first.
-fn put_four(run: &mut [u8], at: usize, n: u64)
-    requires { at + 4 ≤ length run.old }
-    ensures { HoldsFrom run.new run.old at 4 (little_bytes 4 n) }
+// The four bytes of n, in an order.
+#[tactic(auto, using(wkb_records::proofs::Bytes::four_big, wkb_records::proofs::Bytes::four_little))]
+fn four_of(order: Order, n: u32) -> [u8; 4]
+    ensures { result ≡ bytes_by (byte_of order) 4 n }
 {
-    run[at] = (n % 256) as u8;
-    run[at + 1] = (n / 256 % 256) as u8;
-    run[at + 2] = (n / 256 / 256 % 256) as u8;
-    run[at + 3] = (n / 256 / 256 / 256 % 256) as u8;
-}
-
-// The lower four bytes of n from `at` on, the greatest first.
-fn put_four_turned(run: &mut [u8], at: usize, n: u64)
-    requires { at + 4 ≤ length run.old }
-    ensures { HoldsFrom run.new run.old at 4 (reverse (little_bytes 4 n)) }
-{
-    run[at] = (n / 256 / 256 / 256 % 256) as u8;
-    run[at + 1] = (n / 256 / 256 % 256) as u8;
-    run[at + 2] = (n / 256 % 256) as u8;
-    run[at + 3] = (n % 256) as u8;
-}
-
-// The four bytes of n from `at` on, in the order that is given.
-fn put_word(run: &mut [u8], at: usize, order: u8, n: u32)
-    requires { at + 4 ≤ length run.old }
-    ensures { HoldsFrom run.new run.old at 4 (bytes_by order 4 n) }
-{
-    if order == 0 {
-        put_four_turned(run, at, n as u64);
-        return;
+    match order {
+        Order::Big => n.to_be_bytes(),
+        Order::Little => n.to_le_bytes(),
     }
-    put_four(run, at, n as u64);
 }
 
-// The eight bytes of n from `at` on, in the order that is given.
-fn put_number(run: &mut [u8], at: usize, order: u8, n: u64)
-    requires { at + 8 ≤ length run.old }
-    ensures { HoldsFrom run.new run.old at 8 (bytes_by order 8 n) }
+// The eight bytes of n, in an order.
+#[tactic(auto, using(wkb_records::proofs::Bytes::eight_big, wkb_records::proofs::Bytes::eight_little))]
+fn eight_of(order: Order, n: u64) -> [u8; 8]
+    ensures { result ≡ bytes_by (byte_of order) 8 n }
 {
-    if order != 0 {
-        put_four(run, at, n);
-        put_four(run, at + 4, n / UPPER);
-        return;
+    match order {
+        Order::Big => n.to_be_bytes(),
+        Order::Little => n.to_le_bytes(),
     }
-    put_four_turned(run, at, n / UPPER);
-    put_four_turned(run, at + 4, n);
 }
 
-// The bytes of two numbers from `at` on.
-fn put_two(run: &mut [u8], at: usize, order: u8, a: u64, b: u64)
-    requires { at + 16 ≤ length run.old }
-    ensures { HoldsFrom run.new run.old at 16 (bytes_by order 8 a ++ bytes_by order 8 b) }
+// Bytes from `at` on.
+fn put<const N: usize>(run: &mut [u8], at: usize, bytes: [u8; N])
+    requires { at + N ≤ length run.old }
+    ensures { HoldsFrom run.new run.old at N bytes.entry }
 {
-    put_number(run, at, order, a);
-    put_number(run, at + EIGHT, order, b);
+    run[at..at + N].copy_from_slice(&bytes);
 }
 
-// The bytes of all numbers from `at` on, two numbers a turn.
-fn put_pairs(run: &mut [u8], at: usize, order: u8, numbers: &[u64])
+// The bytes of all numbers from `at` on.
+fn put_numbers(run: &mut [u8], at: usize, order: Order, numbers: &[u64])
     requires { at + length numbers.now * 8 ≤ length run.old }
     ensures { HoldsFrom run.new run.old at (length numbers.now * 8)
-        (flat_map (bytes_by order 8) numbers.now) }
+        (flat_map (bytes_by (byte_of order) 8) numbers.now) }
 {
-    let pairs = numbers.len() / 2;
-    let mut j = 0;
-    while j < pairs {
-        let i = j * 2;
-        put_number(run, at + i * EIGHT, order, numbers[i]);
-        put_number(run, at + (i + 1) * EIGHT, order, numbers[i + 1]);
-        j += 1;
+    for (i, n) in numbers.iter().enumerate() {
+        put(run, at + i * EIGHT, eight_of(order, *n));
     }
-    let i = pairs * 2;
-    if numbers.len() <= i {
-        return;
-    }
-    put_number(run, at + i * EIGHT, order, numbers[i]);
-}
-
-// The bytes of as many numbers as eights of them go, from `at` on. Returns how many these are.
-// Eight are read before the first of them is written, so that they can be moved two at once.
-fn put_eights(run: &mut [u8], at: usize, order: u8, numbers: &[u64]) -> usize
-    requires { at + length numbers.now * 8 ≤ length run.old }
-    ensures { EightsPut run.new run.old at result order numbers.now }
-{
-    let eights = numbers.len() / EIGHT;
-    let mut j = 0;
-    while j < eights {
-        let i = j * EIGHT;
-        let a = numbers[i];
-        let b = numbers[i + 1];
-        let c = numbers[i + 2];
-        let d = numbers[i + 3];
-        let e = numbers[i + 4];
-        let f = numbers[i + 5];
-        let g = numbers[i + 6];
-        let h = numbers[i + 7];
-        put_two(run, at + i * EIGHT, order, a, b);
-        put_two(run, at + (i + 2) * EIGHT, order, c, d);
-        put_two(run, at + (i + 4) * EIGHT, order, e, f);
-        put_two(run, at + (i + 6) * EIGHT, order, g, h);
-        j += 1;
-    }
-    eights * EIGHT
-}
-
-// The bytes of all numbers from `at` on. Those that stay in their order are moved by eights as far as these go.
-fn put_numbers(run: &mut [u8], at: usize, order: u8, numbers: &[u64])
-    requires { at + length numbers.now * 8 ≤ length run.old }
-    ensures { HoldsFrom run.new run.old at (length numbers.now * 8)
-        (flat_map (bytes_by order 8) numbers.now) }
-{
-    if order == 0 {
-        put_pairs(run, at, order, numbers);
-        return;
-    }
-    let n = put_eights(run, at, order, numbers);
-    put_pairs(run, at + n * EIGHT, order, &numbers[n..]);
 }
 
 // One record from `at` on. Returns where it ends.
 fn put_record(
     run: &mut [u8],
     at: usize,
-    order: u8,
+    order: Order,
     wkb_type: u32,
     count: u32,
     numbers: &[u64],
 ) -> usize
     requires { at + (9 + length numbers.now * 8) ≤ length run.old }
-    ensures { RecordPut run.new run.old at result (record_by order wkb_type count numbers.now) }
+    ensures { RecordPut run.new run.old at result (record_by (byte_of order) wkb_type count numbers.now) }
 {
-    run[at] = order;
-    put_word(run, at + 1, order, wkb_type);
-    put_word(run, at + 5, order, count);
+    run[at] = order as u8;
+    put(run, at + 1, four_of(order, wkb_type));
+    put(run, at + 5, four_of(order, count));
     put_numbers(run, at + HEADER, order, numbers);
     at + (HEADER + numbers.len() * EIGHT)
 }
@@ -162,14 +84,7 @@ fn any_missing(input: &[u64], merged: &[u64], table: &[u32], width: usize, k: u6
     requires { width ≤ 4 }
     ensures { result ≡ any_missing width input.now merged.now table.now 0 k }
 {
-    let mut j: u64 = 0;
-    while j < k {
-        if build_question::no_chain(input, merged, table, width, j as usize) {
-            return true;
-        }
-        j += 1;
-    }
-    false
+    (0..k).any(|j| build_question::no_chain(input, merged, table, width, j as usize))
 }
 
 // Whether the first k chains take more bytes than there is room. The sum is taken from the room, and stops where it would pass it.
@@ -178,14 +93,12 @@ fn run_short(table: &[u32], width: usize, k: usize, room: usize) -> bool
     ensures { result ≡ ltb room (bytes_from width table.now 0 k) }
 {
     let mut left = room;
-    let mut j = 0;
-    while j < k {
+    for j in 0..k {
         let size = HEADER + table[j * RECORD + 4] as usize * width * EIGHT;
         if left < size {
             return true;
         }
         left -= size;
-        j += 1;
     }
     false
 }
@@ -194,7 +107,7 @@ fn run_short(table: &[u32], width: usize, k: usize, room: usize) -> bool
 fn put_chain<'a>(
     run: &mut [u8],
     at: usize,
-    order: u8,
+    order: Order,
     wkb_type: u32,
     width: usize,
     input: &'a [u64],
@@ -204,7 +117,7 @@ fn put_chain<'a>(
 ) -> usize
     requires { Chain run.old at wkb_type width input.now merged.now table.now k }
     ensures { RecordPut run.new run.old at result
-        (chain_bytes order wkb_type input.now merged.now table.now k) }
+        (chain_bytes (byte_of order) wkb_type input.now merged.now table.now k) }
 {
     let count = table[k * RECORD + 4];
     let numbers = build_question::known_part(input, merged, table, width, k);
@@ -219,17 +132,16 @@ fn write_chains<'a>(
     merged: &'a [u64],
     table: &[u32],
     n: usize,
-    order: u8,
+    order: Order,
     run: &mut [u8],
     lengths: &mut [u64],
 ) -> usize
-    requires { Writable width (chains_as wkb_type coordinates.now merged.now table.now n order run.old lengths.old) }
-    ensures { Written (chains_as wkb_type coordinates.now merged.now table.now n order
+    requires { Writable width (chains_as wkb_type coordinates.now merged.now table.now n (byte_of order) run.old lengths.old) }
+    ensures { Written (chains_as wkb_type coordinates.now merged.now table.now n (byte_of order)
         run.old lengths.old) result run.new lengths.new }
 {
     let mut at: usize = 0;
-    let mut j: usize = 0;
-    while j < n {
+    for j in 0..n {
         let end = put_chain(
             run,
             at,
@@ -243,7 +155,6 @@ fn write_chains<'a>(
         );
         lengths[j] = (end - at) as u64;
         at = end;
-        j += 1;
     }
     at
 }
@@ -260,24 +171,21 @@ pub fn write<'a>(
     lengths: &mut [u64],
 ) -> Answer
     ensures { Wrote (chains_as wkb_type coordinates.now merged.now table.now k order
-        run.old lengths.old) result run.new lengths.new }
+        run.old lengths.old) (answered result) run.new lengths.new }
 {
     let width = point_numbers::width_of(wkb_type);
     if width == 0 {
-        return Answer::Refused(12);
+        return Err(Refusal::BadType);
     }
     if 1 < order {
-        return Answer::Refused(16);
+        return Err(Refusal::UnknownOrder);
     }
     if any_missing(coordinates, merged, table, width, k) {
-        return Answer::Refused(10);
+        return Err(Refusal::NoSuchChain);
     }
     let n = k as usize;
-    if run_short(table, width, n, run.len()) {
-        return Answer::Refused(14);
-    }
-    if lengths.len() < n {
-        return Answer::Refused(14);
+    if run_short(table, width, n, run.len()) || lengths.len() < n {
+        return Err(Refusal::RecordRoomTooShort);
     }
     let bytes = write_chains(
         wkb_type,
@@ -286,9 +194,9 @@ pub fn write<'a>(
         merged,
         table,
         n,
-        order,
+        Order::of(order),
         run,
         lengths,
     );
-    Answer::Accepted(bytes as u64)
+    Ok(bytes as u64)
 }

@@ -1,5 +1,4 @@
 -- Value by value.
-use borrow.Author.Rules.{rules}
 use Rattle.box_levels.specs.Extents.{joined}
 use Rattle.box_levels.proofs.around.Goals as goal
 

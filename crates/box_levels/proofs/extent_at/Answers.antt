@@ -1,5 +1,4 @@
 -- Four values are read from their bits, which are no NaN's.
-use borrow.Author.Rules.{rules}
 use mathlib.Core.Path.{refl}
 use Prim.Native.Nat.{◌+◌, ◌*◌}
 use native.Mathlib.Omega.{arith}
@@ -27,5 +26,5 @@ pub returns : goal.returns
 unfolding box_at
 returns c =
     let at = c.args.j * 4 in
-    let given = c.shared_slice_known-4-1.given in
+    let given = c.type_inv.boxes in
     record { is = refl; low_x = omega (arith, given at); from_low_y = omega (arith, given (at + 1)); to_high_x = omega (arith, given (at + 2)); to_high_y = omega (arith, given (at + 3)) }

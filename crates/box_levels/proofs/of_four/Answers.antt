@@ -1,5 +1,4 @@
 -- The four points are places, and so their numbers are no NaNs; two pairs joined are the box of the four.
-use borrow.Author.Rules.{rules}
 use Rattle.box_levels.proofs.Points.{first_real, second_real, third_real, fourth_real, four_boxed}
 use Rattle.box_levels.proofs.of_four.Goals as goal
 

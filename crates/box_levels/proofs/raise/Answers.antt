@@ -1,90 +1,47 @@
 -- The loop's invariant is `Raised`; what is left at the end is nothing, or one box alone.
-use borrow.Author.Rules.{rules}
-use Prim.Native.Nat.{◌-◌, ◌*◌}
-use mathlib.Core.Path.{◌∙◌}
+use Prim.Native.Nat.{◌+◌, ◌*◌, ◌/◌, ◌<◌}
+use mathlib.Core.Path.{◌≡◌, subst}
 use native.Mathlib.Omega.{arith}
-use Rattle.point_slices.proofs.Laws.{from_length}
+use Rattle.rules.specs.Boxes.{box_at}
+use Rattle.box_laws.specs.Sound.{BoxSound}
 use Rattle.box_levels.proofs.Extents.{real_of, boxed_back, pair_real, pair_back}
-use Rattle.box_levels.proofs.Raised.{Raised, raised_start, raised_last, raised_pair, raised_more, raised_even, raised_odd}
+use Rattle.box_levels.proofs.Raised.{Raised, raised_last, raised_pair, raised_more, raised_even, raised_odd}
 use Rattle.box_levels.proofs.raise.Goals as goal
-
-pub loop-i-init : goal.loop-i-init
-loop-i-init c = raised_start _ _ _
-
-pub overflow_mul-i : goal.overflow_mul-i
-overflow_mul-i c = omega arith
-
-pub overflow_add-i : goal.overflow_add-i
-overflow_add-i c = omega arith
-
-pub overflow_mul-i-in-loop-i : goal.overflow_mul-i-in-loop-i
-overflow_mul-i-in-loop-i c = omega arith
-
-pub overflow_add-at : goal.overflow_add-at
-overflow_add-at c = omega arith
+use Rattle.box_levels.proofs.raise.Goals.{After-loop-i}
 
 pub extent_at-requires : goal.extent_at-requires
-extent_at-requires c = (omega arith, (raised_pair _ _ _ c.requires.0 c.loop-i.invariant c.requires.1 c.loop-i-test.true).0)
-
-pub overflow_mul-i-in-loop-i-2 : goal.overflow_mul-i-in-loop-i-2
-overflow_mul-i-in-loop-i-2 c = omega arith
-
-pub overflow_add-at-in-loop-i : goal.overflow_add-at-in-loop-i
-overflow_add-at-in-loop-i c = omega arith
-
-pub overflow_add-at-in-loop-i-2 : goal.overflow_add-at-in-loop-i-2
-overflow_add-at-in-loop-i-2 c = omega arith
+extent_at-requires c = (omega arith, (raised_pair _ _ _ c.requires.0 c.loop-i.invariant c.requires.1 (omega arith)).0)
 
 pub extent_at-requires-in-loop-i : goal.extent_at-requires-in-loop-i
-extent_at-requires-in-loop-i c = (omega arith, (raised_pair _ _ _ c.requires.0 c.loop-i.invariant c.requires.1 c.loop-i-test.true).1)
-
-pub overflow_add-at-in-loop-i-3 : goal.overflow_add-at-in-loop-i-3
-overflow_add-at-in-loop-i-3 c = omega arith
-
-pub overflow_add-at-in-loop-i-4 : goal.overflow_add-at-in-loop-i-4
-overflow_add-at-in-loop-i-4 c = omega arith
+extent_at-requires-in-loop-i c = (omega arith, (raised_pair _ _ _ c.requires.0 c.loop-i.invariant c.requires.1 (omega arith)).1)
 
 pub put-requires : goal.put-requires
-put-requires c = (omega arith, pair_real c.around-e.ensures c.extent_at.ensures c.extent_at-in-loop-i.ensures (raised_pair _ _ _ c.requires.0 c.loop-i.invariant c.requires.1 c.loop-i-test.true).0 (raised_pair _ _ _ c.requires.0 c.loop-i.invariant c.requires.1 c.loop-i-test.true).1)
-
-pub overflow_add-i-in-loop-i : goal.overflow_add-i-in-loop-i
-overflow_add-i-in-loop-i c = omega arith
-
-pub loop-i-smaller : goal.loop-i-smaller
-loop-i-smaller c = omega arith
+put-requires c = (omega arith, pair_real c.around-e.ensures c.extent_at.ensures c.extent_at-in-loop-i.ensures (raised_pair _ _ _ c.requires.0 c.loop-i.invariant c.requires.1 (omega arith)).0 (raised_pair _ _ _ c.requires.0 c.loop-i.invariant c.requires.1 (omega arith)).1)
 
 pub loop-i-preserved : goal.loop-i-preserved
-loop-i-preserved c = raised_more _ _ _ c.requires.0 _ c.loop-i.invariant c.loop-i-test.true (pair_back c.around-e.ensures c.extent_at.ensures c.extent_at-in-loop-i.ensures (raised_pair _ _ _ c.requires.0 c.loop-i.invariant c.requires.1 c.loop-i-test.true).0 (raised_pair _ _ _ c.requires.0 c.loop-i.invariant c.requires.1 c.loop-i-test.true).1) c.put.ensures
+loop-i-preserved c = raised_more _ _ _ c.requires.0 _ c.loop-i.invariant (omega arith) (pair_back c.around-e.ensures c.extent_at.ensures c.extent_at-in-loop-i.ensures (raised_pair _ _ _ c.requires.0 c.loop-i.invariant c.requires.1 (omega arith)).0 (raised_pair _ _ _ c.requires.0 c.loop-i.invariant c.requires.1 (omega arith)).1) c.put.ensures
 
-pub overflow_mul-i-2 : goal.overflow_mul-i-2
-overflow_mul-i-2 c = omega arith
+-- at the end all pairs are raised
+reached : (c : After-loop-i) → Raised c.args.boxes.now c.args.at c.args.n c.loop-i.boxes (c.args.n / 2)
+reached c = let e : c.loop-i.i ≡ c.args.n / 2 = omega arith in subst (Raised c.args.boxes.now c.args.at c.args.n c.loop-i.boxes) e c.loop-i.invariant
 
-pub shape_of-boxes-then-n-i : goal.shape_of-boxes-then-n-i
-shape_of-boxes-then-n-i c = c.loop-i.invariant.size
-
-pub returns-then-n-i : goal.returns-then-n-i
-returns-then-n-i c = raised_even _ _ _ c.requires.0 c.loop-i.invariant c.if-n-i.true
-
-pub overflow_mul-i-3 : goal.overflow_mul-i-3
-overflow_mul-i-3 c = omega arith
-
-pub overflow_add-at-2 : goal.overflow_add-at-2
-overflow_add-at-2 c = omega arith
+last_sound : (c : After-loop-i) → c.args.n / 2 * 2 < c.args.n → BoxSound (box_at c.loop-i.boxes (c.args.at + c.args.n / 2 * 2))
+last_sound c h = raised_last _ _ _ c.requires.0 (reached c) c.requires.1 h
 
 pub extent_at-e-requires : goal.extent_at-e-requires
-extent_at-e-requires c = (omega arith, (raised_last _ _ _ c.requires.0 c.loop-i.invariant c.requires.1 c.if-n-i.false))
+extent_at-e-requires c =
+    let l = (goal.at.extent_at-e-requires c).After-loop-i in
+    (omega arith, last_sound l (omega arith))
 
-pub overflow_add-at-3 : goal.overflow_add-at-3
-overflow_add-at-3 c = omega arith
+pub put-requires-then-pairs-n : goal.put-requires-then-pairs-n
+put-requires-then-pairs-n c =
+    let l = (goal.at.put-requires-then-pairs-n c).After-loop-i in
+    (omega arith, real_of c.extent_at-e.ensures (last_sound l (omega arith)))
 
-pub overflow_add-at-4 : goal.overflow_add-at-4
-overflow_add-at-4 c = omega arith
+pub returns-then-pairs-n : goal.returns-then-pairs-n
+returns-then-pairs-n c =
+    let l = (goal.at.returns-then-pairs-n c).After-loop-i in
+    raised_odd _ _ _ c.requires.0 _ (reached l) (omega arith) (omega arith) (boxed_back c.extent_at-e.ensures (last_sound l (omega arith))) c.put-then-pairs-n.ensures
 
-pub put-requires-2 : goal.put-requires-2
-put-requires-2 c = (omega arith, real_of c.extent_at-e.ensures (raised_last _ _ _ c.requires.0 c.loop-i.invariant c.requires.1 c.if-n-i.false))
-
-pub shape_of-boxes : goal.shape_of-boxes
-shape_of-boxes c = from_length c.put-2.ensures (omega (arith, c.loop-i.invariant.size)) ∙ c.loop-i.invariant.size
-
-pub returns : goal.returns
-returns c = raised_odd _ _ _ c.requires.0 _ c.loop-i.invariant c.loop-i-test.false c.if-n-i.false (boxed_back c.extent_at-e.ensures (raised_last _ _ _ c.requires.0 c.loop-i.invariant c.requires.1 c.if-n-i.false)) c.put-2.ensures
+pub returns-else-pairs-n : goal.returns-else-pairs-n
+returns-else-pairs-n c = raised_even _ _ _ c.requires.0 (reached (goal.at.returns-else-pairs-n c).After-loop-i) (omega arith)

@@ -1,6 +1,5 @@
 -- The loop's invariant is `Stacking`: the levels that are written, and the level reached.
-use native.Mathlib.Omega.{arith}
-use Rattle.box_levels.proofs.Stacked.{Stacking, stacking_start, stacking_room, stacking_sound, stacking_more, stacking_done}
+use Rattle.box_levels.proofs.Stacked.{stacking_start, stacking_room, stacking_sound, stacking_more, stacking_done}
 use Rattle.box_levels.proofs.raise_all.Goals as goal
 
 pub loop-n-init : goal.loop-n-init
@@ -9,20 +8,8 @@ loop-n-init c = stacking_start _ _ c.requires
 pub raise-requires : goal.raise-requires
 raise-requires c = (stacking_room _ _ c.loop-n.invariant c.loop-n-test.true c.requires.room, stacking_sound _ _ c.loop-n.invariant)
 
-pub overflow_add-at : goal.overflow_add-at
-overflow_add-at c = omega (arith, c.loop-n.invariant.room, c.requires.few)
-
-pub overflow_add-n : goal.overflow_add-n
-overflow_add-n c = omega (arith, c.loop-n.invariant.room, c.requires.few)
-
-pub loop-n-smaller : goal.loop-n-smaller
-loop-n-smaller c = omega arith
-
 pub loop-n-preserved : goal.loop-n-preserved
 loop-n-preserved c = stacking_more _ _ c.loop-n.invariant c.loop-n-test.true c.requires.room c.raise.ensures
-
-pub shape_of-boxes : goal.shape_of-boxes
-shape_of-boxes c = c.loop-n.invariant.size
 
 pub returns : goal.returns
 returns c = stacking_done _ _ c.loop-n.invariant c.loop-n-test.false

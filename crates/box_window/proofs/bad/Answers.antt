@@ -1,15 +1,8 @@
 -- The two comparisons decide.
 use Rattle.rules.specs.Windows.{window_bad}
 use Rattle.box_window.proofs.bad.Goals as goal
+use Rattle.box_window.proofs.bad.Goals.{then-w, else-w}
 
-pub returns-then-w-2 : goal.returns-then-w-2
+pub returns : goal.returns
 unfolding window_bad
-returns-then-w-2 c = rw (c.if-w.true, c.if-w-2.true)
-
-pub returns-else-w-2 : goal.returns-else-w-2
-unfolding window_bad
-returns-else-w-2 c = rw (c.if-w.true, c.if-w-2.false)
-
-pub returns-else-w : goal.returns-else-w
-unfolding window_bad
-returns-else-w c = rw c.if-w.false
+returns c = elim c.if-w.branch [ then-w w ↦ rw (w.result-is, w.if-w.true) | else-w w ↦ rw (w.result-is, w.if-w.false) ]

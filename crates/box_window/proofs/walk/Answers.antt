@@ -1,8 +1,7 @@
 -- The loop's invariant is `Walked`. Each turn goes on to a box that begins at a later chain, or down to one that begins at the same chain.
-use Prim.Native.Nat.{◌-◌, ◌+◌, ◌*◌, ◌<◌}
+use Prim.Native.Nat.{◌<◌}
 use mathlib.Core.Path.{sym, ◌∙◌}
 use native.Mathlib.Omega.{arith}
-use borrow.Author.Rules.{rules}
 use Rattle.box_window.specs.Levels.{first}
 use Rattle.box_window.proofs.Below.{first_down}
 use Rattle.box_window.proofs.Walked.{Walked, Passed, small, found_small, before_end, walked_start, walked_down, walked_found, walked_hidden, passed_as, passed_on, walked_done}
@@ -12,32 +11,8 @@ use Rattle.box_window.proofs.walk.Goals.{After-highest-next, then-shown+else-lev
 pub loop-level-init : goal.loop-level-init
 loop-level-init c = walked_start _ _ _ _ _ c.requires.0 _
 
-pub offset_bounds-starts-level : goal.offset_bounds-starts-level
-offset_bounds-starts-level c = omega (arith, (small _ _ _ _ _ c.requires.0 _ _ c.loop-level.invariant.ready).2)
-
-pub bounds-starts-level : goal.bounds-starts-level
-bounds-starts-level c = omega (arith, (small _ _ _ _ _ c.requires.0 _ _ c.loop-level.invariant.ready).2, c.requires.0.size)
-
 pub overflow_add-starts : goal.overflow_add-starts
 overflow_add-starts c = omega (arith, (small _ _ _ _ _ c.requires.0 _ _ c.loop-level.invariant.ready).0, c.requires.2)
-
-pub overflow_add-level : goal.overflow_add-level
-overflow_add-level c = omega (arith, (small _ _ _ _ _ c.requires.0 _ _ c.loop-level.invariant.ready).2)
-
-pub offset_bounds-starts-level-in-loop-level : goal.offset_bounds-starts-level-in-loop-level
-offset_bounds-starts-level-in-loop-level c = omega (arith, (small _ _ _ _ _ c.requires.0 _ _ c.loop-level.invariant.ready).2)
-
-pub bounds-starts-level-in-loop-level : goal.bounds-starts-level-in-loop-level
-bounds-starts-level-in-loop-level c = omega (arith, (small _ _ _ _ _ c.requires.0 _ _ c.loop-level.invariant.ready).2, c.requires.0.size)
-
-pub offset_bounds-starts-level-in-loop-level-2 : goal.offset_bounds-starts-level-in-loop-level-2
-offset_bounds-starts-level-in-loop-level-2 c = omega (arith, (small _ _ _ _ _ c.requires.0 _ _ c.loop-level.invariant.ready).2)
-
-pub bounds-starts-level-in-loop-level-2 : goal.bounds-starts-level-in-loop-level-2
-bounds-starts-level-in-loop-level-2 c = omega (arith, (small _ _ _ _ _ c.requires.0 _ _ c.loop-level.invariant.ready).2, c.requires.0.size)
-
-pub overflow_add-starts-in-loop-level : goal.overflow_add-starts-in-loop-level
-overflow_add-starts-in-loop-level c = omega (arith, (small _ _ _ _ _ c.requires.0 _ _ c.loop-level.invariant.ready).0, c.requires.2)
 
 pub overflow_mul-j : goal.overflow_mul-j
 overflow_mul-j c = omega (arith, (small _ _ _ _ _ c.requires.0 _ _ c.loop-level.invariant.ready).1, c.requires.2)
@@ -51,17 +26,8 @@ loop-level-preserved-then-level-gt0 c = walked_down _ _ _ _ _ c.requires.0 _ _ _
 pub overflow_cast-found : goal.overflow_cast-found
 overflow_cast-found c = omega (arith, (found_small _ _ _ _ _ c.requires.0 _ _ c.if-level-gt0.false c.loop-level.invariant c.loop-level-test.true).0, c.requires.2)
 
-pub offset_bounds-found-have : goal.offset_bounds-found-have
-offset_bounds-found-have c = omega (arith, found_small _ _ _ _ _ c.requires.0 _ _ c.if-level-gt0.false c.loop-level.invariant c.loop-level-test.true, c.requires.2)
-
 pub bounds-found-have : goal.bounds-found-have
 bounds-found-have c = omega (arith, found_small _ _ _ _ _ c.requires.0 _ _ c.if-level-gt0.false c.loop-level.invariant c.loop-level-test.true, c.loop-level.invariant.size, c.requires.1)
-
-pub overflow_add-have : goal.overflow_add-have
-overflow_add-have c = omega (arith, found_small _ _ _ _ _ c.requires.0 _ _ c.if-level-gt0.false c.loop-level.invariant c.loop-level-test.true, c.requires.2)
-
-pub overflow_add-j : goal.overflow_add-j
-overflow_add-j c = omega (arith, (small _ _ _ _ _ c.requires.0 _ _ c.loop-level.invariant.ready).1, c.requires.2)
 
 -- where the arms meet, box j has been looked at
 passed : (c : After-highest-next) → Passed c.args.w c.args.boxes.now c.args.k c.args.top c.args.found.now c.if-shown.found c.if-shown.have c.loop-level.level c.loop-level.j
@@ -82,9 +48,6 @@ loop-level-smaller c = omega (arith, (onward (goal.at.loop-level-smaller c).Afte
 
 pub loop-level-preserved : goal.loop-level-preserved
 loop-level-preserved c = (onward (goal.at.loop-level-preserved c).After-highest-next).0
-
-pub shape_of-found : goal.shape_of-found
-shape_of-found c = c.loop-level.invariant.size
 
 pub returns : goal.returns
 returns c = walked_done _ _ _ _ _ c.requires.0 _ _ _ _ _ c.loop-level.invariant c.loop-level-test.false

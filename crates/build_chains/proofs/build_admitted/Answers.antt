@@ -1,5 +1,4 @@
 -- `build_admitted` does what the book's record says of a call without a refusal: the rounds, the layout, the boxes and the two clearings write each slice once.
-use borrow.Author.Rules.{rules}
 use native.Mathlib.Omega.{arith}
 use Rattle.build_chains.proofs.Built.{joinable, joinable_by, spare_long, layable, boxed, accepted}
 use Rattle.build_chains.proofs.build_admitted.Goals as goal
@@ -9,9 +8,6 @@ join_lines-left-requires c = (joinable_by _ _ _ _ c.requires c.width_of-width.en
 
 pub overflow_mul-end : goal.overflow_mul-end
 overflow_mul-end c = omega (arith, (joinable _ _ _ _ c.requires).few)
-
-pub offset_bounds-workspace-at : goal.offset_bounds-workspace-at
-offset_bounds-workspace-at c = omega (arith, (joinable _ _ _ _ c.requires).few)
 
 pub slice_bounds-lay_out-end : goal.slice_bounds-lay_out-end
 slice_bounds-lay_out-end c = omega (arith, (joinable _ _ _ _ c.requires).workspace_long)
@@ -29,12 +25,6 @@ lay_boxes-requires c =
 
 pub clear-requires : goal.clear-requires
 clear-requires c = omega (arith, spare_long _ _ _ _ c.requires)
-
-pub clear-requires-2 : goal.clear-requires-2
-clear-requires-2 c = omega (arith, (joinable _ _ _ _ c.requires).workspace_long)
-
-pub shape_of-merged : goal.shape_of-merged
-shape_of-merged c = c.join_lines-left.auto.merged
 
 pub returns : goal.returns
 unfolding layable

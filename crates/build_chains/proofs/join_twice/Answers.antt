@@ -1,11 +1,7 @@
 -- `join_twice` takes what each step left: the walks of round one, what they are laid to, and round two over it, or nothing where nothing can be joined.
-use borrow.Author.Rules.{rules}
 use mathlib.Core.Path.{refl}
-use Rattle.build_chains.proofs.Twice.{walks_ask, lay_asks, apart_left, second, grouped, both_left}
+use Rattle.build_chains.proofs.Twice.{lay_asks, apart_left, second, grouped, both_left}
 use Rattle.build_chains.proofs.join_twice.Goals as goal
-
-pub walk_lines-one-requires : goal.walk_lines-one-requires
-walk_lines-one-requires c = walks_ask c.requires
 
 pub lay_walks-requires : goal.lay_walks-requires
 lay_walks-requires c =
@@ -31,7 +27,7 @@ join_grouped-number-requires c =
     let s = c.requires in
     let o = c.walk_lines-one in
     let e = c.lay_walks-2 in
-    grouped s o.auto.w o.ensures e.auto.workspace (e.ensures (lay_asks s o.auto.w o.ensures s.spare_long)) refl
+    grouped s o.auto.w o.ensures e.auto.workspace (e.ensures (lay_asks s o.auto.w o.ensures s.spare_long)) refl c.pairing_limit.ensures
 
 pub returns : goal.returns
 unfolding grouped second
@@ -41,4 +37,4 @@ returns c =
     let e = c.lay_walks-2 in
     let E = e.ensures (lay_asks s o.auto.w o.ensures s.spare_long) in
     let j = c.join_grouped-number in
-    both_left s o.auto.w o.ensures e.auto.workspace E refl j.auto.w (j.ensures (grouped s o.auto.w o.ensures e.auto.workspace E refl))
+    both_left s o.auto.w o.ensures e.auto.workspace E refl j.auto.w (j.ensures (grouped s o.auto.w o.ensures e.auto.workspace E refl c.pairing_limit.ensures))

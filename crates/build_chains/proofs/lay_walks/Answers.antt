@@ -1,5 +1,4 @@
 -- `lay_walks` lays what stands in round one's part, and leaves the rest of the workspace.
-use borrow.Author.Rules.{rules}
 use Rattle.build_chains.proofs.Laying.{walks_laid}
 use Rattle.build_chains.proofs.lay_walks.Goals as goal
 

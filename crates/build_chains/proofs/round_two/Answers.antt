@@ -1,5 +1,4 @@
 -- `round_two` leaves the pieces of the book's round with cells, of whichever pieces it finds.
-use borrow.Author.Rules.{rules}
 use Rattle.build_chains.proofs.Second.{two_asks, two_left}
 use Rattle.build_chains.proofs.round_two.Goals as goal
 

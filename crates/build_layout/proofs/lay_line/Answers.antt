@@ -1,27 +1,10 @@
 -- Six stores, one behind the other, are the record; the member, the mark and the place in the listing are one store each.
 use Prim.Native.Nat.{◌*◌}
 use native.Mathlib.Omega.{arith}
-use lib.ListN.{length-set}
 use Rattle.chain_pieces.proofs.Storing.{one_put, record_put}
-use borrow.Author.Rules.{rules}
 use Rattle.rules.specs.Refusals.{record_size}
 use Rattle.point_slices.proofs.Laws.{from_set}
 use Rattle.build_layout.proofs.lay_line.Goals as goal
-
-pub bounds-table-at-2 : goal.bounds-table-at-2
-bounds-table-at-2 c = simp length-set (omega arith)
-
-pub bounds-table-at-3 : goal.bounds-table-at-3
-bounds-table-at-3 c = simp length-set (omega arith)
-
-pub bounds-table-at-4 : goal.bounds-table-at-4
-bounds-table-at-4 c = simp length-set (omega arith)
-
-pub bounds-table-at-5 : goal.bounds-table-at-5
-bounds-table-at-5 c = simp length-set (omega arith)
-
-pub bounds-table-at-6 : goal.bounds-table-at-6
-bounds-table-at-6 c = simp length-set (omega arith)
 
 pub returns : goal.returns
 returns c =

@@ -1,6 +1,5 @@
 -- The pieces as chains, three copies of small words, and the lines that pass through behind them.
-use Rattle.build_layout.proofs.Laid.{pieces_layable, members_narrow, marks_narrow, listing_narrow, rest_fits, outputs}
-use borrow.Author.Rules.{rules}
+use Rattle.build_layout.proofs.Laid.{pieces_layable, members_narrow, marks_narrow, listing_narrow, outputs}
 use Rattle.build_layout.proofs.lay_out.Goals as goal
 
 pub lay_pieces-requires : goal.lay_pieces-requires
@@ -14,10 +13,6 @@ lay_marks-requires c = marks_narrow c.requires
 
 pub lay_words-requires-2 : goal.lay_words-requires-2
 lay_words-requires-2 c = listing_narrow c.requires
-
-pub lay_rest-requires : goal.lay_rest-requires
-lay_rest-requires c =
-    rest_fits c.requires c.lay_pieces.ensures c.lay_words.ensures c.lay_marks.ensures c.lay_words-2.ensures
 
 pub returns : goal.returns
 returns c =

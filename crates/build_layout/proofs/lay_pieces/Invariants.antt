@@ -1,5 +1,4 @@
 -- After q turns the first q pieces are chains of the table: `Chaining` says how, and its laws are the start, one piece more, and the end.
-use Prim.Native.Nat.{◌-◌}
 use Rattle.build_layout.specs.Laying.{PiecesLayable}
 use Rattle.build_layout.proofs.Chaining.{Chaining}
 use Rattle.build_layout.proofs.lay_pieces.Given as goal
@@ -7,6 +6,3 @@ use Rattle.build_layout.proofs.lay_pieces.Given as goal
 abbrev pub invariant-loop-q : goal.invariant-loop-q
 invariant-loop-q l =
     (y : PiecesLayable l.width l.w l.p l.coordinates l.copies l.initial.table) → Chaining y.counts y.ps l.p l.q l.table l.initial.table
-
-abbrev pub decreases-loop-q : goal.decreases-loop-q
-decreases-loop-q l = l.p - l.q

@@ -1,12 +1,11 @@
 -- Where there is such a chain, its record is in the table and its coordinates are in the slice of its source (`stood`), so that every index and both ends of
 -- the part lie inside.
-use borrow.Author.Rules.{rules}
 use Prim.Native.Nat.{◌+◌, ◌*◌}
 use mathlib.Core.Path.{◌≡◌}
 use native.Mathlib.Omega.{arith}
 use native.Mathlib.Nat.{add-mul}
-use Rattle.rules.specs.Refusals.{entry, record_size}
-use Rattle.build_question.proofs.Laws.{few_numbers, Stands, stands, part_input, part_merged, inside_input, inside_merged, one}
+use Rattle.rules.specs.Refusals.{entry}
+use Rattle.build_question.proofs.Laws.{Stands, stands, part_input, part_merged, inside_input, inside_merged, one}
 use Rattle.build_question.proofs.known_part.Goals as goal
 use Rattle.build_question.proofs.known_part.Goals.{Start}
 
@@ -31,13 +30,6 @@ offset_bounds-table-k c = let s = stood (goal.at.offset_bounds-table-k c).Start 
 pub bounds-table-k : goal.bounds-table-k
 bounds-table-k c = let s = stood (goal.at.bounds-table-k c).Start in omega arith
 
-pub overflow_cast-from : goal.overflow_cast-from
-overflow_cast-from c = omega (arith, c.shared_slice_known-1.given (c.args.k * record_size + 3))
-
-pub overflow_mul-from-2 : goal.overflow_mul-from-2
-overflow_mul-from-2 c =
-    omega (arith, few_numbers (entry c.args.table.now c.args.k 3) c.args.width (omega (arith, c.shared_slice_known-1.given (c.args.k * record_size + 3))) c.requires.0)
-
 pub overflow_mul-to : goal.overflow_mul-to
 overflow_mul-to c = let s = stood (goal.at.overflow_mul-to c).Start in omega arith
 
@@ -49,23 +41,6 @@ offset_bounds-table-k-2 c = let s = stood (goal.at.offset_bounds-table-k-2 c).St
 
 pub bounds-table-k-2 : goal.bounds-table-k-2
 bounds-table-k-2 c = let s = stood (goal.at.bounds-table-k-2 c).Start in omega arith
-
-pub overflow_cast-to : goal.overflow_cast-to
-overflow_cast-to c = omega (arith, c.shared_slice_known-2-1.given (c.args.k * record_size + 4))
-
-pub overflow_mul-to-2 : goal.overflow_mul-to-2
-overflow_mul-to-2 c =
-    omega (arith, few_numbers (entry c.args.table.now c.args.k 4) c.args.width (omega (arith, c.shared_slice_known-2-1.given (c.args.k * record_size + 4))) c.requires.0)
-
-pub overflow_add-to-2 : goal.overflow_add-to-2
-overflow_add-to-2 c =
-    let t = c.args.table.now in
-    omega (
-      arith,
-      few_numbers (entry t c.args.k 3 + entry t c.args.k 4) c.args.width
-          (omega (arith, c.shared_slice_known-2-1.given (c.args.k * record_size + 3), c.shared_slice_known-2-1.given (c.args.k * record_size + 4))) c.requires.0,
-      both (goal.at.overflow_add-to-2 c).Start,
-    )
 
 pub overflow_mul-k : goal.overflow_mul-k
 overflow_mul-k c = let s = stood (goal.at.overflow_mul-k c).Start in omega arith
@@ -91,8 +66,8 @@ returns-then-table-k-eq0 c = part_input _ _ _ _ _ c.requires.1 c.if-table-k-eq0.
 pub offset_bounds-merged-from : goal.offset_bounds-merged-from
 offset_bounds-merged-from c = let z = stood (goal.at.offset_bounds-merged-from c).Start in omega (arith, both (goal.at.offset_bounds-merged-from c).Start, inside_merged _ _ _ _ _ z (one z c.if-table-k-eq0.false))
 
-pub slice_bounds-result-end-2 : goal.slice_bounds-result-end-2
-slice_bounds-result-end-2 c = let z = stood (goal.at.slice_bounds-result-end-2 c).Start in omega (arith, both (goal.at.slice_bounds-result-end-2 c).Start, inside_merged _ _ _ _ _ z (one z c.if-table-k-eq0.false))
+pub slice_bounds-result-end-else-table-k-eq0 : goal.slice_bounds-result-end-else-table-k-eq0
+slice_bounds-result-end-else-table-k-eq0 c = let z = stood (goal.at.slice_bounds-result-end-else-table-k-eq0 c).Start in omega (arith, both (goal.at.slice_bounds-result-end-else-table-k-eq0 c).Start, inside_merged _ _ _ _ _ z (one z c.if-table-k-eq0.false))
 
-pub returns : goal.returns
-returns c = part_merged _ _ _ _ _ c.requires.1 (one (stood (goal.at.returns c).Start) c.if-table-k-eq0.false)
+pub returns-else-table-k-eq0 : goal.returns-else-table-k-eq0
+returns-else-table-k-eq0 c = part_merged _ _ _ _ _ c.requires.1 (one (stood (goal.at.returns-else-table-k-eq0 c).Start) c.if-table-k-eq0.false)

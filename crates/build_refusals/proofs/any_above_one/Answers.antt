@@ -1,32 +1,10 @@
--- `any_above_one` is the book's test. The loop has passed only kinds at most 1, so that the test of what is left is the test of all.
-use Prim.Native.Nat.{◌-◌, ◌≤◌}
-use mathlib.Core.Path.{◌≡◌, refl, sym, ◌∙◌}
-use native.Mathlib.Omega.{arith}
-use lib.ListN.{length, drop}
-use Rattle.rules.specs.Refusals.{any_above}
-use Rattle.build_refusals.proofs.Laws.{above_step, above_here, above_none}
+-- `any_above_one` is the book's test, element by element.
+use Rattle.std.proofs.Common.{ltb, rules, tests, sym, ◌∙◌}
+use Rattle.std.proofs.lemmas.Iterator.{YieldsList-from_slice}
+use Rattle.std.proofs.lemmas.Iterator.Search.{any_from_yields_List}
+use Rattle.build_refusals.proofs.Laws.{above_any}
 use Rattle.build_refusals.proofs.any_above_one.Goals as goal
-
-pub loop-i-init : goal.loop-i-init
-loop-i-init c = (omega arith, refl)
-
-pub bounds-kinds-i : goal.bounds-kinds-i
-bounds-kinds-i c = omega arith
-
-pub returns-then-kinds-i-gt1 : goal.returns-then-kinds-i-gt1
-returns-then-kinds-i-gt1 c =
-    sym (above_here 1 c.args.kinds.now c.loop-i.i c.loop-i-test.true c.if-kinds-i-gt1.true) ∙ c.loop-i.invariant.1
-
-pub overflow_add-i : goal.overflow_add-i
-overflow_add-i c = omega arith
-
-pub loop-i-smaller : goal.loop-i-smaller
-loop-i-smaller c = omega arith
-
-pub loop-i-preserved : goal.loop-i-preserved
-loop-i-preserved c =
-    (omega arith, sym (above_step 1 c.args.kinds.now c.loop-i.i c.loop-i-test.true c.if-kinds-i-gt1.false) ∙ c.loop-i.invariant.1)
 
 pub returns : goal.returns
 returns c =
-    sym (above_none 1 c.args.kinds.now c.loop-i.i c.loop-i-test.false) ∙ c.loop-i.invariant.1
+    any_from_yields_List (ltb 1) _ _ _ c.any.ensures.ran (YieldsList-from_slice c.args.kinds.now cc) (λ x b q k. search (rules, tests)) ∙ sym (above_any 1 c.args.kinds.now)

@@ -1,5 +1,4 @@
 -- Both ways answer by the points: without extras a number is no place's exactly where its point is no place.
-use borrow.Author.Rules.{rules}
 use mathlib.Core.Path.{sym, ◌∙◌}
 use Rattle.build_refusals.proofs.Places.{nowhere_wild}
 use Rattle.build_refusals.proofs.any_nowhere.Goals as goal

@@ -1,7 +1,6 @@
 -- `share_refusal` is the first of 20 and 21: both districts bring together what is lent, so that the rest of all is the first's.
 use mathlib.Core.Path.{◌≡◌, sym, ◌∙◌}
 use native.Mathlib.Omega.{arith}
-use borrow.Author.Rules.{rules}
 use Rattle.rules.specs.Districts.{over_lines, over_points}
 use Rattle.build_shares.proofs.Shares.{lines_shared, points_shared, over_lines_lem, over_points_lem, by_twenty, by_twenty_one, by_neither}
 use Rattle.build_shares.proofs.share_refusal.Goals as goal

@@ -1,60 +1,26 @@
--- `find` goes along the leaders of a bucket, which fall, so that the word itself is the measure. A leader of the key is always below the word.
-use Prim.Native.Nat.{◌-◌, ◌<◌}
-use mathlib.Core.Path.{sym, ◌∙◌}
-use native.Mathlib.Omega.{arith}
-use Rattle.chain_grouping.proofs.Keys.{same_true, same_false}
-use Rattle.chain_grouping.proofs.Seek.{Seek, seek_start, seek_below, seek_less, seek_step, seek_found, seek_none}
+-- A leader of the key is always at or below the one that is looked at.
+use Rattle.std.proofs.Common.{arith, sym, ◌∙◌, suc}
+use Rattle.chain_grouping.specs.Group.{key_words, same_words}
+use Rattle.chain_grouping.proofs.Keys.{same_false}
+use Rattle.chain_grouping.proofs.Seek.{Seek, seek_start, seek_below, seek_less, seek_step}
 use Rattle.chain_grouping.proofs.find.Goals as goal
-use Rattle.chain_grouping.proofs.find.Goals.{In-loop-c}
+use Rattle.chain_grouping.proofs.find.Goals.{In-Some}
 
--- the leader that is looked at
+here : (c : In-Some) → Seek c.args.w.now c.args.m c.args.e c.args.b (suc c.in-Some.f)
+here c = rw c.in-Some.is at c.loop-leader.invariant
 
-below : (c : In-loop-c) → c.loop-c.c - 1 < c.args.e
-below c =
-    seek_below c.args.w.now c.args.m c.args.e c.args.b c.requires.2 c.requires.3 c.requires.4 c.loop-c.c c.loop-c.invariant c.loop-c-test.true
+pub loop-leader-init : goal.loop-leader-init
+loop-leader-init c = rw c.named-leader.ensures (seek_start _ _ _ _ c.requires.2 c.requires.4 c.requires.5)
 
-pub offset_bounds-w-b : goal.offset_bounds-w-b
-offset_bounds-w-b c = omega arith
+pub key_at-requires : goal.key_at-requires
+key_at-requires c = omega (arith, seek_below _ _ _ _ c.requires.2 c.requires.4 c.requires.5 _ (here c))
 
-pub bounds-w-b : goal.bounds-w-b
-bounds-w-b c = omega arith
+pub loop-leader-smaller : goal.loop-leader-smaller
+loop-leader-smaller c = rw (c.in-Some.is, c.named-leader-in-Some.ensures) (seek_less _ _ _ _ c.requires.2 c.requires.4 c.requires.5 _ (here (goal.at.loop-leader-smaller c).In-Some))
 
-pub loop-c-init : goal.loop-c-init
-loop-c-init c =
-    seek_start c.args.w.now c.args.m c.args.e c.args.b c.requires.2 c.requires.3 c.requires.4
-
-pub overflow_sub-g : goal.overflow_sub-g
-overflow_sub-g c = omega arith
-
-pub overflow_mul-m : goal.overflow_mul-m
-overflow_mul-m c = omega arith
-
-pub same_key-requires : goal.same_key-requires
-same_key-requires c = (omega (arith, below c), omega arith)
-
-pub returns-then-same_key : goal.returns-then-same_key
-returns-then-same_key c =
-    seek_found c.args.w.now c.args.m c.args.e c.args.b c.requires.2 c.requires.3 c.requires.4 c.loop-c.c c.loop-c.invariant c.loop-c-test.true
-    (same_true _ _ (sym c.same_key.ensures ∙ c.if-same_key.true))
-
-pub overflow_add-c : goal.overflow_add-c
-overflow_add-c c = omega (arith, below (goal.at.overflow_add-c c).In-loop-c)
-
-pub offset_bounds-w-m : goal.offset_bounds-w-m
-offset_bounds-w-m c = omega (arith, below (goal.at.offset_bounds-w-m c).In-loop-c)
-
-pub bounds-w-m : goal.bounds-w-m
-bounds-w-m c = omega (arith, below (goal.at.bounds-w-m c).In-loop-c)
-
-pub loop-c-smaller : goal.loop-c-smaller
-loop-c-smaller c =
-    seek_less c.args.w.now c.args.m c.args.e c.args.b c.requires.2 c.requires.3 c.requires.4 c.loop-c.c c.loop-c.invariant c.loop-c-test.true
-
-pub loop-c-preserved : goal.loop-c-preserved
-loop-c-preserved c =
-    seek_step c.args.w.now c.args.m c.args.e c.args.b c.requires.2 c.requires.3 c.requires.4 c.loop-c.c c.loop-c.invariant c.loop-c-test.true
-    (same_false _ _ (sym c.same_key.ensures ∙ c.if-same_key.false))
-
-pub returns : goal.returns
-returns c =
-    seek_none c.args.w.now c.args.m c.args.e c.args.b c.requires.2 c.requires.3 c.requires.4 c.loop-c.c c.loop-c.invariant c.loop-c-test.false
+pub loop-leader-preserved : goal.loop-leader-preserved
+unfolding same_words
+loop-leader-preserved c =
+    rw c.named-leader-in-Some.ensures
+    (seek_step _ _ _ _ c.requires.2 c.requires.4 c.requires.5 _ (here (goal.at.loop-leader-preserved c).In-Some)
+    (λ q. same_false (key_words c.key_at.result) (key_words c.args.key) (sym c.eq.ensures ∙ c.if-eq.false) (c.key_at.ensures ∙ q ∙ sym c.requires.3)))

@@ -1,5 +1,4 @@
 -- `side_direction` hands `piece_direction` the part that the record names.
-use borrow.Author.Rules.{rules}
 use mathlib.Core.Path.{sym, ap, subst, ◌∙◌}
 use mathlib.Core.List.{List}
 use Prim.Native.Nat.{ℕ}

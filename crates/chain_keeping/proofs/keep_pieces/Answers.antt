@@ -1,5 +1,4 @@
 -- The walks are the pieces, each alone (`Keeping`), so what is emitted are the pieces.
-use borrow.Author.Rules.{rules}
 use Rattle.chain_keeping.proofs.Keeping.{keeping_walks, kept}
 use Rattle.chain_keeping.proofs.keep_pieces.Goals as goal
 

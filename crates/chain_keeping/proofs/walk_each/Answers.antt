@@ -1,13 +1,10 @@
 -- After q turns the entries of the first q pieces stand from `at` on; the lengths are filled in behind them.
-use Prim.Native.Nat.{◌≤◌, ◌-◌, ◌+◌, ◌*◌}
+use Prim.Native.Nat.{◌*◌}
 use mathlib.Core.Path.{◌≡◌, refl}
 use native.Mathlib.Omega.{arith}
-use borrow.Author.Rules.{rules}
-use lib.ListN.{length, length-set}
-use Rattle.point_slices.specs.Holds.{HoldsFrom}
+use lib.ListN.{length-set}
 use Rattle.point_slices.proofs.Laws.{from_start, from_set}
 use Rattle.rules.specs.Lists.{from, upto}
-use Rattle.chain_keeping.specs.Keeping.{entries_of}
 use Rattle.chain_keeping.proofs.Alone.{entries_next}
 use Rattle.chain_keeping.proofs.walk_each.Goals as goal
 

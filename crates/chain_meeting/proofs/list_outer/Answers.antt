@@ -1,9 +1,8 @@
 -- `list_outer` reads the lengths of the walks and their first and last entries, which stand below what it writes (`Listing`).
 use Prim.Native.Nat.{ℕ, ◌+◌, ◌-◌, ◌*◌, ◌/◌, ◌≤◌, ◌<◌}
 use native.Mathlib.Omega.{arith}
-use lib.ListN.{length, get_or, length-set}
-use Rattle.chain_meeting.specs.Meeting.{OuterListable}
-use Rattle.chain_meeting.proofs.Listing.{Listing, listing_start, listing_done, size, inside, filled, last_low, listing_step}
+use lib.ListN.{length, get_or}
+use Rattle.chain_meeting.proofs.Listing.{listing_start, listing_done, size, inside, filled, last_low, listing_step}
 use Rattle.chain_meeting.proofs.list_outer.Goals as goal
 use Rattle.chain_meeting.proofs.list_outer.Goals.{In-loop-j}
 
@@ -38,15 +37,6 @@ turn i =
 pub loop-j-init : goal.loop-j-init
 loop-j-init c = λ y. listing_start c.args.w.now c.args.entries c.args.lengths c.args.r c.args.at y
 
-pub overflow_add-to : goal.overflow_add-to
-overflow_add-to c = let t = turn c in omega (arith, t.within, t.room, t.lengths_below, t.some, t.ends, t.low)
-
-pub offset_bounds-w-lengths : goal.offset_bounds-w-lengths
-offset_bounds-w-lengths c = let t = turn c in omega (arith, t.within, t.room, t.lengths_below, t.some, t.ends, t.low)
-
-pub bounds-w-lengths : goal.bounds-w-lengths
-bounds-w-lengths c = let t = turn (goal.at.bounds-w-lengths c).In-loop-j in omega (arith, t.within, t.room, t.lengths_below, t.some, t.ends, t.low)
-
 pub overflow_add-to-in-loop-j : goal.overflow_add-to-in-loop-j
 overflow_add-to-in-loop-j c = let t = turn (goal.at.overflow_add-to-in-loop-j c).In-loop-j in omega (arith, t.within, t.room, t.lengths_below, t.some, t.ends, t.low)
 
@@ -65,59 +55,14 @@ offset_bounds-w-to c = let t = turn (goal.at.offset_bounds-w-to c).In-loop-j in 
 pub bounds-w-to : goal.bounds-w-to
 bounds-w-to c = let t = turn (goal.at.bounds-w-to c).In-loop-j in omega (arith, t.within, t.room, t.lengths_below, t.some, t.ends, t.low)
 
-pub overflow_mul-w : goal.overflow_mul-w
-overflow_mul-w c = let t = turn (goal.at.overflow_mul-w c).In-loop-j in omega (arith, t.within, t.room, t.lengths_below, t.some, t.ends, t.low)
-
-pub overflow_add-w : goal.overflow_add-w
-overflow_add-w c = let t = turn (goal.at.overflow_add-w c).In-loop-j in omega (arith, t.within, t.room, t.lengths_below, t.some, t.ends, t.low)
-
-pub offset_bounds-w-at : goal.offset_bounds-w-at
-offset_bounds-w-at c = let t = turn (goal.at.offset_bounds-w-at c).In-loop-j in omega (arith, t.within, t.room, t.lengths_below, t.some, t.ends, t.low)
-
-pub bounds-w-at : goal.bounds-w-at
-bounds-w-at c = let t = turn (goal.at.bounds-w-at c).In-loop-j in omega (arith, t.within, t.room, t.lengths_below, t.some, t.ends, t.low)
-
 pub overflow_add-w-in-loop-j : goal.overflow_add-w-in-loop-j
 overflow_add-w-in-loop-j c = let t = turn (goal.at.overflow_add-w-in-loop-j c).In-loop-j in omega (arith, t.within, t.room, t.lengths_below, t.some, t.ends, t.low)
-
-pub overflow_mul-w-in-loop-j : goal.overflow_mul-w-in-loop-j
-overflow_mul-w-in-loop-j c = let t = turn (goal.at.overflow_mul-w-in-loop-j c).In-loop-j in omega (arith, t.within, t.room, t.lengths_below, t.some, t.ends, t.low)
-
-pub overflow_sub-w : goal.overflow_sub-w
-overflow_sub-w c = let t = turn (goal.at.overflow_sub-w c).In-loop-j in omega (arith, t.within, t.room, t.lengths_below, t.some, t.ends, t.low)
-
-pub overflow_mul-w-in-loop-j-2 : goal.overflow_mul-w-in-loop-j-2
-overflow_mul-w-in-loop-j-2 c = let t = turn (goal.at.overflow_mul-w-in-loop-j-2 c).In-loop-j in omega (arith, t.within, t.room, t.lengths_below, t.some, t.ends, t.low)
-
-pub overflow_add-w-in-loop-j-2 : goal.overflow_add-w-in-loop-j-2
-overflow_add-w-in-loop-j-2 c = let t = turn (goal.at.overflow_add-w-in-loop-j-2 c).In-loop-j in omega (arith, t.within, t.room, t.lengths_below, t.some, t.ends, t.low)
-
-pub overflow_add-w-in-loop-j-3 : goal.overflow_add-w-in-loop-j-3
-overflow_add-w-in-loop-j-3 c = let t = turn (goal.at.overflow_add-w-in-loop-j-3 c).In-loop-j in omega (arith, t.within, t.room, t.lengths_below, t.some, t.ends, t.low)
-
-pub offset_bounds-w-at-in-loop-j : goal.offset_bounds-w-at-in-loop-j
-offset_bounds-w-at-in-loop-j c = let t = turn (goal.at.offset_bounds-w-at-in-loop-j c).In-loop-j in omega (arith, t.within, t.room, t.lengths_below, t.some, t.ends, t.low)
-
-pub bounds-w-at-in-loop-j : goal.bounds-w-at-in-loop-j
-bounds-w-at-in-loop-j c = let t = turn (goal.at.bounds-w-at-in-loop-j c).In-loop-j in simp length-set (omega (arith, t.within, t.room))
-
-pub overflow_add-j : goal.overflow_add-j
-overflow_add-j c = let t = turn (goal.at.overflow_add-j c).In-loop-j in omega (arith, t.within, t.room, t.lengths_below, t.some, t.ends, t.low)
-
-pub loop-j-smaller : goal.loop-j-smaller
-loop-j-smaller c = let t = turn (goal.at.loop-j-smaller c).In-loop-j in omega (arith, t.within, t.room, t.lengths_below, t.some, t.ends, t.low)
 
 pub loop-j-preserved : goal.loop-j-preserved
 loop-j-preserved c =
     let l = c.loop-j in
     let a = c.args in
     λ y. listing_step a.w.now a.entries a.lengths a.r a.at y l.w l.from l.j (l.invariant y) c.loop-j-test.true
-
-pub shape_of-w : goal.shape_of-w
-shape_of-w c =
-    let l = c.loop-j in
-    let a = c.args in
-    size a.w.now a.entries a.lengths a.r a.at c.requires l.w l.from l.j (l.invariant c.requires)
 
 pub returns : goal.returns
 returns c =

@@ -1,5 +1,4 @@
 -- `meet` lists the outer ends of the walks, collects their keys and groups them: `ends_met` says what these are.
-use borrow.Author.Rules.{rules}
 use native.Mathlib.Omega.{arith}
 use Rattle.chain_meeting.proofs.Ends.{few, listable, collectable, group_room_lem, ends_met}
 use Rattle.chain_meeting.proofs.meet.Goals as goal

@@ -1,5 +1,4 @@
 -- The two calls write two parts of the front and read what stands beyond, so that neither disturbs the other.
-use borrow.Author.Rules.{rules}
 use Rattle.chain_merging.proofs.Finished.{listable, finished}
 use Rattle.chain_merging.proofs.emit_all.Goals as goal
 

@@ -1,5 +1,5 @@
 -- Between two walks the records and copies of those before stand where they belong (`Emitting`).
-use Prim.Native.Nat.{◌+◌, ◌-◌, ◌≤◌, ◌<◌}
+use Prim.Native.Nat.{◌+◌, ◌≤◌, ◌<◌}
 use mathlib.Core.Path.{◌≡◌}
 use native.Mathlib.Omega.{arith}
 use lib.ListN.{length, get_or}
@@ -46,15 +46,6 @@ counts k y =
 pub loop-j-init : goal.loop-j-init
 loop-j-init c = let a = c.args in λ y. emitting_start a.width a.w.now a.n a.old a.m a.entries a.lengths a.r a.input.now a.spare.now a.merged.now y
 
-pub overflow_add-to : goal.overflow_add-to
-overflow_add-to c = omega (arith, in_lengths (goal.at.overflow_add-to c).In-loop-j, (emitting (goal.at.overflow_add-to c).At-loop-j).size_same)
-
-pub offset_bounds-w-lengths : goal.offset_bounds-w-lengths
-offset_bounds-w-lengths c = omega (arith, in_lengths (goal.at.offset_bounds-w-lengths c).In-loop-j, (emitting (goal.at.offset_bounds-w-lengths c).At-loop-j).size_same)
-
-pub bounds-w-lengths : goal.bounds-w-lengths
-bounds-w-lengths c = omega (arith, in_lengths (goal.at.bounds-w-lengths c).In-loop-j)
-
 pub overflow_add-to-in-loop-j : goal.overflow_add-to-in-loop-j
 overflow_add-to-in-loop-j c = omega (arith, in_entries (goal.at.overflow_add-to-in-loop-j c).In-loop-j, (emitting (goal.at.overflow_add-to-in-loop-j c).At-loop-j).size_same)
 
@@ -63,9 +54,6 @@ count_members-b-requires c =
     let a = c.args in
     counted a.width a.w.now a.n a.old a.m a.entries a.lengths a.r a.input.now a.spare.now a.merged.now c.requires
     c.loop-j.w c.loop-j.merged c.loop-j.from c.loop-j.members c.loop-j.points c.loop-j.j (emitting (goal.at.count_members-b-requires c).At-loop-j) c.loop-j-test.true
-
-pub overflow_mul-j : goal.overflow_mul-j
-overflow_mul-j c = omega (arith, c.loop-j-test.true, c.requires.few, c.requires.front, c.requires.held.room)
 
 pub emit_walk-points-requires : goal.emit_walk-points-requires
 emit_walk-points-requires c =
@@ -86,12 +74,6 @@ overflow_add-members c =
       c.requires.held.room,
     )
 
-pub overflow_add-j : goal.overflow_add-j
-overflow_add-j c = omega (arith, c.loop-j-test.true)
-
-pub loop-j-smaller : goal.loop-j-smaller
-loop-j-smaller c = omega (arith, c.loop-j-test.true)
-
 pub loop-j-preserved : goal.loop-j-preserved
 loop-j-preserved c =
     let a = c.args in
@@ -102,12 +84,6 @@ loop-j-preserved c =
     (emittable a.width a.w.now a.n a.old a.m a.entries a.lengths a.r a.input.now a.spare.now a.merged.now y
     c.loop-j.w c.loop-j.merged c.loop-j.from c.loop-j.members c.loop-j.points c.loop-j.j (c.loop-j.invariant y) c.loop-j-test.true
     c.count_members-b.result (counts (goal.at.loop-j-preserved c).After-count_members-b y)))
-
-pub shape_of-w : goal.shape_of-w
-shape_of-w c = (emitting (goal.at.shape_of-w c).At-loop-j).size_same
-
-pub shape_of-merged : goal.shape_of-merged
-shape_of-merged c = (emitting (goal.at.shape_of-merged c).At-loop-j).merged_size
 
 pub returns : goal.returns
 returns c =

@@ -1,9 +1,7 @@
 -- One piece is copied, whichever source it stands in; more pieces are laid one after another.
-use borrow.Author.Rules.{rules}
 use Prim.Native.Nat.{◌+◌, ◌≤◌}
 use mathlib.Core.Path.{subst, sym}
 use mathlib.Core.List.{List}
-use native.Mathlib.Omega.{arith}
 use lib.ListN.{length, get_or}
 use Rattle.rules.specs.Plane.{Point, flat}
 use Rattle.rules.specs.Walking.{piece_of}
@@ -21,12 +19,6 @@ in_record s =
     let a = s.args in
     first_inside a.width a.w.now a.old a.from a.to a.input.now a.spare.now s.requires.entered
 
-pub overflow_mul-p : goal.overflow_mul-p
-overflow_mul-p c = omega (arith, in_record (goal.at.overflow_mul-p c).Start)
-
-pub overflow_add-p : goal.overflow_add-p
-overflow_add-p c = omega (arith, in_record (goal.at.overflow_add-p c).Start)
-
 pub coordinates_of-c-requires : goal.coordinates_of-c-requires
 coordinates_of-c-requires c =
     let a = c.args in
@@ -43,8 +35,8 @@ returns-then-to-from-eq1 c =
     λ y. lone_held a.width a.w.now a.old a.from a.to a.input.now a.spare.now a.merged.now a.at y c.if-to-from-eq1.true c.coordinates_of-c.result.now c.coordinates_of-c.ensures
     c.copy_into.new.dst c.copy_into.ensures
 
-pub returns : goal.returns
-returns c =
+pub returns-else-to-from-eq1 : goal.returns-else-to-from-eq1
+returns-else-to-from-eq1 c =
     let a = c.args in
     λ y. subst (λ (l : List Point). HoldsFrom c.append_walk.new.merged a.merged.now a.at c.append_walk.result (flat a.width l))
     (sym (more_points a.width a.w.now a.old a.from a.to a.input.now a.spare.now y.entered c.if-to-from-eq1.false))

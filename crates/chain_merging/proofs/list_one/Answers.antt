@@ -1,18 +1,10 @@
 -- One line is a member, a mark and a place in the listing, a number stored each.
-use borrow.Author.Rules.{rules}
 use native.Mathlib.Omega.{arith}
-use lib.ListN.{length-set}
 use Rattle.chain_merging.proofs.Single.{first_low, members_one}
 use Rattle.chain_merging.proofs.list_one.Goals as goal
 
 pub overflow_add-w-2 : goal.overflow_add-w-2
 overflow_add-w-2 c = omega (arith, first_low c.args.w.now c.args.n c.args.from c.args.at c.args.side 1 c.requires (omega arith), c.requires.one)
-
-pub bounds-w-at-2 : goal.bounds-w-at-2
-bounds-w-at-2 c = simp length-set (omega arith)
-
-pub bounds-w-at-3 : goal.bounds-w-at-3
-bounds-w-at-3 c = simp length-set (omega arith)
 
 pub returns : goal.returns
 returns c = members_one c.args.w.now c.args.n c.args.from c.args.at c.args.side c.requires

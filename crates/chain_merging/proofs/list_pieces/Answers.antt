@@ -1,12 +1,12 @@
 -- Between two entries the members, marks and listing of those before stand at the front (`Listing`).
-use Prim.Native.Nat.{ℕ, ◌+◌, ◌-◌, ◌%◌, ◌≤◌}
+use Prim.Native.Nat.{ℕ, ◌+◌, ◌%◌, ◌≤◌}
 use mathlib.Core.Path.{◌≡◌}
 use native.Mathlib.Omega.{arith}
 use lib.ListN.{length, get_or}
 use Rattle.rules.specs.Walking.{piece_of}
 use Rattle.rules.specs.Refusals.{piece_size}
 use Rattle.chain_pieces.specs.Held.{record_of}
-use Rattle.chain_merging.specs.Emit.{Listable, PiecesListable}
+use Rattle.chain_merging.specs.Emit.{Listable}
 use Rattle.chain_merging.proofs.Listing.{Listing, listing_start, listing_done, listing_record, listing_listable, listing_step}
 use Rattle.chain_merging.proofs.list_pieces.Goals as goal
 use Rattle.chain_merging.proofs.list_pieces.Goals.{At-loop-k, In-loop-k}
@@ -33,65 +33,31 @@ module _ (i : In-loop-k) where
       (get_or i.loop-k.w (at + 1) 0) (get_or i.loop-k.w (i.args.entries + i.loop-k.k) 0 % 2)
   in_part = listing_listable i.args.w.now i.args.n i.args.old i.args.entries i.args.m i.requires i.loop-k.w i.loop-k.r i.loop-k.k (listing l) i.loop-k-test.true
 
-  fits : i.loop-k.r + get_or i.loop-k.w (at + 1) 0 ≤ i.args.n
-  fits = in_part.fits
-
 pub loop-k-init : goal.loop-k-init
 loop-k-init c = let a = c.args in λ y. listing_start a.w.now a.n a.old a.entries a.m y
 
-pub overflow_add-e : goal.overflow_add-e
-overflow_add-e c = omega (arith, c.requires.inside, c.loop-k-test.true)
+pub overflow_mul-e : goal.overflow_mul-e
+overflow_mul-e c = omega (arith, in_record (goal.at.overflow_mul-e c).In-loop-k)
 
-pub offset_bounds-w-entries : goal.offset_bounds-w-entries
-offset_bounds-w-entries c = omega (arith, c.requires.inside, c.loop-k-test.true)
+pub overflow_add-old : goal.overflow_add-old
+overflow_add-old c = omega (arith, in_record (goal.at.overflow_add-old c).In-loop-k)
 
-pub bounds-w-entries : goal.bounds-w-entries
-bounds-w-entries c = omega (arith, c.requires.inside, c.loop-k-test.true, (listing (goal.at.bounds-w-entries c).At-loop-k).size)
+pub read-piece-requires : goal.read-piece-requires
+read-piece-requires c = (in_record (goal.at.read-piece-requires c).In-loop-k).0
 
-pub overflow_mul-p : goal.overflow_mul-p
-overflow_mul-p c = omega (arith, in_record (goal.at.overflow_mul-p c).In-loop-k)
-
-pub overflow_add-p : goal.overflow_add-p
-overflow_add-p c = omega (arith, in_record (goal.at.overflow_add-p c).In-loop-k)
-
-pub overflow_add-count : goal.overflow_add-count
-overflow_add-count c = omega (arith, in_record (goal.at.overflow_add-count c).In-loop-k)
-
-pub offset_bounds-w-p : goal.offset_bounds-w-p
-offset_bounds-w-p c = omega (arith, in_record (goal.at.offset_bounds-w-p c).In-loop-k)
-
-pub bounds-w-p : goal.bounds-w-p
-bounds-w-p c = omega (arith, in_record (goal.at.bounds-w-p c).In-loop-k)
-
-pub offset_bounds-w-p-in-loop-k : goal.offset_bounds-w-p-in-loop-k
-offset_bounds-w-p-in-loop-k c = omega (arith, in_record (goal.at.offset_bounds-w-p-in-loop-k c).In-loop-k)
-
-pub bounds-w-p-in-loop-k : goal.bounds-w-p-in-loop-k
-bounds-w-p-in-loop-k c = omega (arith, in_record (goal.at.bounds-w-p-in-loop-k c).In-loop-k)
-
-pub overflow_add-from : goal.overflow_add-from
-overflow_add-from c = omega (arith, (in_part (goal.at.overflow_add-from c).In-loop-k).inside, in_record (goal.at.overflow_add-from c).In-loop-k)
+pub overflow_add-old-in-loop-k : goal.overflow_add-old-in-loop-k
+overflow_add-old-in-loop-k c =
+    let i = (goal.at.overflow_add-old-in-loop-k c).In-loop-k in
+    omega (arith, c.read-piece.ensures.member, (in_part i).inside, in_record i)
 
 pub list_members-requires : goal.list_members-requires
-list_members-requires c = in_part (goal.at.list_members-requires c).In-loop-k
-
-pub overflow_add-r : goal.overflow_add-r
-overflow_add-r c = omega (arith, fits (goal.at.overflow_add-r c).In-loop-k, (in_part (goal.at.overflow_add-r c).In-loop-k).inside)
-
-pub overflow_add-k : goal.overflow_add-k
-overflow_add-k c = omega (arith, c.loop-k-test.true, c.requires.inside)
-
-pub loop-k-smaller : goal.loop-k-smaller
-loop-k-smaller c = omega (arith, c.loop-k-test.true)
+list_members-requires c = rw (c.read-piece.ensures.member, c.read-piece.ensures.members) (in_part (goal.at.list_members-requires c).In-loop-k)
 
 pub loop-k-preserved : goal.loop-k-preserved
 loop-k-preserved c =
     let a = c.args in
-    λ y. listing_step a.w.now a.n a.old a.entries a.m y c.loop-k.w c.loop-k.r c.loop-k.k (c.loop-k.invariant y) c.loop-k-test.true
-    c.list_members.new.w c.list_members.ensures
-
-pub shape_of-w : goal.shape_of-w
-shape_of-w c = (listing (goal.at.shape_of-w c).At-loop-k).size
+    λ y. rw c.read-piece.ensures.members (listing_step a.w.now a.n a.old a.entries a.m y c.loop-k.w c.loop-k.r c.loop-k.k (c.loop-k.invariant y) c.loop-k-test.true
+    c.list_members.new.w (rw (c.read-piece.ensures.member, c.read-piece.ensures.members) at c.list_members.ensures))
 
 pub returns : goal.returns
 returns c =

@@ -1,5 +1,4 @@
 -- `emit_round` emits the walks of a round: the pieces of the walks are the book's `join`.
-use borrow.Author.Rules.{rules}
 use Rattle.chain_round.proofs.Joining.{walked_emits, emitted_rounded}
 use Rattle.chain_round.proofs.emit_round.Goals as goal
 

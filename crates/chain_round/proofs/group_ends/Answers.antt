@@ -1,5 +1,4 @@
 -- `group_ends` writes the keys beyond everything else and groups the ends there; the pieces stay where they are.
-use borrow.Author.Rules.{rules}
 use Rattle.chain_round.proofs.Grouping.{key_asks, group_room_lem, grouped_ended}
 use Rattle.chain_round.proofs.group_ends.Goals as goal
 

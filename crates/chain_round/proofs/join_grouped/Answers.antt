@@ -1,5 +1,4 @@
 -- `join_grouped` is the second half of a round: walks over grouped ends, and the pieces of the walks.
-use borrow.Author.Rules.{rules}
 use Rattle.chain_round.proofs.Joining.{walked_round, rounded_from}
 use Rattle.chain_round.proofs.join_grouped.Goals as goal
 

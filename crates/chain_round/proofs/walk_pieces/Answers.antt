@@ -1,5 +1,4 @@
 -- `walk_pieces` clears the table and the marks, joins the nodes and walks: the table is the partners', so the walks are the book's.
-use borrow.Author.Rules.{rules}
 use Rattle.chain_nodes.proofs.Frames.{noded_kept}
 use Rattle.chain_round.proofs.Walking.{noded₁, walk_asks, pieces_walked}
 use Rattle.chain_round.proofs.walk_pieces.Goals as goal

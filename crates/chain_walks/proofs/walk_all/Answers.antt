@@ -1,12 +1,11 @@
 -- All walks: between two starts the workspace is a `Bench`, with the walks of the starts below s written and their pieces marked. A marked start has
 -- its walk already; another's walk goes behind the others, and room is left for it because no piece is walked twice.
-use Prim.Native.Nat.{◌≤◌, ◌<◌, ◌-◌, ◌+◌, ◌*◌}
-use mathlib.Core.Path.{◌≡◌, sym, ap, ◌∙◌}
+use Prim.Native.Nat.{◌≤◌, ◌<◌, ◌+◌}
+use mathlib.Core.Path.{◌≡◌, ap, ◌∙◌}
 use native.Mathlib.Omega.{arith}
 use lib.ListN.{length}
-use lib.Seq.{length-take-le}
 use Rattle.chain_laws.specs.Table.{head_of}
-use Rattle.chain_walks.specs.Walks.{joins_of, WalksReady}
+use Rattle.chain_walks.specs.Walks.{joins_of}
 use Rattle.chain_walks.proofs.Starts.{Bench, bench_start, bench_skip, bench_done, joins_same, walkable, count_fits, r_fits, walked_size, bench_walk}
 use Rattle.chain_walks.proofs.walk_all.Goals as goal
 use Rattle.chain_walks.proofs.walk_all.Goals.{After-walk_on-r, At-loop-s, then-w-n-ne1, else-w-n-ne1}
@@ -42,28 +41,6 @@ module _ (k : After-walk_on-r) where
 pub loop-s-init : goal.loop-s-init
 loop-s-init c = λ y. bench_start c.args.w.now c.args.n y
 
-pub overflow_mul-n : goal.overflow_mul-n
-overflow_mul-n c = omega (arith, c.requires.table.small)
-
-pub overflow_add-n : goal.overflow_add-n
-overflow_add-n c = omega (arith, c.requires.table.small)
-
-pub offset_bounds-w-n : goal.offset_bounds-w-n
-offset_bounds-w-n c = omega (arith, c.requires.table.small)
-
-pub bounds-w-n : goal.bounds-w-n
-bounds-w-n c = omega (arith, c.requires.room, (bench (goal.at.bounds-w-n c).At-loop-s).size, c.loop-s-test.true)
-
-pub overflow_mul-n-then-w-n-ne1 : goal.overflow_mul-n-then-w-n-ne1
-overflow_mul-n-then-w-n-ne1 c = omega (arith, c.requires.table.small)
-
-pub slice_bounds-head-end : goal.slice_bounds-head-end
-slice_bounds-head-end c = omega (arith, c.requires.room, (bench (goal.at.slice_bounds-head-end c).At-loop-s).size)
-
-pub slice_bounds-head-end-then-w-n-ne1 : goal.slice_bounds-head-end-then-w-n-ne1
-slice_bounds-head-end-then-w-n-ne1 c =
-    sym (length-take-le (2 * c.args.n) c.loop-s.w (omega (arith, c.requires.room, (bench (goal.at.slice_bounds-head-end-then-w-n-ne1 c).At-loop-s).size)))
-
 pub head-e-requires : goal.head-e-requires
 head-e-requires c = (rw (same (goal.at.head-e-requires c).At-loop-s) c.requires.table, c.loop-s-test.true)
 
@@ -72,9 +49,6 @@ walk_on-r-requires c =
     walkable c.args.w.now c.args.n c.requires c.loop-s.w c.loop-s.s c.loop-s.at c.loop-s.c (bench (goal.at.walk_on-r-requires c).At-loop-s)
     c.loop-s-test.true c.if-w-n-ne1.true c.head-e.result
     (c.head-e.ensures ∙ ap (λ t. head_of t c.args.n c.loop-s.s) (same (goal.at.walk_on-r-requires c).At-loop-s))
-
-pub overflow_mul-w : goal.overflow_mul-w
-overflow_mul-w c = omega (arith, c.requires.table.small)
 
 pub overflow_add-w : goal.overflow_add-w
 overflow_add-w c = omega (arith, c.requires.table.small, few (goal.at.overflow_add-w c).After-walk_on-r)
@@ -91,12 +65,6 @@ overflow_add-at c = omega (arith, c.requires.table.small, filled (goal.at.overfl
 pub overflow_add-c : goal.overflow_add-c
 overflow_add-c c = omega (arith, c.requires.table.small, few (goal.at.overflow_add-c c).After-walk_on-r)
 
-pub overflow_add-s : goal.overflow_add-s
-overflow_add-s c = omega (arith, c.requires.table.small, c.loop-s-test.true)
-
-pub loop-s-smaller : goal.loop-s-smaller
-loop-s-smaller c = omega (arith, c.loop-s-test.true)
-
 pub loop-s-preserved : goal.loop-s-preserved
 loop-s-preserved c =
     λ y. elim c.if-w-n-ne1.branch [
@@ -109,9 +77,6 @@ loop-s-preserved c =
           rw (u.w-is, u.at-is, u.c-is)
           (bench_skip c.args.w.now c.args.n y c.loop-s.w c.loop-s.s c.loop-s.at c.loop-s.c (c.loop-s.invariant y) c.loop-s-test.true u.if-w-n-ne1.false)
     ]
-
-pub shape_of-w : goal.shape_of-w
-shape_of-w c = (bench (goal.at.shape_of-w c).At-loop-s).size
 
 pub returns : goal.returns
 returns c =

@@ -1,25 +1,23 @@
 -- The three kinds of chains.
-use borrow.Author.Rules.{rules}
 use native.Mathlib.Omega.{arith}
 use mathlib.Core.Path.{sym, ◌∙◌}
 use lib.ListN.{length-map}
 use Rattle.rules.specs.Plane.{points}
 use Rattle.check_fits.specs.Fits.{chosen}
-use Rattle.check_fits.proofs.Lines.{line_of}
+use Rattle.check_fits.proofs.Listed.{line_of}
 use Rattle.check_fits.proofs.Joining.{fits_joins, none_fits}
 use Rattle.check_fits.proofs.chain_fits.Goals as goal
 
-pub returns-then-listed-eq0 : goal.returns-then-listed-eq0
-returns-then-listed-eq0 c = let a = c.args in (none_fits a.width a.coordinates.now a.firsts.now a.counts.now a.groups.now a.kinds.now c.requires.0 a.m a.listed.now a.chain.now c.requires.1 c.if-listed-eq0.true, c.requires.2)
+pub returns-in-empty : goal.returns-in-empty
+returns-in-empty c =
+    let a = c.args in
+    let l = a.lines.now in
+    c.is_empty.ensures ∙ none_fits l.width l.coordinates.now l.firsts.now l.counts.now l.groups.now l.kinds.now l.tabled a.m a.listed.now a.chain.now c.requires c.in-empty.len_below
 
-pub returns-then-listed-eq1 : goal.returns-then-listed-eq1
-returns-then-listed-eq1 c = (c.lone_fits.ensures c.args.m, c.requires.2)
-
-pub returns : goal.returns
-returns c =
-    let a = c.args in (
-      c.joins.ensures.0
-          ∙ sym (fits_joins a.m (chosen a.width a.coordinates.now a.counts.now a.groups.now a.kinds.now a.listed.now) (points a.width a.chain.now)
-          (omega (arith, length-map a.listed.now (line_of a.width a.coordinates.now a.firsts.now a.counts.now a.groups.now a.kinds.now c.requires.0), c.if-listed-eq0.false, c.if-listed-eq1.false))),
-      c.joins.ensures.1,
-    )
+pub returns-in_default : goal.returns-in_default
+returns-in_default c =
+    let a = c.args in
+    let l = a.lines.now in
+    c.joins.ensures
+    ∙ sym (fits_joins a.m (chosen l.width l.coordinates.now l.counts.now l.groups.now l.kinds.now a.listed.now) (points l.width a.chain.now)
+    (omega (arith, length-map a.listed.now (line_of l.width l.coordinates.now l.firsts.now l.counts.now l.groups.now l.kinds.now l.tabled))))

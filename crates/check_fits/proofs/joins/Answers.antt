@@ -1,38 +1,33 @@
 -- The tests one after another.
-use native.Mathlib.Omega.{arith}
 use mathlib.Core.Path.{sym, ◌∙◌}
-use Rattle.check_fits.proofs.Lines.{listed_lines}
+use Rattle.check_fits.proofs.Listed.{listed_lines}
 use Rattle.check_fits.proofs.Joining.{not_plain, mixed, chosen_one}
 use Rattle.check_fits.proofs.joins.Goals as goal
-
-pub all_plain-requires : goal.all_plain-requires
-all_plain-requires c = (c.requires.1.below, λ i h. omega (arith, c.requires.1.below i h, c.requires.0.lined.kinds_long))
-
-pub returns-then-not-all_plain : goal.returns-then-not-all_plain
-returns-then-not-all_plain c =
-    let a = c.args in
-    (not_plain a.width a.coordinates.now a.firsts.now a.counts.now a.groups.now a.kinds.now c.requires.0 a.m a.listed.now a.chain.now c.requires.1 c.requires.2 c.all_plain.result c.all_plain.ensures c.if-not-all_plain.true, c.requires.3)
-
-pub one_group-requires : goal.one_group-requires
-one_group-requires c = (c.requires.2, λ i h. omega (arith, c.requires.1.below i h, c.requires.0.lined.groups_long))
-
-pub returns-then-not-one_group : goal.returns-then-not-one_group
-returns-then-not-one_group c =
-    let a = c.args in (
-      mixed a.width a.coordinates.now a.firsts.now a.counts.now a.groups.now a.kinds.now c.requires.0 a.m a.listed.now a.chain.now c.requires.1 c.requires.2 c.all_plain.result c.one_group.result
-          c.all_plain.ensures c.if-not-all_plain.false c.one_group.ensures c.if-not-one_group.true,
-      c.requires.3,
-    )
 
 pub a_choice-requires : goal.a_choice-requires
 a_choice-requires c =
     let a = c.args in
-    (listed_lines a.width a.coordinates.now a.firsts.now a.counts.now a.groups.now a.kinds.now c.requires.0 a.listed.now a.chain.now c.requires.1 (sym c.all_plain.ensures ∙ c.if-not-all_plain.false) c.requires.2, c.requires.3)
+    let l = a.lines.now in
+    listed_lines l.width l.coordinates.now l.firsts.now l.counts.now l.groups.now l.kinds.now l.tabled a.listed.now a.chain.now c.requires.lent (sym c.all_plain.ensures ∙ c.if-all_plain.true) c.requires.some_line
 
-pub returns : goal.returns
-returns c =
-    let a = c.args in (
-      chosen_one a.width a.coordinates.now a.firsts.now a.counts.now a.groups.now a.kinds.now c.requires.0 a.m a.listed.now a.chain.now c.requires.1 c.requires.2 c.all_plain.result c.one_group.result c.a_choice.result
-          c.all_plain.ensures c.if-not-all_plain.false c.one_group.ensures c.if-not-one_group.false c.a_choice.ensures.0,
-      c.a_choice.ensures.1,
-    )
+pub returns-then-one_group : goal.returns-then-one_group
+returns-then-one_group c =
+    let a = c.args in
+    let l = a.lines.now in
+    chosen_one l.width l.coordinates.now l.firsts.now l.counts.now l.groups.now l.kinds.now l.tabled a.m a.listed.now a.chain.now c.requires.lent c.requires.some_line c.all_plain.result c.one_group.result c.a_choice.result
+    c.all_plain.ensures c.if-all_plain.true c.one_group.ensures c.if-one_group.true c.a_choice.ensures
+
+pub returns-else-one_group : goal.returns-else-one_group
+returns-else-one_group c =
+    let a = c.args in
+    let l = a.lines.now in
+    c.if-one_group.false
+    ∙ mixed l.width l.coordinates.now l.firsts.now l.counts.now l.groups.now l.kinds.now l.tabled a.m a.listed.now a.chain.now c.requires.lent c.requires.some_line c.all_plain.result c.one_group.result
+    c.all_plain.ensures c.if-all_plain.true c.one_group.ensures c.if-one_group.false
+
+pub returns-else-all_plain : goal.returns-else-all_plain
+returns-else-all_plain c =
+    let a = c.args in
+    let l = a.lines.now in
+    c.if-all_plain.false
+    ∙ not_plain l.width l.coordinates.now l.firsts.now l.counts.now l.groups.now l.kinds.now l.tabled a.m a.listed.now a.chain.now c.requires.lent c.requires.some_line c.all_plain.result c.all_plain.ensures c.if-all_plain.false

@@ -1,30 +1,27 @@
--- The first point has none before it, and beyond the chain there is none.
-use borrow.Author.Rules.{rules}
+-- The first point has none before it, and a place beyond the chain has none at all.
+use Prim.Native.Nat.{◌*◌}
 use native.Mathlib.Omega.{arith}
-use native.Mathlib.Nat.{mul-le-mul}
 use mathlib.Core.Path.{ap, ◌∙◌}
 use mathlib.Core.Bool.{not}
+use lib.ListN.{length}
+use borrow.Author.Tests.{le-ltb}
 use Rattle.rules.specs.Plane.{points}
-use Rattle.check_marks.proofs.Fresh.{fresh_first, fresh_beyond, before_inside, next_inside, fresh_there}
+use Rattle.check_marks.proofs.Fresh.{fresh_first, fresh_beyond, fresh_there}
+use Rattle.check_marks.proofs.fresh_at.Goals.{then-i-gt0, else-i-gt0}
 use Rattle.check_marks.proofs.fresh_at.Goals as goal
 
-pub returns-then-i-eq0 : goal.returns-then-i-eq0
-returns-then-i-eq0 c = let a = c.args in fresh_first (points a.width a.chain.now) a.i c.if-i-eq0.true
+pub returns-then-at-chain : goal.returns-then-at-chain
+returns-then-at-chain c =
+    let a = c.args in
+    let t = c.if-at-chain.true in
+    ap not c.equal.ensures ∙ fresh_there a.width a.chain.now c.requires.0 c.requires.2 a.i (λ z. omega arith) t.1
 
-pub overflow_mul-at : goal.overflow_mul-at
-overflow_mul-at c = omega (arith, mul-le-mul c.requires.3 c.requires.1)
-
-pub returns-then-chain-at : goal.returns-then-chain-at
-returns-then-chain-at c = fresh_beyond c.args.width c.args.chain.now c.requires.0 c.requires.2 c.args.i c.if-i-eq0.false c.if-chain-at.true
-
-pub overflow_sub-last : goal.overflow_sub-last
-overflow_sub-last c = omega (arith, before_inside c.args.width c.args.chain.now c.requires.0 c.requires.2 c.args.i c.if-i-eq0.false)
-
-pub bounds-chain-last-2 : goal.bounds-chain-last-2
-bounds-chain-last-2 c = omega (arith, c.requires.0, next_inside c.args.width c.args.chain.now c.requires.0 c.requires.2 c.args.i c.if-chain-at.false)
-
-pub bounds-chain-at-2 : goal.bounds-chain-at-2
-bounds-chain-at-2 c = omega (arith, c.requires.0, next_inside c.args.width c.args.chain.now c.requires.0 c.requires.2 c.args.i c.if-chain-at.false)
-
-pub returns : goal.returns
-returns c = ap not c.equal.ensures ∙ fresh_there c.args.width c.args.chain.now c.requires.0 c.requires.2 c.args.i c.if-i-eq0.false c.if-chain-at.false
+pub returns-else-at-chain : goal.returns-else-at-chain
+returns-else-at-chain c =
+    let a = c.args in
+    elim c.if-i-gt0.branch [
+      | then-i-gt0 w ↦
+          w.t-6-is ∙ le-ltb (a.i * a.width) (length a.chain.now) (omega arith)
+          ∙ fresh_beyond a.width a.chain.now c.requires.0 c.requires.2 a.i (λ z. omega arith) (omega arith)
+      | else-i-gt0 w ↦ w.t-6-is ∙ le-ltb 0 a.i (omega arith) ∙ fresh_first (points a.width a.chain.now) a.i (omega arith)
+    ]

@@ -1,5 +1,4 @@
 -- The keys of two cells are the same exactly if the cells are.
-use borrow.Author.Rules.{rules}
 use mathlib.Core.Path.{sym, ap₂, ◌∙◌}
 use lib.Dec.{eqb}
 use Rattle.rules.specs.Cell.{cell}

@@ -1,10 +1,6 @@
--- From `end` down, none of the marks that were passed is there; those that are left are the measure.
-use Prim.Native.Nat.{◌≤◌}
+-- From `end` down, none of the marks that were passed is there.
 use Rattle.check_marks.proofs.Trimming.{Gone}
 use Rattle.check_marks.proofs.trim_high.Given as goal
 
 abbrev pub invariant-loop-i : goal.invariant-loop-i
-invariant-loop-i l = (l.low ≤ l.i) × (l.i ≤ l.end) × Gone l.marks l.i l.end
-
-abbrev pub decreases-loop-i : goal.decreases-loop-i
-decreases-loop-i l = l.i
+invariant-loop-i l = Gone l.marks l.i l.end

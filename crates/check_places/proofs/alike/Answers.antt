@@ -1,6 +1,5 @@
 -- What is known from the place `low` where it reaches so far, and else point by point.
 use native.Mathlib.Omega.{arith}
-use borrow.Author.Rules.{rules}
 use Rattle.check_places.proofs.Stretching.{known_less, known_all, known_small}
 use Rattle.check_places.proofs.alike.Goals as goal
 

@@ -3,7 +3,7 @@ use Rattle.check_places.proofs.Reading.{Reading}
 use Rattle.check_places.proofs.reach.Given as goal
 
 abbrev pub invariant-loop-left : goal.invariant-loop-left
-invariant-loop-left l = Reading l.width l.chain l.line l.turned l.at l.c l.points l.last_x l.last_y l.left
+invariant-loop-left l = Reading l.width l.chain l.line l.turned l.at l.c l.points l.kept l.left
 
 abbrev pub decreases-loop-left : goal.decreases-loop-left
 decreases-loop-left l = l.left

@@ -1,15 +1,14 @@
--- `bits::bits_of` meets its contract: `x != x` is the test of a NaN, and elsewhere `to_bits` is lib.Ieee's `to_bits`.
-use mathlib.Core.Path.{refl}
+-- `bits::bits_of` meets its contract: `NAN` is what `to_bits` of the definition gives for the NaN.
+use mathlib.Core.Path.{refl, sym, ap, ◌∙◌}
+use lib.Ieee.{to_bits}
 use Rattle.float_bits.specs.Bits.{bits_of}
-use Rattle.float_bits.proofs.Kept.{no_nan, bits_of_nan}
+use Rattle.float_bits.proofs.Patterns.{is_nan_lem}
 use Rattle.float_bits.proofs.bits_of.Goals as goal
 
-pub returns-then-x : goal.returns-then-x
-returns-then-x c = bits_of_nan c.args.x c.if-x.true
+pub returns-then-is_nan : goal.returns-then-is_nan
+unfolding bits_of to_bits
+returns-then-is_nan c = sym (ap bits_of (is_nan_lem _ (sym c.is_nan.ensures.value ∙ c.if-is_nan.true)))
 
-pub float_to_bits-result : goal.float_to_bits-result
-float_to_bits-result c = no_nan c.args.x c.if-x.false
-
-pub returns : goal.returns
+pub returns-else-is_nan : goal.returns-else-is_nan
 unfolding bits_of
-returns c = refl
+returns-else-is_nan c = refl

@@ -3,7 +3,6 @@ use mathlib.Core.Path.{sym, ap, ◌∙◌}
 use mathlib.Core.Bool.{not}
 use Prim.Native.Nat.{ℕ}
 use native.Mathlib.Omega.{arith}
-use borrow.Author.Rules.{rules}
 use lib.Ieee.{binary64, of_bits, eq}
 use Rattle.float_bits.proofs.Equal.{eq_self, other_bits}
 use Rattle.float_bits.proofs.same.Goals as goal
@@ -16,5 +15,5 @@ returns-then-a-b c =
 pub overflow_add-result : goal.overflow_add-result
 overflow_add-result c = omega arith
 
-pub returns : goal.returns
-returns c = let a = c.args in other_bits a.a a.b (omega arith) (omega arith) c.if-a-b.false
+pub returns-else-a-b : goal.returns-else-a-b
+returns-else-a-b c = let a = c.args in other_bits a.a a.b (omega arith) (omega arith) c.if-a-b.false

@@ -1,6 +1,5 @@
 -- `cell::cell_key` meets its contract: a floor is an `i64`, which a call hands on as it is.
 use Rattle.float_cell.proofs.Same.{joined}
-use Rattle.std.proofs.Common.{rules}
 use Rattle.float_cell.proofs.cell_key.Goals as goal
 
 pub returns : goal.returns

@@ -1,5 +1,5 @@
 -- `cell::floor` meets its contract. Each literal is its bit pattern's value, so `of_bits` and `neg` are unfolded to see which number it is.
-use Rattle.std.proofs.Common.{refl, rules}
+use Rattle.std.proofs.Common.{refl}
 use lib.Ieee.{Float, binary64, add, sub, lt, of_bits, neg}
 use Rattle.float_cell.proofs.Swift.{M}
 use Rattle.float_cell.proofs.Close.{close, castable, moved}
@@ -13,16 +13,16 @@ pub float_to_int-result : goal.float_to_int-result
 unfolding of_bits neg
 float_to_int-result c =
     let x = c.args.x in
-    castable x (next x) (close x c.if-x-2.true c.if-x.true)
+    castable x (next x) (close x c.if-x.true c.if-x-2.true)
 
 pub overflow_sub-result : goal.overflow_sub-result
 unfolding of_bits neg
 overflow_sub-result c =
     let x = c.args.x in
-    (moved x (next x) (close x c.if-x-2.true c.if-x.true) (lt x (next x)) refl).0
+    (moved x (next x) (close x c.if-x.true c.if-x-2.true) (lt x (next x)) refl).0
 
 pub returns-then-x-2 : goal.returns-then-x-2
 unfolding of_bits neg
 returns-then-x-2 c =
     let x = c.args.x in
-    (moved x (next x) (close x c.if-x-2.true c.if-x.true) (lt x (next x)) refl).1
+    (moved x (next x) (close x c.if-x.true c.if-x-2.true) (lt x (next x)) refl).1

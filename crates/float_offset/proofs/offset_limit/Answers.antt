@@ -1,9 +1,8 @@
 -- `float_offset::offset_limit` meets its contract: refused above 1,000, and elsewhere the bits are those of the limit.
 use native.Mathlib.Omega.{arith}
-use borrow.Author.Rules.{rules}
 use mathlib.Core.Path.{◌∙◌, ap}
 use Prim.Native.Nat.{ℕ, ◌+◌}
-use Rattle.rules.specs.declared.Answer.TheVariants.{Accepted}
+use Rattle.rules.specs.Answers.{Accepted}
 use Rattle.float_offset.proofs.Roots.{root_greatest}
 use Rattle.float_offset.proofs.Limits.{asked_refused, asked_limit}
 use Rattle.float_offset.proofs.offset_limit.Goals as goal

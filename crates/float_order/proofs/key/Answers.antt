@@ -1,13 +1,7 @@
--- `order::key` meets its contract: only a NaN differs from itself.
-use mathlib.Core.Path.{◌∙◌, sym}
-use Rattle.float_order.proofs.Keys.{self, key_num, key_else}
+-- `order::key` meets its contract: the definition is the callee's.
+use Rattle.float_order.specs.Key.{key}
 use Rattle.float_order.proofs.key.Goals as goal
 
-pub rank-requires : goal.rank-requires
-rank-requires c = self c.args.x c.if-x.true
-
-pub returns-then-x : goal.returns-then-x
-returns-then-x c = c.rank.ensures ∙ sym (key_num c.args.x (self c.args.x c.if-x.true))
-
-pub returns-else-x : goal.returns-else-x
-returns-else-x c = key_else c.args.x c.if-x.false
+pub returns : goal.returns
+unfolding key
+returns c = c.rank_or.ensures

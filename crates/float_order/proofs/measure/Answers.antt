@@ -1,5 +1,4 @@
 -- `order::measure` meets its contract: the callee clamps the sum of products.
-use borrow.Author.Rules.{rules}
 use Rattle.rules.specs.Plane.{measure, dot}
 use Rattle.float_order.proofs.measure.Goals as goal
 

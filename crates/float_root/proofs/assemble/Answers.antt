@@ -1,5 +1,4 @@
 -- `root::assemble` meets its contract: the nearest whole root has 53 binary digits, or is 2 ^ 53, and its sum with the exponent is written so.
-use borrow.Author.Rules.{rules}
 use Prim.Native.Nat.{◌+◌, ◌*◌, ◌%◌, ◌^◌}
 use mathlib.Core.Path.{sym, ◌∙◌, subst}
 use mathlib.Core.Bool.{Bool, not}

@@ -1,7 +1,6 @@
 -- `root::positive` meets its contract: an exponent's field of 0 has no leading digit, any other has one.
 use mathlib.Core.Path.{sym, ◌∙◌}
 use Rattle.float_root.proofs.Values.{root_low, root_high}
-use borrow.Author.Rules.{rules}
 use Rattle.float_root.proofs.positive.Goals as goal
 
 pub returns-then-e-eq0 : goal.returns-then-e-eq0

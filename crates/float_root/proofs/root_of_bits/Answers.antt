@@ -5,7 +5,6 @@ use native.Mathlib.Omega.{arith}
 use lib.Ieee.{binary64, of_bits}
 use Rattle.rules.specs.Root.{root}
 use Rattle.float_root.proofs.Values.{root_zero, root_infinity, root_minus_zero, root_rest}
-use borrow.Author.Rules.{rules}
 use Rattle.float_root.proofs.root_of_bits.Goals as goal
 
 pub returns-then-n-eq0 : goal.returns-then-n-eq0
@@ -17,5 +16,5 @@ returns-then-n-eq-INFINITE c = root_infinity ∙ ap (λ (n : ℕ). root binary64
 pub returns-then-n-eq-SIGN : goal.returns-then-n-eq-SIGN
 returns-then-n-eq-SIGN c = root_minus_zero ∙ ap (λ (n : ℕ). root binary64 (of_bits binary64 n)) (sym c.if-n-eq-SIGN.true)
 
-pub returns : goal.returns
-returns c = root_rest c.args.n (omega arith) (omega arith) c.if-n-eq-SIGN.false
+pub returns-else-n-eq-SIGN : goal.returns-else-n-eq-SIGN
+returns-else-n-eq-SIGN c = root_rest c.args.n (omega arith) (omega arith) c.if-n-eq-SIGN.false

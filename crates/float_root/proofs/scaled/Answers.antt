@@ -5,7 +5,6 @@ use native.Mathlib.Omega.{arith}
 use lib.Ieee.{binary64}
 use Rattle.rules.specs.Root.{root_units}
 use Rattle.float_root.proofs.Shift.{taken_either, at_most_twice}
-use borrow.Author.Rules.{rules}
 use Rattle.float_root.proofs.scaled.Goals as goal
 
 pub overflow_mul-b : goal.overflow_mul-b

@@ -1,25 +1,12 @@
--- `root::shifted` meets its contract. The loop's invariant is `Shifted`, and its measure how far the number is from 2 ^ 53.
-use Prim.Native.Nat.{◌-◌, ◌^◌}
+-- `root::shifted` meets its contract: by its leading zeros a number is brought to 53 binary digits.
 use native.Mathlib.Omega.{arith}
-use Rattle.float_root.proofs.Shift.{Shifted, unshifted, shifted_more}
+use Rattle.float_root.proofs.Shift.{leads}
 use Rattle.float_root.proofs.shifted.Goals as goal
 
-pub loop-a-init : goal.loop-a-init
-loop-a-init c = unshifted _ c.requires.0 c.requires.1
-
-pub overflow_mul-a : goal.overflow_mul-a
-overflow_mul-a c = omega arith
-
-pub overflow_add-s : goal.overflow_add-s
-overflow_add-s c = omega arith
-
-pub loop-a-smaller : goal.loop-a-smaller
-loop-a-smaller c = omega arith
-
-pub loop-a-preserved : goal.loop-a-preserved
-loop-a-preserved c = shifted_more c.loop-a.invariant c.requires.0 c.loop-a-test.true
+pub overflow_sub-s : goal.overflow_sub-s
+overflow_sub-s c = (leads c.args.m c.requires.0 c.requires.1).some
 
 pub returns : goal.returns
 returns c =
-    let p = c.loop-a.invariant in
-    (p.value, c.loop-a-test.false, p.short, p.few)
+    let p = leads c.args.m c.requires.0 c.requires.1 in
+    (omega (arith, p.short), omega (arith, p.least, p.short), omega (arith, p.short), p.few)

@@ -1,7 +1,6 @@
 -- `finish` does what the book's record says: a refusal stores nothing, and a call without one finishes the pieces that are lent.
-use borrow.Author.Rules.{rules}
-use Rattle.lent_calls.proofs.SecondCall.{refused}
+use Rattle.lent_calls.proofs.SecondCall.{refused_on}
 use Rattle.lent_calls.proofs.finish.Goals as goal
 
-pub returns-then-refused-ne0 : goal.returns-then-refused-ne0
-returns-then-refused-ne0 c = refused _ _ _ _ _ _ c.finish_refusal-refused.ensures c.if-refused-ne0.true
+pub returns-in_err-finish_refusal : goal.returns-in_err-finish_refusal
+returns-in_err-finish_refusal c = refused_on _ _ _ _ _ _ _ c.from_residual.ensures.1 c.in_err-finish_refusal.ensures

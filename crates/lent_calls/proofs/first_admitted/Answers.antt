@@ -1,5 +1,4 @@
 -- `first_admitted` does what the book's record says of a first call without a refusal: round one, its pieces as they are lent, and the clearing.
-use borrow.Author.Rules.{rules}
 use native.Mathlib.Omega.{arith}
 use lib.Ieee.{of_bits}
 use Rattle.lent_calls.proofs.Pieces.{small_pieces}

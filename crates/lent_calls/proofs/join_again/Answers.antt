@@ -1,5 +1,4 @@
 -- `join_again` leaves the book's `round_two` of the pieces that it finds: those of round two where the tolerance is above 0, and else the pieces themselves.
-use borrow.Author.Rules.{rules}
 use lib.Ieee.{of_bits}
 use Rattle.lent_calls.proofs.Again.{joined_left, keep_asks, kept_left}
 use Rattle.lent_calls.proofs.join_again.Goals as goal

@@ -1,48 +1,35 @@
 -- `judge`: a piece whose frame fails is refused; otherwise it has one line or more, and is judged as such.
-use borrow.Author.Rules.{rules}
-use Rattle.lent_judging.specs.Judging.{OneAsked, MoreAsked}
-use Rattle.lent_judging.proofs.Pieces.{frame_fine, frame_refused}
+use Rattle.std.proofs.Common.{◌≡◌, ◌+◌, ◌*◌, ◌≤◌, subst, sym, length}
+use Rattle.lent_laws.specs.Lent.{as_lines, as_pieces}
+use Rattle.lent_laws.specs.Passes.{FrameFine}
+use Rattle.lent_judging.specs.declared.Record.{Record}
+use Rattle.lent_judging.proofs.Pieces.{frame_fine, one_judged, merged_inside, more_refused, more_judged}
 use Rattle.lent_judging.proofs.judge.Goals as goal
-use Rattle.lent_judging.proofs.judge.Goals.{Else-pieces-q-eq1, Then-pieces-q-eq1}
+use Rattle.lent_judging.proofs.judge.Goals.{Else-frame_bad, Else-piece-eq1}
 
-abbrev one_asked : (c : Then-pieces-q-eq1) → (let s = c.args in OneAsked s.seen.now s.places.now s.counts.now s.kinds.now s.pieces.now s.members.now s.marks.now s.listing.now s.q)
-one_asked c =
-    let s = c.args in
-    record {
-      width = s.width;
-      coordinates = s.coordinates.now;
-      groups = s.groups.now;
-      merged = s.merged.now;
-      number = s.k;
-      judgeable = c.requires.0;
-      frame = frame_fine _ _ _ _ (c.frame_at.ensures.framed c.if-frame_at.false);
-      one_line = c.if-pieces-q-eq1.true;
-    }
+-- the frame is fine
+fine : (c : Else-frame_bad) → FrameFine c.args.width (as_lines c.args.lines.now) (as_pieces c.args.pieces.now) c.args.q
+fine c = let f = c.frame_bad.ensures.framed c.if-frame_bad.false in frame_fine _ _ _ _ (rw c.record_of-piece.ensures at f)
 
-abbrev more_asked : (c : Else-pieces-q-eq1) → (let s = c.args in MoreAsked s.width s.clean s.seen.now s.counts.now s.groups.now s.kinds.now s.pieces.now s.members.now s.marks.now s.listing.now s.merged.now s.q)
-more_asked c =
-    let s = c.args in
-    record {
-      coordinates = s.coordinates.now;
-      places = s.places.now;
-      number = s.k;
-      judgeable = c.requires.0;
-      frame = frame_fine _ _ _ _ (c.frame_at.ensures.framed c.if-frame_at.false);
-      front = c.requires.1;
-      more_lines = c.if-pieces-q-eq1.false;
-    }
+pub returns-then-piece-eq1 : goal.returns-then-piece-eq1
+returns-then-piece-eq1 c =
+    let e = c.record_of-piece.ensures in
+    one_judged _ _ _ c.requires.judgeable (fine (goal.at.returns-then-piece-eq1 c).Else-frame_bad) (rw e at c.if-piece-eq1.true) (rw e at c.one_bad.ensures)
 
-pub returns-then-frame_at : goal.returns-then-frame_at
-returns-then-frame_at c = frame_refused _ _ _ c.requires.0 c.frame_at.ensures c.if-frame_at.true
+pub points_bad-requires : goal.points_bad-requires
+points_bad-requires c =
+    let s = c.requires.judgeable.sized in
+    let e = c.record_of-piece.ensures in
+    let d = rw e at c.if-piece-eq1.false in
+    let inside = merged_inside _ _ _ c.requires.judgeable (fine (goal.at.points_bad-requires c).Else-frame_bad) d in
+    (s.two, s.four, subst (λ (r : Record). r.source ≡ 1 → (r.point + r.points) * c.args.width ≤ length c.args.pieces.now.merged.now) (sym e) inside, c.requires.front)
 
-pub one_at-requires : goal.one_at-requires
-one_at-requires c = one_asked (goal.at.one_at-requires c).Then-pieces-q-eq1
+pub returns-then-lines_bad : goal.returns-then-lines_bad
+returns-then-lines_bad c =
+    let e = c.record_of-piece.ensures in
+    rw c.if-lines_bad.true (more_refused _ _ _ c.requires.judgeable (fine (goal.at.returns-then-lines_bad c).Else-frame_bad) (rw e at c.if-piece-eq1.false) (rw e at c.lines_bad.ensures) c.if-lines_bad.true)
 
-pub returns-then-pieces-q-eq1 : goal.returns-then-pieces-q-eq1
-returns-then-pieces-q-eq1 c = c.one_at.ensures (one_asked (goal.at.returns-then-pieces-q-eq1 c).Then-pieces-q-eq1)
-
-pub more_at-requires : goal.more_at-requires
-more_at-requires c = more_asked (goal.at.more_at-requires c).Else-pieces-q-eq1
-
-pub returns : goal.returns
-returns c = c.more_at.ensures (more_asked (goal.at.returns c).Else-pieces-q-eq1)
+pub returns-else-lines_bad : goal.returns-else-lines_bad
+returns-else-lines_bad c =
+    let e = c.record_of-piece.ensures in
+    more_judged _ _ _ c.requires.judgeable (fine (goal.at.returns-else-lines_bad c).Else-frame_bad) (rw e at c.if-piece-eq1.false) (rw e at c.lines_bad.ensures) c.if-lines_bad.false (rw e at c.points_bad.ensures)

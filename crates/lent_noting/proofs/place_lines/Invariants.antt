@@ -1,11 +1,6 @@
 -- `place_lines`: the places of the first i lines are the sums of the counts before them, and the sum is that of the counts passed.
-use Prim.Native.Nat.{◌≤◌, ◌-◌}
-use lib.ListN.{length}
 use Rattle.lent_noting.proofs.Marks.{Placing}
 use Rattle.lent_noting.proofs.place_lines.Given as goal
 
 abbrev pub invariant-loop-i : goal.invariant-loop-i
-invariant-loop-i l = (l.i ≤ length l.counts) × Placing l.places l.counts l.sum l.i
-
-abbrev pub decreases-loop-i : goal.decreases-loop-i
-decreases-loop-i l = length l.counts - l.i
+invariant-loop-i l = Placing l.places l.counts l.sum l.i

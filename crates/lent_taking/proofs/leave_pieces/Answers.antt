@@ -1,5 +1,4 @@
 -- `leave_pieces`: the words of each block are copied to the front of its slice.
-use borrow.Author.Rules.{rules}
 use Rattle.lent_taking.proofs.Leaving.{records_narrow, members_narrow, marks_narrow, listing_narrow, pieces_left}
 use Rattle.lent_taking.proofs.leave_pieces.Goals as goal
 

@@ -1,24 +1,18 @@
--- `row_end`: the members of the last piece end where all do.
-use borrow.Author.Rules.{rules}
-use Prim.Native.Nat.{◌-◌, ◌*◌, ◌+◌}
-use mathlib.Core.Path.{◌≡◌, sym, ap, ◌∙◌}
-use native.Mathlib.Omega.{arith}
-use Rattle.chain_laws.proofs.Counts.{pos_of}
-use Rattle.lent_taking.specs.Row.{row_end}
-use Rattle.lent_taking.proofs.Row.{end_start, end_next}
+-- `row_end`: the first q are in a row, and their members end where the next have to begin; one that begins elsewhere ends the row for all behind it.
+use Rattle.std.proofs.Common.{sym, ◌∙◌, ◌*◌, ◌+◌, arith}
+use Rattle.lent_taking.proofs.Row.{row_start, end_start, end_next, row_next, row_off}
 use Rattle.lent_taking.proofs.row_end.Goals as goal
 
-pub returns-then-k-eq0 : goal.returns-then-k-eq0
-returns-then-k-eq0 c = sym (ap (row_end c.args.pieces.now) c.if-k-eq0.true ∙ end_start c.args.pieces.now)
+pub loop-q-init : goal.loop-q-init
+loop-q-init c = (sym (end_start c.args.records.now), row_start c.args.records.now, omega arith)
 
-pub overflow_cast-result : goal.overflow_cast-result
-overflow_cast-result c = omega (arith, c.shared_slice_known-1.given ((c.args.k - 1) * 5))
+pub returns-then-records-q : goal.returns-then-records-q
+returns-then-records-q c = sym (row_off c.args.records.now c.loop-q.q c.args.k c.loop-q-test.true c.loop-q.invariant.1 (λ e. c.if-records-q.true (e ∙ sym c.loop-q.invariant.0)))
 
-pub overflow_cast-result-2 : goal.overflow_cast-result-2
-overflow_cast-result-2 c = omega (arith, c.shared_slice_known-2-1.given ((c.args.k - 1) * 5 + 1))
-
-pub overflow_add-result-2 : goal.overflow_add-result-2
-overflow_add-result-2 c = omega (arith, c.shared_slice_known-1.given ((c.args.k - 1) * 5), c.shared_slice_known-2-1.given ((c.args.k - 1) * 5 + 1))
-
-pub returns : goal.returns
-returns c = let e : c.args.k ≡ c.args.k - 1 + 1 = omega (arith, pos_of _ c.if-k-eq0.false) in sym (ap (row_end c.args.pieces.now) e ∙ end_next c.args.pieces.now (c.args.k - 1))
+pub loop-q-preserved : goal.loop-q-preserved
+loop-q-preserved c =
+    let q = c.loop-q.q in (
+      omega (arith, end_next c.args.records.now q, c.if-records-q.false),
+      row_next c.args.records.now q c.loop-q.invariant.1 (c.if-records-q.false ∙ c.loop-q.invariant.0),
+      omega (arith, c.if-records-q.false, c.type_inv.records (q * 5), c.type_inv.records (q * 5 + 1)),
+    )

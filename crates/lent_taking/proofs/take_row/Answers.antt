@@ -1,30 +1,37 @@
 -- `take_row`: records, members, marks and listing are put as they are, each in a block of its own.
-use borrow.Author.Rules.{rules}
-use mathlib.Core.Path.{◌∙◌}
-use native.Mathlib.Omega.{arith}
+use Rattle.std.proofs.Common.{◌≡◌, length, take, sym, arith}
+use Rattle.lent_taking.proofs.Converting.{same_converted}
 use Rattle.lent_taking.proofs.Row.{front_long, members_fit, marks_fit, listing_fit, row_few, took_row}
 use Rattle.lent_taking.proofs.take_row.Goals as goal
+use Rattle.lent_taking.proofs.take_row.Goals.{Start}
 
-pub slice_bounds-take_numbers-end-2 : goal.slice_bounds-take_numbers-end-2
-slice_bounds-take_numbers-end-2 c = omega (arith, c.row_end-m.ensures, members_fit c.requires.0 c.requires.1)
+-- the members of all are in each of the three slices
+members_in : (c : Start) → length (take c.args.m c.args.pieces.now.members.now) ≡ c.args.m
+members_in c = front_long _ _ (omega (arith, c.requires.end, members_fit c.requires.takable c.requires.row))
 
-pub take_numbers-requires-2 : goal.take_numbers-requires-2
-take_numbers-requires-2 c = let e = c.row_end-m.ensures in omega (arith, front_long c.row_end-m.result c.args.members.now (omega (arith, e, members_fit c.requires.0 c.requires.1)), e, row_few c.requires.0 c.requires.1, c.requires.0.room, c.take_numbers.auto.w)
+marks_in : (c : Start) → length (take c.args.m c.args.pieces.now.marks.now) ≡ c.args.m
+marks_in c = front_long _ _ (omega (arith, c.requires.end, marks_fit c.requires.takable c.requires.row))
 
-pub slice_bounds-take_marks-end : goal.slice_bounds-take_marks-end
-slice_bounds-take_marks-end c = omega (arith, c.row_end-m.ensures, marks_fit c.requires.0 c.requires.1)
+listing_in : (c : Start) → length (take c.args.m c.args.pieces.now.listing.now) ≡ c.args.m
+listing_in c = front_long _ _ (omega (arith, c.requires.end, listing_fit c.requires.takable c.requires.row))
 
-pub take_marks-requires : goal.take_marks-requires
-take_marks-requires c = let e = c.row_end-m.ensures in omega (arith, front_long c.row_end-m.result c.args.marks.now (omega (arith, e, marks_fit c.requires.0 c.requires.1)), e, row_few c.requires.0 c.requires.1, c.requires.0.room, c.take_numbers.auto.w, c.take_numbers-2.auto.w)
+pub slice_bounds-put-end-2 : goal.slice_bounds-put-end-2
+slice_bounds-put-end-2 c = sym (members_in (goal.at.slice_bounds-put-end-2 c).Start)
 
-pub slice_bounds-take_numbers-end-3 : goal.slice_bounds-take_numbers-end-3
-slice_bounds-take_numbers-end-3 c = omega (arith, c.row_end-m.ensures, listing_fit c.requires.0 c.requires.1)
+pub put-requires-2 : goal.put-requires-2
+put-requires-2 c = omega (arith, members_in (goal.at.put-requires-2 c).Start, c.requires.end, row_few c.requires.takable c.requires.row, c.requires.takable.room, c.put.auto.w)
 
-pub take_numbers-requires-3 : goal.take_numbers-requires-3
-take_numbers-requires-3 c = let e = c.row_end-m.ensures in omega (arith, front_long c.row_end-m.result c.args.listing.now (omega (arith, e, listing_fit c.requires.0 c.requires.1)), e, row_few c.requires.0 c.requires.1, c.requires.0.room, c.take_numbers.auto.w, c.take_numbers-2.auto.w, c.take_marks.auto.w)
+pub slice_bounds-put-end-3 : goal.slice_bounds-put-end-3
+slice_bounds-put-end-3 c = sym (marks_in (goal.at.slice_bounds-put-end-3 c).Start)
 
-pub shape_of-w : goal.shape_of-w
-shape_of-w c = c.take_numbers-3.auto.w ∙ c.take_marks.auto.w ∙ c.take_numbers-2.auto.w ∙ c.take_numbers.auto.w
+pub put-requires-3 : goal.put-requires-3
+put-requires-3 c = omega (arith, marks_in (goal.at.put-requires-3 c).Start, c.requires.end, row_few c.requires.takable c.requires.row, c.requires.takable.room, c.put.auto.w, c.put-2.auto.w)
+
+pub slice_bounds-put-end-4 : goal.slice_bounds-put-end-4
+slice_bounds-put-end-4 c = sym (listing_in (goal.at.slice_bounds-put-end-4 c).Start)
+
+pub put-requires-4 : goal.put-requires-4
+put-requires-4 c = omega (arith, listing_in (goal.at.put-requires-4 c).Start, c.requires.end, row_few c.requires.takable c.requires.row, c.requires.takable.room, c.put.auto.w, c.put-2.auto.w, c.put-3.auto.w)
 
 pub returns : goal.returns
-returns c = took_row c.requires.0 c.requires.1 c.row_end-m.ensures c.take_numbers.ensures c.take_numbers-2.ensures c.take_marks.ensures c.take_numbers-3.ensures
+returns c = took_row c.requires.takable c.requires.row c.requires.end (same_converted _ c.put.ensures) (same_converted _ c.put-2.ensures) (same_converted _ c.put-3.ensures) (same_converted _ c.put-4.ensures)

@@ -1,6 +1,6 @@
 -- `ends::direction_at` meets its contract, by the end's presence mark.
 use mathlib.Core.Path.{◌∙◌}
-use Rattle.rules.specs.declared.Direction.TheVariants.{Toward}
+use Rattle.rules.specs.Answers.{Toward}
 use Rattle.pair_ends.proofs.Reading.{direction_toward, direction_absent}
 use borrow.Author.Rules.{rules}
 use Rattle.pair_ends.proofs.direction_at.Goals as goal

@@ -1,10 +1,9 @@
-use Prim.Native.Nat.{◌-◌, ◌*◌}
+use Prim.Native.Nat.{◌*◌}
 use native.Mathlib.Omega.{arith}
 use Rattle.pair_tree.proofs.Words.{changes_then, changes_wider}
 use Rattle.pair_owners.proofs.Turns.{room_kept}
 use Rattle.pair_ends.specs.Blocks.{order_from, heap_from}
 use Rattle.pair_indexed.proofs.Arranging.{part_permuted, part_sorted, part_together, part_changes, arranged}
-use borrow.Author.Rules.{rules}
 use Rattle.pair_indexed.proofs.arrange.Goals as goal
 
 pub positions-requires : goal.positions-requires

@@ -1,4 +1,4 @@
-use Prim.Native.Nat.{◌-◌, ◌*◌}
+use Prim.Native.Nat.{◌*◌}
 use mathlib.Core.Path.{◌≡◌}
 use Rattle.pair_ends.specs.Blocks.{index_from}
 use Rattle.pair_indexed.proofs.Planting.{Planting}
@@ -6,6 +6,3 @@ use Rattle.pair_indexed.proofs.plant.Given as goal
 
 abbrev pub invariant-loop-p : goal.invariant-loop-p
 invariant-loop-p l = (l.t ≡ l.d * index_from) × Planting l.initial.w l.w l.d l.base l.p
-
-abbrev pub decreases-loop-p : goal.decreases-loop-p
-decreases-loop-p l = l.base - l.p

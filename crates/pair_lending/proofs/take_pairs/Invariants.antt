@@ -1,12 +1,9 @@
 -- After i turns the first i words stand at the beginning of the pairs; each is below 2 ^ 32, so that the narrower number keeps it.
-use Prim.Native.Nat.{◌≤◌, ◌-◌, ◌+◌}
+use Prim.Native.Nat.{◌+◌}
 use lib.ListN.{take}
 use lib.Seq.{slice}
 use Rattle.point_slices.specs.Holds.{HoldsFrom}
 use Rattle.pair_lending.proofs.take_pairs.Given as goal
 
 abbrev pub invariant-loop-i : goal.invariant-loop-i
-invariant-loop-i l = (l.i ≤ l.n) × HoldsFrom l.pairs l.initial.pairs 0 l.i (take l.i (slice l.at (l.at + l.n) l.w))
-
-abbrev pub decreases-loop-i : goal.decreases-loop-i
-decreases-loop-i l = l.n - l.i
+invariant-loop-i l = HoldsFrom l.pairs l.initial.pairs 0 l.i (take l.i (slice l.at (l.at + l.n) l.w))

@@ -4,7 +4,6 @@ use native.Mathlib.Omega.{arith}
 use mathlib.Core.Path.{refl, sym, ◌∙◌}
 use mathlib.Core.Logic.{inl, inr}
 use native.Mathlib.Nat.{pos_of_ne-zero}
-use borrow.Author.Rules.{rules}
 use Rattle.pair_owners.proofs.Likeness.{alike_like, group_first, group_alike, group_own}
 use Rattle.pair_owners.proofs.group.Goals as goal
 

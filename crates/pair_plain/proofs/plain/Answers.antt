@@ -1,5 +1,4 @@
 -- `plain::plain` meets its contract: each way through it gives the selection, and where every direction is beyond the box around all there is no pair.
-use borrow.Author.Rules.{rules}
 use Rattle.pair_all_directions.proofs.Nothing.{idle_none}
 use Rattle.pair_plain.proofs.plain.Goals as goal
 

@@ -1,7 +1,6 @@
 -- `plain::take` meets its contract: six stores.
 use lib.ListN.{length-set}
 use native.Mathlib.Omega.{arith}
-use borrow.Author.Rules.{rules}
 use Rattle.pair_plain.proofs.take.Goals as goal
 
 pub bounds-w-d-2 : goal.bounds-w-d-2

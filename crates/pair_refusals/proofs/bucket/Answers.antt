@@ -1,5 +1,4 @@
 -- `bucket` is the bucket's definition, and a number of 32 binary digits divided by 2 ^ 19 is below 8,192.
-use borrow.Author.Rules.{rules}
 use native.Mathlib.Omega.{arith}
 use mathlib.Core.Path.{refl}
 use Rattle.pair_refusals.specs.Linked.{bucket_of}

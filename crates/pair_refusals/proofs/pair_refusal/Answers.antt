@@ -1,32 +1,34 @@
 -- `pair_refusal` is the ladder's. After each test that doesn't hold, the refusal is that of the tests that are left; where one holds, it is that test's number.
-use Prim.Native.Nat.{ℕ, ◌*◌}
-use mathlib.Core.Path.{◌≡◌, sym, ap, ◌∙◌}
-use mathlib.Core.Bool.{Bool, not}
+use Prim.Native.Nat.{ℕ}
+use mathlib.Core.Path.{sym, ◌∙◌}
 use mathlib.Core.List.{List}
+use mathlib.Core.Bool.{Bool}
 use native.Mathlib.Omega.{arith}
 use lib.ListN.{length, drop}
-use borrow.Author.Rules.{rules}
 use borrow.Author.Tests.{lt-ltb, le-ltb}
-use Rattle.rules.specs.Refusals.{any_wild}
 use Rattle.build_refusals.proofs.Laws.{Left, rung, halt, top}
 use Rattle.pair_refusals.specs.Ladder.{pair_tests, pair_refusal_by}
+use Rattle.rules.specs.Refusals.{any_wild}
 use Rattle.pair_refusals.proofs.Ladder.{opened, tables_agree, not_asked, asked}
 use Rattle.pair_refusals.proofs.pair_refusal.Goals as goal
+use Rattle.pair_refusals.proofs.pair_refusal.Goals.{else-alone-via-then-alone+else-any_wild, else-alone-via-else-alone}
 use Rattle.pair_refusals.proofs.pair_refusal.Goals.{Else-any_above_one, Else-d-gt-MOST_ENDS, Else-limit_bad, Else-more_than_twice, Else-room_short, Else-tables_differ, Start}
 
 abbrev tests_of : Start → List (ℕ × Bool)
 tests_of s =
-    pair_tests s.args.alone s.args.present.now s.args.directions.now s.args.pieces.now s.args.limit s.args.pairs s.args.workspace
+    let e = s.args.ends.now in
+    pair_tests s.args.alone e.present.now e.directions.now e.pieces.now s.args.limit s.args.pairs s.args.workspace
 
 -- after k tests that don't hold, the refusal is that of the others
 abbrev After : ℕ → Start → Type 0
 After k s =
+    let e = s.args.ends.now in
     Left
-    (pair_refusal_by s.args.alone s.args.present.now s.args.directions.now s.args.pieces.now s.args.limit s.args.pairs s.args.workspace)
+    (pair_refusal_by s.args.alone e.present.now e.directions.now e.pieces.now s.args.limit s.args.pairs s.args.workspace)
     (drop k (tests_of s))
 
 left0 : (s : Start) → After 0 s
-left0 s = opened s.args.alone s.args.present.now s.args.directions.now s.args.pieces.now s.args.limit s.args.pairs s.args.workspace
+left0 s = let e = s.args.ends.now in opened s.args.alone e.present.now e.directions.now e.pieces.now s.args.limit s.args.pairs s.args.workspace
 
 left1 : (c : Else-d-gt-MOST_ENDS) → After 1 (goal.at.Else-d-gt-MOST_ENDS c).Start
 left1 c = rung (left0 (goal.at.Else-d-gt-MOST_ENDS c).Start) (le-ltb _ _ c.if-d-gt-MOST_ENDS.false)
@@ -46,13 +48,6 @@ left5 c = rung (left4 (goal.at.Else-room_short c).Else-limit_bad) (sym c.room_sh
 left6 : (c : Else-more_than_twice) → After 6 (goal.at.Else-more_than_twice c).Start
 left6 c = rung (left5 (goal.at.Else-more_than_twice c).Else-room_short) (sym c.more_than_twice.ensures ∙ c.if-more_than_twice.false)
 
-abbrev wild_of : Start → Bool
-wild_of s = any_wild s.args.present.now s.args.directions.now
-
--- what the second test leaves
-agree : (c : Else-tables_differ) → (length c.args.present.now ≡ length c.args.pieces.now) × (length c.args.directions.now ≡ length c.args.pieces.now * 2)
-agree c = tables_agree _ _ _ (sym c.tables_differ.ensures ∙ c.if-tables_differ.false)
-
 pub returns-then-d-gt-MOST_ENDS : goal.returns-then-d-gt-MOST_ENDS
 returns-then-d-gt-MOST_ENDS c = halt (left0 (goal.at.returns-then-d-gt-MOST_ENDS c).Start) (lt-ltb _ _ c.if-d-gt-MOST_ENDS.true)
 
@@ -71,19 +66,20 @@ returns-then-room_short c = halt (left4 (goal.at.returns-then-room_short c).Else
 pub returns-then-more_than_twice : goal.returns-then-more_than_twice
 returns-then-more_than_twice c = halt (left5 (goal.at.returns-then-more_than_twice c).Else-room_short) (sym c.more_than_twice.ensures ∙ c.if-more_than_twice.true)
 
-pub returns-then-not-alone : goal.returns-then-not-alone
-returns-then-not-alone c =
-    top (rung (left6 (goal.at.returns-then-not-alone c).Else-more_than_twice) (not_asked c.args.alone (wild_of (goal.at.returns-then-not-alone c).Start) (ap not c.if-not-alone.true)))
-
 pub any_wild-requires : goal.any_wild-requires
 any_wild-requires c =
-    let t = agree (goal.at.any_wild-requires c).Else-tables_differ in
+    let e = c.args.ends.now in
+    let t = tables_agree (length e.present.now) (length e.directions.now) (length e.pieces.now) (sym c.tables_differ.ensures ∙ c.if-tables_differ.false) in
     (omega (arith, t.0), omega (arith, t.0, t.1))
 
 pub returns-then-any_wild : goal.returns-then-any_wild
 returns-then-any_wild c =
-    halt (left6 (goal.at.returns-then-any_wild c).Else-more_than_twice) (asked c.args.alone (wild_of (goal.at.returns-then-any_wild c).Start) (ap not c.if-not-alone.false) ∙ sym c.any_wild.ensures ∙ c.if-any_wild.true)
+    halt (left6 (goal.at.returns-then-any_wild c).Else-more_than_twice) (asked c.args.alone _ c.if-alone.true ∙ sym c.any_wild.ensures ∙ c.if-any_wild.true)
 
 pub returns : goal.returns
 returns c =
-    top (rung (left6 (goal.at.returns c).Else-more_than_twice) (asked c.args.alone (wild_of (goal.at.returns c).Start) (ap not c.if-not-alone.false) ∙ sym c.any_wild.ensures ∙ c.if-any_wild.false))
+    let e = c.args.ends.now in
+    top (rung (left6 (goal.at.returns c).Else-more_than_twice) (elim c.else-alone.branch [
+      | else-alone-via-then-alone+else-any_wild w ↦ asked c.args.alone (any_wild e.present.now e.directions.now) w.if-alone.true ∙ sym w.any_wild.ensures ∙ w.if-any_wild.false
+      | else-alone-via-else-alone w ↦ not_asked c.args.alone (any_wild e.present.now e.directions.now) w.if-alone.false
+    ]))

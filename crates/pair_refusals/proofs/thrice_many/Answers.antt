@@ -1,13 +1,12 @@
 -- As in `thrice_few` no piece stands more than twice among the first i; these are in the table, so that all of a piece's earlier places are in its bucket's chain.
-use Prim.Native.Nat.{ℕ, ◌-◌}
+use Prim.Native.Nat.{ℕ}
 use mathlib.Core.List.{List}
 use mathlib.Core.Path.{◌≡◌, sym, refl}
 use native.Mathlib.Omega.{arith}
-use borrow.Author.Rules.{rules}
-use lib.ListN.{length, get_or, take}
+use lib.ListN.{get_or, take}
 use Rattle.rules.specs.Lists.{count}
-use Rattle.pair_refusals.proofs.Times.{Twice, twice_start, twice_step, twice_all, thrice_here}
-use Rattle.pair_refusals.proofs.Links.{Table, table_start, table_chain, table_count, table_step}
+use Rattle.pair_refusals.proofs.Times.{twice_start, twice_step, twice_all, thrice_here}
+use Rattle.pair_refusals.proofs.Links.{table_start, table_chain, table_count, table_step}
 use Rattle.pair_refusals.proofs.thrice_many.Goals as goal
 use Rattle.pair_refusals.proofs.thrice_many.Goals.{After-bucket-b, At-loop-i}
 
@@ -23,47 +22,14 @@ counts c = table_count c.loop-i.invariant.1 _ c.bucket-b.result (sym c.bucket-b.
 pub loop-i-init : goal.loop-i-init
 loop-i-init c = (twice_start c.args.pieces.now, table_start c.args.pieces.now 8192 refl)
 
-pub offset_bounds-pieces-i : goal.offset_bounds-pieces-i
-offset_bounds-pieces-i c = omega arith
-
-pub bounds-pieces-i : goal.bounds-pieces-i
-bounds-pieces-i c = omega arith
-
-pub offset_bounds-last-b : goal.offset_bounds-last-b
-offset_bounds-last-b c = omega arith
-
-pub bounds-last-b : goal.bounds-last-b
-bounds-last-b c = omega arith
+pub returns-then-times_linked-gt1 : goal.returns-then-times_linked-gt1
+returns-then-times_linked-gt1 c =
+    sym (thrice_here (pieces_of (goal.at.returns-then-times_linked-gt1 c).At-loop-i) c.loop-i.i (omega arith) (omega (arith, c.times_linked.ensures, counts (goal.at.returns-then-times_linked-gt1 c).After-bucket-b)))
 
 pub times_linked-requires : goal.times_linked-requires
 times_linked-requires c =
     let b = c.bucket-b in
     table_chain c.loop-i.invariant.1 _ b.result (sym b.ensures.0) b.ensures.1 (omega arith) (omega arith)
-
-pub returns-then-times_linked-gt1 : goal.returns-then-times_linked-gt1
-returns-then-times_linked-gt1 c =
-    sym (thrice_here (pieces_of (goal.at.returns-then-times_linked-gt1 c).At-loop-i) c.loop-i.i (omega arith) (omega (arith, c.times_linked.ensures, counts (goal.at.returns-then-times_linked-gt1 c).After-bucket-b)))
-
-pub offset_bounds-next-i : goal.offset_bounds-next-i
-offset_bounds-next-i c = omega arith
-
-pub bounds-next-i : goal.bounds-next-i
-bounds-next-i c = omega arith
-
-pub overflow_add-i : goal.overflow_add-i
-overflow_add-i c = omega arith
-
-pub overflow_cast-last : goal.overflow_cast-last
-overflow_cast-last c = omega arith
-
-pub offset_bounds-last-b-in-loop-i : goal.offset_bounds-last-b-in-loop-i
-offset_bounds-last-b-in-loop-i c = omega arith
-
-pub bounds-last-b-in-loop-i : goal.bounds-last-b-in-loop-i
-bounds-last-b-in-loop-i c = omega arith
-
-pub loop-i-smaller : goal.loop-i-smaller
-loop-i-smaller c = omega arith
 
 pub loop-i-preserved : goal.loop-i-preserved
 loop-i-preserved c =

@@ -1,10 +1,9 @@
 -- The word k falls along the chain, so that it is the measure. Places that it passes over are of other buckets and hold other pieces: c and the count among the first k give the count among all.
-use Prim.Native.Nat.{◌+◌, ◌-◌, ◌<◌}
+use Prim.Native.Nat.{◌-◌, ◌<◌}
 use mathlib.Core.Path.{◌≡◌}
 use native.Mathlib.Omega.{arith}
 use lib.ListN.{take, get_or}
 use Rattle.rules.specs.Lists.{count}
-use Rattle.pair_refusals.specs.Linked.{LinkedChain}
 use Rattle.pair_refusals.proofs.Times.{none_first, count_most}
 use Rattle.pair_refusals.proofs.Links.{chain_less, chain_next, count_met, count_passed}
 use Rattle.pair_refusals.proofs.times_linked.Goals as goal
@@ -16,27 +15,9 @@ less l h = chain_less l.loop-k.invariant.0 h
 pub loop-k-init : goal.loop-k-init
 loop-k-init c = (c.requires, omega arith)
 
-pub overflow_sub-k : goal.overflow_sub-k
-overflow_sub-k c = omega arith
-
-pub offset_bounds-pieces-k : goal.offset_bounds-pieces-k
-offset_bounds-pieces-k c = omega arith
-
-pub bounds-pieces-k : goal.bounds-pieces-k
-bounds-pieces-k c = omega arith
-
 pub overflow_add-c : goal.overflow_add-c
 overflow_add-c c =
     omega (arith, count_most c.args.p c.args.pieces.now c.args.from)
-
-pub overflow_sub-k-in-loop-k : goal.overflow_sub-k-in-loop-k
-overflow_sub-k-in-loop-k c = omega arith
-
-pub offset_bounds-next-k : goal.offset_bounds-next-k
-offset_bounds-next-k c = omega arith
-
-pub bounds-next-k : goal.bounds-next-k
-bounds-next-k c = omega arith
 
 pub overflow_cast-k-in-loop-k : goal.overflow_cast-k-in-loop-k
 overflow_cast-k-in-loop-k c = omega (arith, less (goal.at.overflow_cast-k-in-loop-k c).At-loop-k (omega arith))

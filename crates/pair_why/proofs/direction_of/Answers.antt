@@ -1,13 +1,16 @@
 -- An end is read by its presence mark.
-use borrow.Author.Rules.{rules}
-use borrow.Author.Tests.{eq-eqb, ne_eqb}
+use mathlib.Core.Path.{◌≡◌, refl, ◌∙◌}
+use mathlib.Core.Bool.{Bool, true, false}
+use Rattle.std.specs.Bool.{then_some}
+use Rattle.rules.specs.Answers.{Direction, Absent, Toward}
+use lib.Ieee.{Float}
 use Rattle.rules.specs.Layout.{given}
 use Rattle.pair_why.proofs.direction_of.Goals as goal
 
-pub returns-then-present-e-eq1 : goal.returns-then-present-e-eq1
-unfolding given
-returns-then-present-e-eq1 c = rw (eq-eqb _ _ c.if-present-e-eq1.true, given)
+chosen : (b : Bool) (x y : Float) → then_some b (x, y) ≡ (elim b as (λ _. Direction) [ true ↦ Toward x y | false ↦ Absent ])
+chosen true x y = refl
+chosen false x y = refl
 
 pub returns : goal.returns
 unfolding given
-returns c = rw (ne_eqb _ _ c.if-present-e-eq1.false, given)
+returns c = c.then_some.ensures ∙ chosen _ _ _

@@ -1,15 +1,14 @@
 -- The loop is on the way to the whole run: the points of the first i numbers are left, from the last on, each turn lays one of them, and the x of the last point
 -- laid is at hand.
-use Prim.Native.Nat.{◌+◌, ◌-◌, ◌≤◌}
-use mathlib.Core.Path.{◌≡◌, refl, sym, ◌∙◌}
+use Prim.Native.Nat.{◌-◌}
+use mathlib.Core.Path.{refl, sym, ◌∙◌}
 use mathlib.Core.List.{[], reverse}
 use native.Mathlib.Omega.{arith}
 use lib.ListN.{length, take}
 use Rattle.rules.specs.Plane.{points}
-use Rattle.point_numbers.specs.Width.{Multiple}
 use Rattle.point_numbers.proofs.Points.{points_few, multiple_less, turned_one, turned_none, turned_all}
-use Rattle.point_slices.specs.Run.{laid, walked, Near}
-use Rattle.point_slices.proofs.Runs.{Way, way_start, way_step, way_done, push_length, push_then, high_two, high_one, near_at}
+use Rattle.point_slices.specs.Run.{walked}
+use Rattle.point_slices.proofs.Runs.{way_start, way_step, way_done, push_length, push_then, high_two, high_one, near_at}
 use Rattle.point_slices.proofs.backward_high.Goals as goal
 
 pub returns-then-src-width : goal.returns-then-src-width

@@ -1,12 +1,12 @@
 -- The loop is on the way to the whole run: the first k points are left, from the last on, each turn lays one of them, and the x of the last point laid is at hand.
-use Prim.Native.Nat.{◌+◌, ◌-◌, ◌/◌, ◌≤◌, ◌<◌}
-use mathlib.Core.Path.{◌≡◌, refl, sym, ◌∙◌}
+use Prim.Native.Nat.{◌+◌, ◌-◌, ◌/◌}
+use mathlib.Core.Path.{refl, sym, ◌∙◌}
 use native.Mathlib.Omega.{arith}
 use lib.ListN.{length, take}
 use mathlib.Core.List.{[], reverse}
 use Rattle.rules.specs.Plane.{points}
-use Rattle.point_slices.specs.Run.{laid, walked, Near}
-use Rattle.point_slices.proofs.Runs.{two_two, Way, way_start, way_step, way_done, push_length, push_then, near_one, back_all, back_one, back_none}
+use Rattle.point_slices.specs.Run.{walked}
+use Rattle.point_slices.proofs.Runs.{two_two, way_start, way_step, way_done, push_length, push_then, near_one, back_all, back_one, back_none}
 use Rattle.point_slices.proofs.backward_two.Goals as goal
 
 pub returns-then-k-eq0 : goal.returns-then-k-eq0

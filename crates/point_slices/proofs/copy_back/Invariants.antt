@@ -1,14 +1,10 @@
 -- After i turns the last i numbers of the part stand from `at` on, the last first; the part lies beyond, so that it is read as it was.
-use Prim.Native.Nat.{◌≤◌, ◌-◌, ◌+◌}
-use mathlib.Core.Path.{◌≡◌}
+use lib.ListN.{take}
 use mathlib.Core.List.{reverse}
-use lib.ListN.{length, take}
+use Prim.Native.Nat.{◌+◌}
 use lib.Seq.{slice}
 use Rattle.point_slices.specs.Holds.{HoldsFrom}
 use Rattle.point_slices.proofs.copy_back.Given as goal
 
 abbrev pub invariant-loop-i : goal.invariant-loop-i
-invariant-loop-i l = (l.i ≤ l.n) × (length l.w ≡ length l.initial.w) × HoldsFrom l.w l.initial.w l.at l.i (take l.i (reverse (slice l.from (l.from + l.n) l.initial.w)))
-
-abbrev pub decreases-loop-i : goal.decreases-loop-i
-decreases-loop-i l = l.n - l.i
+invariant-loop-i l = HoldsFrom l.w l.initial.w l.at l.i (take l.i (reverse (slice l.from (l.from + l.n) l.initial.w)))

@@ -1,55 +1,9 @@
--- After i turns the first i numbers of the part stand from `at` on; the part lies beyond, so that it is read as it was.
-use Prim.Native.Nat.{◌≤◌, ◌-◌, ◌+◌}
-use mathlib.Core.Path.{◌≡◌, refl}
-use native.Mathlib.Omega.{arith}
-use lib.ListN.{length, take, length-set}
-use lib.Seq.{slice}
-use Rattle.point_slices.specs.Holds.{HoldsFrom}
-use Rattle.point_slices.proofs.Laws.{from_start, copy_done, down_more, part_length}
+-- The part before `from` is written, and the part from there on is read.
+use Rattle.point_slices.proofs.Laws.{down_held}
 use Rattle.point_slices.proofs.copy_down.Goals as goal
-
-pub loop-i-init : goal.loop-i-init
-loop-i-init c =
-    let a = c.args in
-    (omega arith, refl, from_start a.w.now a.at)
-
-pub overflow_add-w : goal.overflow_add-w
-overflow_add-w c = omega arith
-
-pub offset_bounds-w-from : goal.offset_bounds-w-from
-offset_bounds-w-from c = omega arith
-
-pub bounds-w-from : goal.bounds-w-from
-bounds-w-from c = omega arith
-
-pub overflow_add-w-in-loop-i : goal.overflow_add-w-in-loop-i
-overflow_add-w-in-loop-i c = omega arith
-
-pub offset_bounds-w-at : goal.offset_bounds-w-at
-offset_bounds-w-at c = omega arith
-
-pub bounds-w-at : goal.bounds-w-at
-bounds-w-at c = omega arith
-
-pub overflow_add-i : goal.overflow_add-i
-overflow_add-i c = omega arith
-
-pub loop-i-smaller : goal.loop-i-smaller
-loop-i-smaller c = omega arith
-
-pub loop-i-preserved : goal.loop-i-preserved
-loop-i-preserved c =
-    let a = c.args in (
-      omega arith,
-      simp length-set c.loop-i.invariant.1,
-      down_more c.loop-i.w a.w.now a.from a.at a.n c.loop-i.i c.loop-i.invariant.2 c.requires.0 c.requires.1 (omega arith),
-    )
-
-pub shape_of-w : goal.shape_of-w
-shape_of-w c = c.loop-i.invariant.1
 
 pub returns : goal.returns
 returns c =
+    let s = c.split_at_mut-front in
     let a = c.args in
-    copy_done c.loop-i.w a.w.now (slice a.from (a.from + a.n) a.w.now) a.at c.loop-i.i a.n c.loop-i.invariant.2 (omega arith)
-    (part_length a.from a.n a.w.now (omega arith))
+    down_held a.w.now c.copy_into.new.dst s.result.0.now s.result.1.now a.from a.at a.n c.requires.0 c.requires.1 s.ensures.front s.ensures.back c.copy_into.ensures

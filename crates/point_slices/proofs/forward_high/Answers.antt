@@ -1,14 +1,12 @@
 -- The loop is on the way to the whole run: the points from i on are left, each turn lays one of them, and the x of the last point laid is at hand.
-use Prim.Native.Nat.{◌+◌, ◌-◌, ◌≤◌}
-use mathlib.Core.Path.{◌≡◌, refl, ◌∙◌}
+use mathlib.Core.Path.{refl, ◌∙◌}
 use mathlib.Core.List.{[]}
 use native.Mathlib.Omega.{arith}
-use lib.ListN.{length, take, drop}
+use lib.ListN.{drop}
 use Rattle.rules.specs.Plane.{points}
-use Rattle.point_numbers.specs.Width.{Multiple}
 use Rattle.point_numbers.proofs.Points.{points_few, points_next, points_from, points_past, multiple_less, multiple_next}
-use Rattle.point_slices.specs.Run.{laid, walked, Near}
-use Rattle.point_slices.proofs.Runs.{Way, way_start, way_step, way_done, push_length, push_then, high_two, high_one, near_at}
+use Rattle.point_slices.specs.Run.{walked}
+use Rattle.point_slices.proofs.Runs.{way_start, way_step, way_done, push_length, push_then, high_two, high_one, near_at}
 use Rattle.point_slices.proofs.forward_high.Goals as goal
 
 pub returns-then-src-width : goal.returns-then-src-width

@@ -1,13 +1,13 @@
 -- The loop is on the way to the whole run: the points from i on are left, each turn lays one of them, and the x of the last point laid is at hand.
-use Prim.Native.Nat.{◌+◌, ◌-◌, ◌≤◌}
-use mathlib.Core.Path.{◌≡◌, refl, ◌∙◌}
+use Prim.Native.Nat.{◌-◌}
+use mathlib.Core.Path.{refl, ◌∙◌}
 use native.Mathlib.Omega.{arith}
-use lib.ListN.{length, take, drop, length-drop}
+use lib.ListN.{drop, length-drop}
 use mathlib.Core.List.{[]}
 use Rattle.rules.specs.Plane.{points}
 use Rattle.point_numbers.proofs.Points.{points_few}
-use Rattle.point_slices.specs.Run.{laid, walked, Near}
-use Rattle.point_slices.proofs.Runs.{two_two, Way, way_start, way_step, way_done, push_length, push_then, near_one, points_two}
+use Rattle.point_slices.specs.Run.{walked}
+use Rattle.point_slices.proofs.Runs.{two_two, way_start, way_step, way_done, push_length, push_then, near_one, points_two}
 use Rattle.point_slices.proofs.forward_two.Goals as goal
 
 pub returns-then-src-lt2 : goal.returns-then-src-lt2

@@ -1,5 +1,4 @@
 -- A point with another x than the last one's is new. One with the same x, but for the sign, is held against the last one.
-use borrow.Author.Rules.{rules}
 use Prim.Native.Nat.{◌^◌, ◌≤◌, ◌<◌}
 use mathlib.Core.Path.{sym, ◌∙◌}
 use native.Mathlib.Omega.{arith}

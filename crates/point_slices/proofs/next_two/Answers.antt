@@ -3,7 +3,6 @@ use native.Mathlib.Omega.{arith}
 use Rattle.rules.specs.Plane.{point}
 use lib.ListN.{length-set}
 use Rattle.point_slices.proofs.Runs.{two_two, meets_apart, more_two, near_new, near_one}
-use borrow.Author.Rules.{rules}
 use Rattle.point_slices.proofs.next_two.Goals as goal
 
 pub returns-then-x-last : goal.returns-then-x-last

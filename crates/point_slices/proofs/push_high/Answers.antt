@@ -1,5 +1,4 @@
 -- Where there is a last point, its own x is at hand, and else the point is new.
-use borrow.Author.Rules.{rules}
 use Prim.Native.Nat.{◌-◌}
 use mathlib.Core.Path.{refl}
 use native.Mathlib.Omega.{arith}

@@ -1,5 +1,4 @@
 -- The point is kept out where it meets the last one of the first `have` numbers, and else two numbers are stored behind them.
-use borrow.Author.Rules.{rules}
 use native.Mathlib.Omega.{arith}
 use lib.ListN.{length-set}
 use Prim.Native.Nat.{◌≤◌}
@@ -7,7 +6,7 @@ use mathlib.Core.Path.{sym, ◌∙◌}
 use Rattle.rules.specs.Plane.{point}
 use Rattle.point_slices.proofs.Runs.{two_two, last_two, last_none, kept, more_two}
 use Rattle.point_slices.proofs.push_two.Goals as goal
-use Rattle.point_slices.proofs.push_two.Goals.{then-have-ge2+else-equal, else-have-ge2}
+use Rattle.point_slices.proofs.push_two.Goals.{else-have-ge2-via-then-have-ge2+else-equal, else-have-ge2-via-else-have-ge2}
 
 pub returns-then-equal : goal.returns-then-equal
 returns-then-equal c =
@@ -23,7 +22,7 @@ pub returns : goal.returns
 returns c =
     let a = c.args in
     more_two a.rest.now a.have a.x a.y c.requires
-    (elim c.if-have-ge2.branch [
-      | then-have-ge2+else-equal w ↦ last_two a.rest.now a.have (point a.x a.y) (omega arith) w.if-have-ge2.true ∙ sym w.equal.ensures ∙ w.if-equal.false
-      | else-have-ge2 w ↦ last_none 2 two_two a.rest.now a.have (point a.x a.y) (omega (arith, w.if-have-ge2.false))
+    (elim c.else-have-ge2.branch [
+      | else-have-ge2-via-then-have-ge2+else-equal w ↦ last_two a.rest.now a.have (point a.x a.y) (omega arith) w.if-have-ge2.true ∙ sym w.equal.ensures ∙ w.if-equal.false
+      | else-have-ge2-via-else-have-ge2 w ↦ last_none 2 two_two a.rest.now a.have (point a.x a.y) (omega (arith, w.if-have-ge2.false))
     ])

@@ -1,5 +1,4 @@
 -- Three numbers are stored, which is the point where it has three, one more, which it is where it has four, and then all others.
-use borrow.Author.Rules.{rules}
 use Prim.Native.Nat.{◌+◌, ◌-◌}
 use mathlib.Core.Path.{◌≡◌, ◌∙◌}
 use native.Mathlib.Omega.{arith}

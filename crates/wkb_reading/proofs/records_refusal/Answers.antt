@@ -1,53 +1,32 @@
--- The refusal of the run is that of the records from i on, which begin at `at`.
-use mathlib.Core.Path.{◌≡◌, refl, sym, ◌∙◌}
+-- The refusal of the run is that of the records that are left, which begin at `at`.
+use mathlib.Core.Path.{sym, ap, ◌∙◌}
 use native.Mathlib.Omega.{arith}
-use Prim.Native.Nat.{◌+◌, ◌-◌, ◌≤◌}
-use lib.ListN.{length, drop}
-use Rattle.rules.specs.Lists.{total}
-use Rattle.rules.specs.Wkb.{records_of, records_refusal}
+use Rattle.rules.specs.Answers.{found}
+use Rattle.build_refusals.proofs.Found.{no_none, handed_on}
 use Rattle.wkb_reading.proofs.Laws.{total_drop, stops, passes, nothing_refused}
 use Rattle.wkb_reading.proofs.records_refusal.Goals as goal
 
-pub loop-i-init : goal.loop-i-init
-loop-i-init c = (omega arith, omega (arith, c.requires), refl)
-
-pub offset_bounds-lengths-i : goal.offset_bounds-lengths-i
-offset_bounds-lengths-i c = omega arith
-
-pub bounds-lengths-i : goal.bounds-lengths-i
-bounds-lengths-i c = omega arith
-
 pub overflow_add-to : goal.overflow_add-to
-overflow_add-to c = omega (arith, total_drop c.args.lengths.now c.loop-i.i c.loop-i-test.true)
-
-pub slice_bounds-record_refusal-count : goal.slice_bounds-record_refusal-count
-slice_bounds-record_refusal-count c = omega arith
-
-pub slice_bounds-record_refusal-start : goal.slice_bounds-record_refusal-start
-slice_bounds-record_refusal-start c = omega arith
+overflow_add-to c = omega (arith, total_drop c.args.lengths.now c.loop-next.next-index c.loop-next-test.true)
 
 pub slice_bounds-record_refusal-end : goal.slice_bounds-record_refusal-end
-slice_bounds-record_refusal-end c = omega (arith, total_drop c.args.lengths.now c.loop-i.i c.loop-i-test.true)
+slice_bounds-record_refusal-end c = omega (arith, total_drop c.args.lengths.now c.loop-next.next-index c.loop-next-test.true)
 
-pub record_refusal-refused-requires : goal.record_refusal-refused-requires
-record_refusal-refused-requires c = tt
+pub returns-in_err-record_refusal : goal.returns-in_err-record_refusal
+returns-in_err-record_refusal c =
+    let a = c.args in
+    let o = c.loop-next in
+    let r = c.in_err-record_refusal.field-0.0 in
+    handed_on c.from_residual.result r c.from_residual.ensures.1
+    ∙ stops a.wkb_type a.lengths.now a.run.now o.next-index o.at _ _ c.loop-next-test.true o.invariant.1 c.in_err-record_refusal.ensures (no_none r)
 
-pub returns-then-refused-ne0 : goal.returns-then-refused-ne0
-returns-then-refused-ne0 c = let a = c.args in stops a.wkb_type a.lengths.now a.run.now c.loop-i.i c.loop-i.at _ _ c.loop-i-test.true c.loop-i.invariant.2 c.record_refusal-refused.ensures c.if-refused-ne0.true
-
-pub overflow_add-i : goal.overflow_add-i
-overflow_add-i c = omega arith
-
-pub loop-i-smaller : goal.loop-i-smaller
-loop-i-smaller c = omega arith
-
-pub loop-i-preserved : goal.loop-i-preserved
-loop-i-preserved c =
-    let a = c.args in (
-      omega arith,
-      omega (arith, total_drop a.lengths.now c.loop-i.i c.loop-i-test.true),
-      passes a.wkb_type a.lengths.now a.run.now c.loop-i.i c.loop-i.at _ _ c.loop-i-test.true c.loop-i.invariant.2 c.record_refusal-refused.ensures c.if-refused-ne0.false,
+pub loop-next-preserved : goal.loop-next-preserved
+loop-next-preserved c =
+    let a = c.args in
+    let o = c.loop-next in (
+      omega (arith, total_drop a.lengths.now o.next-index c.loop-next-test.true),
+      passes a.wkb_type a.lengths.now a.run.now o.next-index o.at _ _ c.loop-next-test.true o.invariant.1 c.record_refusal.ensures (ap found c.in_ok-record_refusal.was),
     )
 
 pub returns : goal.returns
-returns c = let a = c.args in sym (c.loop-i.invariant.2 ∙ nothing_refused a.wkb_type a.lengths.now _ c.loop-i.i c.loop-i-test.false)
+returns c = let a = c.args in let o = c.loop-next in sym (o.invariant.1 ∙ nothing_refused a.wkb_type a.lengths.now _ o.next-index c.loop-next-test.false)

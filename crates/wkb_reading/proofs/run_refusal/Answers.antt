@@ -1,5 +1,4 @@
 -- The lengths are tested first; then the refusal is that of the first bad record.
-use borrow.Author.Rules.{rules}
 use mathlib.Core.Path.{sym, ap, ◌∙◌}
 use Prim.Native.Nat.{ℕ}
 use borrow.Author.Tests.{eqb-true}

@@ -1,8 +1,8 @@
 -- The chain is there, so that its row is in the table, and its view has room for a record of it.
-use borrow.Author.Rules.{rules}
 use Prim.Native.Nat.{◌≤◌, ◌+◌, ◌*◌}
 use native.Mathlib.Omega.{arith}
 use lib.ListN.{length}
+use Rattle.wkb_records.specs.Orders.{byte_of}
 use Rattle.build_question.proofs.Laws.{stands}
 use Rattle.wkb_writing.proofs.Chains.{view_room, chain_put}
 use Rattle.rules.specs.Refusals.{record_size}
@@ -29,4 +29,4 @@ put_record-requires c = view_room c.requires c.known_part-numbers.ensures
 
 pub returns : goal.returns
 returns c =
-    chain_put c.requires c.args.order c.known_part-numbers.ensures c.put_record.ensures
+    chain_put c.requires (byte_of c.args.order) c.known_part-numbers.ensures c.put_record.ensures

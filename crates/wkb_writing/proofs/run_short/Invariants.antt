@@ -5,7 +5,4 @@ use Rattle.wkb_writing.specs.Writing.{bytes_from}
 use Rattle.wkb_writing.proofs.run_short.Given as goal
 
 abbrev pub invariant-loop-j : goal.invariant-loop-j
-invariant-loop-j l = (l.j ≤ l.k) × (l.left ≤ l.room) × (l.left + bytes_from l.width l.table 0 l.k ≡ l.room + bytes_from l.width l.table l.j (l.k - l.j))
-
-abbrev pub decreases-loop-j : goal.decreases-loop-j
-decreases-loop-j l = l.k - l.j
+invariant-loop-j l = (l.left ≤ l.room) × (l.left + bytes_from l.width l.table 0 l.k ≡ l.room + bytes_from l.width l.table l.j (l.k - l.j))

@@ -1,17 +1,19 @@
 -- The ladder of the call's tests: after each that doesn't hold the refusal is that of the tests that are left.
-use borrow.Author.Rules.{rules}
 use Prim.Native.Nat.{ℕ, suc}
-use mathlib.Core.Path.{◌≡◌, sym, ◌∙◌}
-use mathlib.Core.Bool.{false}
+use mathlib.Core.Path.{◌≡◌, sym, ap, subst, ◌∙◌}
+use mathlib.Core.Bool.{true, false}
 use native.Mathlib.Omega.{arith}
 use lib.ListN.{drop}
 use borrow.Author.Tests.{lt-ltb, le-ltb, eq-eqb, ne_eqb, ltb-false}
 use Rattle.build_refusals.proofs.Laws.{Left, rung, halt, top}
 use Rattle.rules.specs.Types.{width_of}
 use Rattle.rules.specs.Wkb.{LentChains, any_missing, write_refusal_of}
-use Rattle.wkb_writing.proofs.Answers.{tests, opened, width_test, missing_test, room_run, rows_long, either_first, either_second, neither, wrote_refused, wrote_accepted}
+use Rattle.wkb_records.specs.Orders.{byte_of}
+use Rattle.wkb_records.proofs.Bytes.{told_order}
+use Rattle.wkb_writing.specs.Writing.{Written}
+use Rattle.wkb_writing.proofs.Answers.{rooms_short, tests, opened, width_test, missing_test, room_run, rows_long, either_first, either_second, neither, wrote_refused, wrote_accepted}
 use Rattle.wkb_writing.proofs.write.Goals as goal
-use Rattle.wkb_writing.proofs.write.Goals.{Else-any_missing, Else-order-gt1, Else-width-eq0, Start}
+use Rattle.wkb_writing.proofs.write.Goals.{then-run_short-via-then-run_short, then-run_short-via-else-run_short+then-lengths-n, Else-any_missing, Else-order-gt1, Else-width-eq0, Start}
 
 abbrev lent : Start → LentChains
 lent s = record {
@@ -68,13 +70,14 @@ run_short-requires c = (c.width_of-width.ensures.1, rows_long _ _ _ _ _ (sym c.a
 
 pub returns-then-run_short : goal.returns-then-run_short
 returns-then-run_short c =
-    let short = room_run (given (goal.at.returns-then-run_short c).Else-any_missing) (wide (goal.at.returns-then-run_short c).Else-any_missing) (there (goal.at.returns-then-run_short c).Else-any_missing) c.run_short.ensures in
-    wrote_refused (given (goal.at.returns-then-run_short c).Else-any_missing) _ (halt (left3 (goal.at.returns-then-run_short c).Else-any_missing) (either_first _ _ (short ∙ c.if-run_short.true))) (above 13)
-
-pub returns-then-lengths-n : goal.returns-then-lengths-n
-returns-then-lengths-n c =
-    let short = room_run (given (goal.at.returns-then-lengths-n c).Else-any_missing) (wide (goal.at.returns-then-lengths-n c).Else-any_missing) (there (goal.at.returns-then-lengths-n c).Else-any_missing) c.run_short.ensures in
-    wrote_refused (given (goal.at.returns-then-lengths-n c).Else-any_missing) _ (halt (left3 (goal.at.returns-then-lengths-n c).Else-any_missing) (either_second _ _ (short ∙ c.if-run_short.false) (lt-ltb _ _ c.if-lengths-n.true))) (above 13)
+    let i = given (goal.at.returns-then-run_short c).Else-any_missing in
+    let short = room_run i (wide (goal.at.returns-then-run_short c).Else-any_missing) (there (goal.at.returns-then-run_short c).Else-any_missing) c.run_short.ensures in
+    let room =
+    elim c.then-run_short.branch as (λ _. rooms_short i ≡ true) [
+      | then-run_short-via-then-run_short w ↦ either_first _ _ (short ∙ w.if-run_short.true)
+      | then-run_short-via-else-run_short+then-lengths-n w ↦ either_second _ _ (short ∙ w.if-run_short.false) (lt-ltb _ _ w.if-lengths-n.true)
+    ] in
+    wrote_refused i _ (halt (left3 (goal.at.returns-then-run_short c).Else-any_missing) room) (above 13)
 
 pub write_chains-bytes-requires : goal.write_chains-bytes-requires
 write_chains-bytes-requires c =
@@ -90,4 +93,8 @@ pub returns : goal.returns
 returns c =
     let short = room_run (given (goal.at.returns c).Else-any_missing) (wide (goal.at.returns c).Else-any_missing) (there (goal.at.returns c).Else-any_missing) c.run_short.ensures in
     let rooms = neither _ _ (short ∙ c.if-run_short.false) (le-ltb _ _ c.if-lengths-n.false) in
-    wrote_accepted (given (goal.at.returns c).Else-any_missing) (top (rung (left3 (goal.at.returns c).Else-any_missing) rooms)) c.write_chains-bytes.ensures
+    let i = given (goal.at.returns c).Else-any_missing in
+    let put =
+    subst (λ o. Written (record i { order = o }) c.write_chains-bytes.result c.write_chains-bytes.new.run c.write_chains-bytes.new.lengths)
+    (ap byte_of c.of.ensures ∙ told_order c.args.order (omega arith)) c.write_chains-bytes.ensures in
+    wrote_accepted i (top (rung (left3 (goal.at.returns c).Else-any_missing) rooms)) put

@@ -7,5 +7,5 @@ use Rattle.cases.proofs.judge.leaves.Goals as goal
 pub slice_bounds-build-end : goal.slice_bounds-build-end
 slice_bounds-build-end c = sym (length-take-le _ _ (search rules))
 
-pub slice_bounds-begins_u64-end-then-begins_u32-3 : goal.slice_bounds-begins_u64-end-then-begins_u32-3
-slice_bounds-begins_u64-end-then-begins_u32-3 c = sym (length-take-le _ _ (search rules))
+pub slice_bounds-copies-end : goal.slice_bounds-copies-end
+slice_bounds-copies-end c = sym (length-take-le _ _ (search rules))

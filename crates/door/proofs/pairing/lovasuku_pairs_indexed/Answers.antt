@@ -1,12 +1,8 @@
 -- The indexed route's answer, as a number.
-use borrow.Author.Rules.{rules}
-use Rattle.door.proofs.Answers.{proper_paired}
+use Rattle.rules.specs.Answers.{answered}
 use Rattle.door.proofs.pairing.lovasuku_pairs_indexed.Goals as goal
-
-pub number-requires : goal.number-requires
-number-requires c = proper_paired c.pairs_indexed.ensures
 
 pub returns : goal.returns
 returns c =
-    let call = c.pairs_indexed in
-    record { answer = call.result; number = c.number.ensures; determined = call.ensures }
+    let call = c.pairs in
+    record { answer = answered call.result; number = c.number.ensures; determined = call.ensures }

@@ -6,6 +6,3 @@ use Rattle.lent_judging.proofs.clean.last_end.Given as goal
 
 abbrev pub invariant-loop-q : goal.invariant-loop-q
 invariant-loop-q l = (l.q ≤ l.k) × (last_end l.pieces l.q ≡ last_end l.pieces l.k)
-
-abbrev pub decreases-loop-q : goal.decreases-loop-q
-decreases-loop-q l = l.q

@@ -1,6 +1,5 @@
 -- `Bounds::corner_measure` meets its contract: the measure with the two corners.
 use Rattle.pair_bounds.specs.Box.{corner_of}
-use borrow.Author.Rules.{rules}
 use Rattle.pair_bounds.proofs.Bounds.corner_measure.Goals as goal
 
 pub returns : goal.returns

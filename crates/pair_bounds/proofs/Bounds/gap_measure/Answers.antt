@@ -1,6 +1,5 @@
 -- `Bounds::gap_measure` meets its contract: the callees' answers are the parts of the definition.
 use lib.Ieee.{of_bits}
-use borrow.Author.Rules.{rules}
 use Rattle.pair_bounds.specs.Box.{gap_of}
 use Rattle.pair_bounds.proofs.Bounds.gap_measure.Goals as goal
 

@@ -2,8 +2,8 @@
 use mathlib.Core.Path.{ap₂, ◌∙◌}
 use Rattle.pair_bounds.specs.Box.{greatest}
 use Rattle.pair_bounds.proofs.Round.{lower_wide, lower_thin, lower_any}
-use borrow.Author.Rules.{rules}
 use Rattle.pair_bounds.proofs.Bounds.lower_measure.Goals as goal
+use Rattle.pair_bounds.proofs.Bounds.lower_measure.Goals.{else-round-via-then-round+else-self, else-round-via-else-round}
 
 pub returns-then-self : goal.returns-then-self
 returns-then-self c =
@@ -11,8 +11,10 @@ returns-then-self c =
     ∙ ap₂ greatest c.corner_measure-m.ensures c.gap_measure.ensures
     ∙ lower_wide _ _ _ _ c.if-round.true c.if-self.true
 
-pub returns-else-self : goal.returns-else-self
-returns-else-self c = c.corner_measure-m.ensures ∙ lower_thin _ _ _ _ c.if-self.false
-
-pub returns-else-round : goal.returns-else-round
-returns-else-round c = c.corner_measure-m.ensures ∙ lower_any _ _ _ _ c.if-round.false
+pub returns : goal.returns
+returns c =
+    c.corner_measure-m.ensures
+    ∙ elim c.else-round.branch [
+      | else-round-via-then-round+else-self w ↦ lower_thin _ _ _ _ w.if-self.false
+      | else-round-via-else-round w ↦ lower_any _ _ _ _ w.if-round.false
+    ]

@@ -1,4 +1,3 @@
--- The constant's two words are the greatest, which is what the place after all others is.
 use mathlib.Core.Path.{refl}
 use Rattle.pair_tree.specs.Places.{none}
 use Rattle.pair_tree.proofs.Place.none.Goals as goal
