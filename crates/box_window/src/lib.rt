@@ -24,8 +24,12 @@ fn overlap(low: u64, high: u64, from: f64, to: f64) -> bool
     ensures { result ≡ overlap_of (float low) (float high) from to }
 {
     let a = float_bits::of_bits(low);
-    let b = float_bits::of_bits(high);
-    a <= to && (from <= b && a <= b)
+    if a <= to {
+        let b = float_bits::of_bits(high);
+        from <= b && a <= b
+    } else {
+        false
+    }
 }
 
 // The first bits, of numbers from zero on, that stand for at least x.
@@ -67,8 +71,12 @@ fn touch(low: u64, high: u64, from: f64, to: f64, first: u64, past: u64) -> bool
     requires { AtLeast from first × AtMost to past }
     ensures { result ≡ overlap_of (float low) (float high) from to }
 {
-    if low <= INFINITE && high <= INFINITE {
-        low < past && (first <= high && low <= high)
+    if high <= INFINITE {
+        if low < past {
+            first <= high && low <= high
+        } else {
+            INFINITE < low && overlap(low, high, from, to)
+        }
     } else {
         overlap(low, high, from, to)
     }

@@ -57,7 +57,7 @@ pub fn part<'a>(
     ensures { result.now ≡ part_of width input.now merged.now table.now k }
 {
     if no_chain(input, merged, table, width, k) {
-        &[]
+        &input[..0]
     } else {
         known_part(input, merged, table, width, k)
     }

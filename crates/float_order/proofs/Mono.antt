@@ -10,14 +10,14 @@ use mathlib.Core.Bool.{Bool, true, false, not, cond, true≢false, false≢true}
 use lib.IntN.{ℤ}
 use lib.Dec.{T, leb, ltb, eqb, ltb→lt, nltb→le}
 use lib.Pow.{pow_pos}
-use lib.Ieee.{Float, nan, inf, fin, Format, prec, emax, low, up, down, odd, units, round, neg, sum, add, mul, lt, le, is_nan, unlike}
+use lib.Ieee.{Float, nan, inf, fin, Format, prec, emax, low, up, down, odd, units, round, neg, sum, add, sub, mul, lt, eq, le, is_nan, unlike}
 use lib.Ieee.Fits.{down_pos, round_is}
 use lib.Ieee.Exact.{HasValue, round_exact}
 use lib.Ieee.Order.{round_mono}
 use lib.Ieee.Scale.{finite}
 use lib.Ieee.Positive.{den, den_pos}
 use Rattle.rules.specs.Plane.{nought}
-use Rattle.float_order.proofs.Order.{plus, less, left, fin_le, le_to_left, left_to_le, bottom, top}
+use Rattle.float_order.proofs.Order.{plus, less, left, fin_le, le_to_left, left_to_le, bottom, top, bool_ext, antisymm, refl_le}
 
 -- ---- the negative side of `round` mirrors the other
 odd_neg : (d q k l : ℕ) → odd d true q k l ≡ neg (odd d false q k l)
@@ -315,7 +315,7 @@ mul_sym f (fin s m e) (fin t n d) =
     ap (λ (b : Bool). round f b (m * up e * (n * up d)) (down e * down d)) (unlike_sym s t)
     ∙ ap₂ (round f (unlike t s)) (mul_comm (m * up e) (n * up d)) (mul_comm (down e) (down d))
 
--- ---- a sum of finite values is a number
+-- ---- a sum of finite values is a number; a finite value is one that leaves a number when it is taken from itself
 odd_num : (d : ℕ) (s : Bool) (q k l : ℕ) → T (not (is_nan (odd d s q k l)))
 unfolding odd is_nan
 odd_num d s zero k l = tt
@@ -338,3 +338,13 @@ add_num f x y p q = go (add_rounds f x y p q)
     go : Rounds f (add f x y) (plus x * den y + plus y * den x) (less x * den y + less y * den x) (den x * den y) → T (not (is_nan (add f x y)))
     go (inl u) = rw u.1 (round_num f false _ _)
     go (inr u) = rw u.1 (round_num f true _ _)
+
+num_eq : (x : Float) → T (not (is_nan x)) → eq x x ≡ true
+num_eq x p = bool_ext (eq x x) true (λ h. tt) (λ h. antisymm x x (refl_le x p) (refl_le x p))
+
+pub self_difference : (f : Format) (x : Float) → eq (sub f x x) (sub f x x) ≡ finite x
+unfolding sub eq
+self_difference f nan = refl
+self_difference f (inf true) = refl
+self_difference f (inf false) = refl
+self_difference f (fin s m e) = num_eq (add f (fin s m e) (fin (not s) m e)) (add_num f (fin s m e) (fin (not s) m e) tt tt)

@@ -67,13 +67,14 @@ pub fn quotient_root(n: u64, d: u64, turns: u32) -> (u64, u64)
         let next = over * 4 + left * 4 / d;
         let trial = q * 4 + 1;
         left = left * 4 % d;
-        if trial <= next {
-            over = next - trial;
-            q = q * 2 + 1;
+        // The digit and what is over it are chosen, not branched to: half of the digits are 1, in no order.
+        let (digit, rest) = if trial <= next {
+            (1, next - trial)
         } else {
-            over = next;
-            q = q * 2;
-        }
+            (0, next)
+        };
+        q = q * 2 + digit;
+        over = rest;
     }
     (q, over)
 }

@@ -25,12 +25,15 @@ pub trait Route {
 }
 
 // Every pair is looked at.
+#[derive(Clone, Copy)]
 pub struct Plain;
 
 // The index is asked.
+#[derive(Clone, Copy)]
 pub struct Indexed;
 
 // Whichever of the two fits.
+#[derive(Clone, Copy)]
 pub struct Chosen;
 
 impl Route for Plain {

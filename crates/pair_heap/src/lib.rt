@@ -19,18 +19,22 @@ pub struct Entry {
     pub owner: usize,
 }
 
-// The pair b, which o owns, as a place: pairs are in order as their places are.
+// The pair b, which o owns, as a place: pairs are in order as their places are. One whose j is 0 is none.
 pub fn coded(o: usize, b: Option<Best>) -> Place
     requires { ((pair_of b).i < most_ends) × ((pair_of b).j < most_ends) }
-    ensures { (IsSome b → 0 < (pair_of b).j) → worth result ≡ coded_of o (pair_of b) }
+    ensures { worth result ≡ coded_of o (pair_of b) }
 {
     let Some(b) = b else {
         return Place::none();
     };
     let code = (b.i as u64 * 8192 + b.j as u64) * 2;
-    Place {
-        key: b.key,
-        tie: code + (o == b.j) as u64,
+    if b.j == 0 {
+        Place::none()
+    } else {
+        Place {
+            key: b.key,
+            tie: code + (o == b.j) as u64,
+        }
     }
 }
 

@@ -95,7 +95,7 @@ fn search(w: &[u64], a: &Asker, n: usize, height: u64, at: Place, best: Place) -
         return best.min(pair_with(w, a, at.tie));
     }
     let found = settled(w, a, n, at.tie);
-    if found == at {
+    if pair_tree::same(found, at) {
         return found;
     }
     let l = 2 * n;

@@ -9,6 +9,7 @@ use native.Mathlib.Decide.{ℕ_discrete}
 use native.Mathlib.Omega.{arith}
 use native.Mathlib.Numerals.{add-one}
 use lib.Dec.{eqb, ltb}
+use mir.Val.{bool_byte}
 use lib.ListN.{length, get_or, take}
 use lib.Seq.{take_all}
 use borrow.Author.Tests.{ltb-true, ltb-false, lt-ltb, le-ltb, eq-eqb, ne_eqb}
@@ -41,6 +42,17 @@ module _ (p : ℕ) (l : List ℕ) (i : ℕ) (h : i < length l) where
 
   pub count_other : (get_or l i 0 ≡ p → ⊥) → count p (take (i + 1) l) ≡ count p (take i l)
   count_other d = rw (add-one, count_suc p l i h, ne_eqb p (get_or l i 0) (λ e. d (sym e))) (omega arith)
+
+-- one place more, by a bit
+pub count_next : (p : ℕ) (l : List ℕ) (i c : ℕ) → i < length l → c ≡ count p (take i l) → c + bool_byte (eqb p (get_or l i 0)) ≡ count p (take (i + 1) l)
+count_next p l i c h e = sym (rw (add-one, count_suc p l i h) (bit (eqb p (get_or l i 0))))
+  where
+    bit : (b : Bool) → count p (take i l) + one b ≡ c + bool_byte b
+    bit true = omega (arith, e)
+    bit false = omega (arith, e)
+
+pub count_whole : (p : ℕ) (l : List ℕ) (i c : ℕ) → length l ≤ i → c ≡ count p (take i l) → c ≡ count p l
+count_whole p l i c h e = e ∙ ap (count p) (take_all i l h)
 
 pub count_most : (p : ℕ) (l : List ℕ) (i : ℕ) → count p (take i l) ≤ i
 unfolding count

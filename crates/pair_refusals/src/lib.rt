@@ -34,7 +34,11 @@ fn room_short(d: usize, pairs: usize, workspace: usize) -> bool
 fn times_among(pieces: &[u32], p: u32) -> usize
     ensures { result ≡ count p pieces.now }
 {
-    pieces.iter().filter(|q| p == **q).count()
+    let mut c: usize = 0;
+    for q in pieces {
+        c += (p == *q) as usize;
+    }
+    c
 }
 
 // Whether a piece stands more than twice, by comparing each with all before it.

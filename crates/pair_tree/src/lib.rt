@@ -1,7 +1,7 @@
 // A tree in a row of nodes, each made of its two children: the index has boxes for nodes, the heap places in an order by key.
 #![tactic(auto)]
 
-ghost use Rattle.std.specs.Prelude.{ℕ, List, ◌≡◌, ◌+◌, ◌*◌, ◌≤◌, ◌<◌, min, length, get_or};
+ghost use Rattle.std.specs.Prelude.{ℕ, List, ◌≡◌, ◌+◌, ◌*◌, ◌≤◌, ◌<◌, min, eqb, length, get_or};
 ghost use Rattle.std.proofs.Common.{rules};
 ghost use Rattle.pair_bounds.specs.declared.Bounds.{Bounds};
 ghost use Rattle.pair_bounds.specs.Box.{Sound, union_of};
@@ -114,6 +114,14 @@ impl Place {
             tie: GONE,
         }
     }
+}
+
+// Whether a and b are one place.
+#[tactic(auto, using(crate::proofs::Order::same_is))]
+pub fn same(a: Place, b: Place) -> bool
+    ensures { result ≡ eqb (worth a) (worth b) }
+{
+    a == b
 }
 
 // The child that comes first.

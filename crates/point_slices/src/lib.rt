@@ -196,7 +196,9 @@ pub fn copy_into(dst: &mut [u64], at: usize, src: &[u64])
     requires { at + length src.now ≤ length dst.old }
     ensures { HoldsFrom dst.new dst.old at (length src.now) src.now }
 {
-    dst[at..at + src.len()].copy_from_slice(src);
+    for (i, n) in src.iter().enumerate() {
+        dst[at + i] = *n;
+    }
 }
 
 // The n numbers from `from` on, again from `at` on, which lies before them.

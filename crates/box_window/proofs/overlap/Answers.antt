@@ -12,4 +12,4 @@ pub returns-else-from-b : goal.returns-else-from-b
 returns-else-from-b c = c.if-from-b.false ∙ overlap_behind _ _ _ _ (ap₂ le (sym c.of_bits-a.ensures) refl ∙ c.if-a-to.true) (ap₂ le refl (sym c.of_bits-b.ensures) ∙ c.if-from-b.false)
 
 pub returns-else-a-to : goal.returns-else-a-to
-returns-else-a-to c = c.if-a-to.false ∙ overlap_ahead _ (float c.args.high) c.args.from _ (ap₂ le (sym c.of_bits-a.ensures) refl ∙ c.if-a-to.false)
+returns-else-a-to c = overlap_ahead _ (float c.args.high) c.args.from _ (ap₂ le (sym c.of_bits-a.ensures) refl ∙ c.if-a-to.false)

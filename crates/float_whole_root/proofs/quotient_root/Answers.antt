@@ -1,5 +1,8 @@
 -- `whole_root::quotient_root` meets its contract. The loop's invariant is `Passed`.
+use Prim.Native.Nat.{ℕ, ◌+◌, ◌*◌}
+use mathlib.Core.Path.{ap, ◌∙◌}
 use native.Mathlib.Omega.{arith}
+use Rattle.std.proofs.Common.{add-zero}
 use Rattle.float_whole_root.proofs.Digit.{start, below, two_digits, taken, passed_by, moved, ended}
 use Rattle.float_whole_root.proofs.quotient_root.Goals as goal
 use Rattle.float_whole_root.proofs.quotient_root.Goals.{then-trial-next, else-trial-next}
@@ -29,17 +32,19 @@ pub overflow_mul-q : goal.overflow_mul-q
 overflow_mul-q c = omega (arith, below c.loop.invariant (omega arith))
 
 pub overflow_add-q : goal.overflow_add-q
-overflow_add-q c = omega (arith, below c.loop.invariant (omega arith))
-
-pub overflow_mul-q-else-trial-next : goal.overflow_mul-q-else-trial-next
-overflow_mul-q-else-trial-next c = omega (arith, below c.loop.invariant (omega arith))
+overflow_add-q c =
+    elim c.if-trial-next.branch [
+      | then-trial-next w ↦ omega (arith, below c.loop.invariant (omega arith), ap (λ (v : ℕ × ℕ). v.0) w.digit-is)
+      | else-trial-next w ↦ omega (arith, below c.loop.invariant (omega arith), ap (λ (v : ℕ × ℕ). v.0) w.digit-is)
+    ]
 
 pub loop-preserved : goal.loop-preserved
 loop-preserved c =
     let p = c.loop.invariant in
+    let q = c.loop.q in
     elim c.if-trial-next.branch [
-      | then-trial-next w ↦ moved (taken p w.if-trial-next.true) w.q-is w.over-is
-      | else-trial-next w ↦ moved (passed_by p w.if-trial-next.false) w.q-is w.over-is
+      | then-trial-next w ↦ moved (taken p w.if-trial-next.true) (ap (λ (v : ℕ × ℕ). q * 2 + v.0) w.digit-is) (ap (λ (v : ℕ × ℕ). v.1) w.digit-is)
+      | else-trial-next w ↦ moved (passed_by p w.if-trial-next.false) (ap (λ (v : ℕ × ℕ). q * 2 + v.0) w.digit-is ∙ add-zero (q * 2)) (ap (λ (v : ℕ × ℕ). v.1) w.digit-is)
     ]
 
 pub returns : goal.returns

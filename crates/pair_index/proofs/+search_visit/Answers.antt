@@ -5,7 +5,7 @@ use native.Mathlib.Nat.{pos_of_ne-zero}
 use native.Mathlib.Omega.{arith}
 use mathlib.Core.Path.{ap, ◌∙◌}
 use Rattle.pair_tree.specs.Places.{worth, gone}
-use Rattle.pair_tree.proofs.Order.{less_is, same_is, min_is}
+use Rattle.pair_tree.proofs.Order.{less_is, min_is}
 use Rattle.pair_index.proofs.Steps.{has, ready_left, ready_right, tie_below, leaf_pair, settled_either, at_bound, passed_over, both_ways, both_turned, test_before, test_after, test_same}
 use Rattle.pair_index.proofs.+search_visit.Goals as goal
 use Rattle.pair_index.proofs.+search_visit.Goals.{search-Start}
@@ -30,12 +30,12 @@ search-settled-found-requires t c =
     let s = small (goal.at.search-settled-found-requires t c).Start in
     (c.requires.0.room, tie_below c.requires.0 c.args.a.now.own _ _ _ _ s.0 s.1 c.requires.1 c.requires.2, omega (arith, (has c.requires.0).inside))
 
-pub search-returns-then-eq : goal.search-returns-then-eq
-search-returns-then-eq t c =
+pub search-returns-then-same : goal.search-returns-then-same
+search-returns-then-same t c =
     let a = c.args in
     let b = a.a.now in
-    let s = small (goal.at.search-returns-then-eq t c).Start in
-    at_bound c.requires.0 b.own _ _ _ _ s.0 s.1 c.requires.1 c.requires.2 _ (settled_either a.w.now b.t a.n b.d b.ax b.ay b.own a.at.tie c.settled-found.ensures) (test_same _ _ (c.eq.ensures ∙ same_is c.settled-found.result a.at (omega arith) s.0) c.if-eq.true)
+    let s = small (goal.at.search-returns-then-same t c).Start in
+    at_bound c.requires.0 b.own _ _ _ _ s.0 s.1 c.requires.1 c.requires.2 _ (settled_either a.w.now b.t a.n b.d b.ax b.ay b.own a.at.tie c.settled-found.ensures) (test_same _ _ c.same.ensures c.if-same.true)
 
 pub search-overflow_mul-l : goal.search-overflow_mul-l
 search-overflow_mul-l t c = omega (arith, (has (ready_right c.requires.0 (pos_of_ne-zero c.if-height-eq0.false))).inside, c.well_formed)
