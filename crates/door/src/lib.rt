@@ -8,10 +8,17 @@ mod pairing;
 mod wkb;
 
 ghost use Rattle.std.specs.Prelude.{◌≡◌};
-ghost use Rattle.rules.specs.Answers.{answered};
+ghost use Rattle.rules.specs.Answers.{answered, refusal_number};
 ghost use Rattle.rules.specs.Calls.{number_of};
 
-use rules::Answer;
+use rules::{Answer, Refusal};
+
+// The number of a refusal.
+fn refusal_number(refusal: Refusal) -> u64
+    ensures { result ≡ refusal_number refusal }
+{
+    refusal as u64
+}
 
 // An answer as a host sees it.
 fn number(answer: Answer) -> u64
@@ -19,6 +26,6 @@ fn number(answer: Answer) -> u64
 {
     match answer {
         Ok(n) => n,
-        Err(refusal) => 18446744073709551615 - u64::from(refusal) + 1,
+        Err(refusal) => 18446744073709551615 - refusal_number(refusal) + 1,
     }
 }

@@ -4,7 +4,7 @@
 ghost use Rattle.std.specs.Prelude.{◌≡◌};
 ghost use Rattle.rules.specs.Answers.{answered};
 ghost use Rattle.rules.specs.Lent.{ends_lent};
-ghost use Rattle.rules.specs.Reasons.{no_ends, Why};
+ghost use Rattle.rules.specs.Reasons.{no_ends, reason_number, Why};
 ghost use Rattle.pair_why.specs.Looking.{way_at, meets_at, first_meeting, joins_at, MarkedEnd, Questioned, reason_here};
 
 use pair_calls::Chosen;
@@ -80,6 +80,19 @@ fn reason(ends: &Ends, limit: f64, listed: &[u32], i: u32, j: u32) -> Reason
     Reason::NotQualifying
 }
 
+// The number of a reason.
+fn number(reason: Reason) -> u64
+    ensures { result ≡ reason_number reason }
+{
+    match reason {
+        Reason::Selected => 0,
+        Reason::SamePiece => 1,
+        Reason::AbsentDirection => 2,
+        Reason::NotQualifying => 3,
+        Reason::Blocked(p) => 4 + p as u64,
+    }
+}
+
 // The number of the reason why ends i and j are joined or not; the pairs are written as by the plain route.
 pub fn why(
     ends: &Ends,
@@ -97,5 +110,5 @@ pub fn why(
     }
     let n = pair_calls::pairs::<Chosen>(ends, limit, pairs, workspace)?;
     let told = reason(ends, limit, &pairs[..n as usize * 2], i, j);
-    Ok(u64::from(told))
+    Ok(number(told))
 }

@@ -1,11 +1,12 @@
 -- Laws of writing bytes: numbers one after another, and a record as its parts.
-use Prim.Native.Nat.{ℕ, zero, suc, ◌+◌, ◌*◌, ◌≤◌, ◌<◌}
-use mathlib.Core.Path.{◌≡◌, refl, sym, ap, ◌∙◌, subst}
+use Prim.Native.Nat.{ℕ, zero, suc, ◌+◌, ◌-◌, ◌*◌, ◌/◌, ◌≤◌, ◌<◌}
+use mathlib.Core.Path.{◌≡◌, refl, sym, ap, ap₂, ◌∙◌, subst}
 use mathlib.Core.List.{List, [], ◌∷◌, ◌++◌, flat_map, append_assoc, append-nil}
 use native.Mathlib.Omega.{arith}
+use native.Mathlib.Nat.{div-mul-le_self}
 use native.Mathlib.Numerals.{add-one}
-use lib.ListN.{length, take, get_or, set, length-append}
-use lib.Seq.{take-suc}
+use lib.ListN.{length, take, drop, get_or, set, length-append, length-drop, take-append-drop}
+use lib.Seq.{take-suc, take_all}
 use Rattle.point_slices.specs.Holds.{HoldsFrom}
 use Rattle.point_slices.proofs.Laws.{from_start, from_set, from_then}
 use Rattle.rules.specs.Wkb.{little_bytes, bytes_by, record_by}
@@ -51,6 +52,36 @@ module _ (numbers : List ℕ) (o at : ℕ) where
       let e : i * 8 + 8 ≡ k * 8 = omega arith in
       subst (λ (n : ℕ). HoldsFrom l'' l at n (flat_map (bytes_by o 8) (take k numbers))) e
       (subst (HoldsFrom l'' l at (i * 8 + 8)) (flat_next numbers o i b ∙ ap (λ (n : ℕ). flat_map (bytes_by o 8) (take n numbers)) (sym q)) (from_then h (omega arith) s))
+
+  -- two numbers at once, those at x and y
+  pub pair_put : {l'' l' l : List ℕ} {x y : ℕ} (j : ℕ) → Begun l' l numbers o at (j * 2) → at + length numbers * 8 ≤ length l → j < length numbers / 2
+      → HoldsFrom l'' l' (at + j * 2 * 8) 16 (flat_map (bytes_by o 8) (get_or numbers x 0 ∷ get_or numbers y 0 ∷ [])) → x ≡ j * 2 → y ≡ j * 2 + 1 → Begun l'' l numbers o at ((j + 1) * 2)
+  pair_put {l''} {l'} {l} {x} {y} j h room b s e q =
+      let f = bytes_by o 8 in
+      let m = get_or numbers x 0 in
+      let n = get_or numbers y 0 in
+      let within : j * 2 + 1 < length numbers = omega (arith, div-mul-le_self (length numbers) 2) in
+      let first : f m ≡ f (get_or numbers (j * 2) 0) = ap (λ i. f (get_or numbers i 0)) e in
+      let second : f n ≡ f (get_or numbers (j * 2 + 1) 0) = ap (λ i. f (get_or numbers i 0)) q in
+      let whole : flat_map f (take (j * 2) numbers) ++ flat_map f (m ∷ n ∷ []) ≡ flat_map f (take (j * 2 + 1 + 1) numbers) =
+      ap (λ t. flat_map f (take (j * 2) numbers) ++ t) (flat_append f (m ∷ []) (n ∷ []) ∙ ap₂ (λ (u v : List ℕ). u ++ v) (flat_one f m ∙ first) (flat_one f n ∙ second))
+      ∙ sym (append_assoc (flat_map f (take (j * 2) numbers)) (f (get_or numbers (j * 2) 0)) (f (get_or numbers (j * 2 + 1) 0)))
+      ∙ ap (λ t. t ++ f (get_or numbers (j * 2 + 1) 0)) (flat_next numbers o (j * 2) (omega arith)) ∙ flat_next numbers o (j * 2 + 1) within in
+      let many : j * 2 * 8 + 16 ≡ (j * 2 + 1 + 1) * 8 = omega arith in
+      let next : j * 2 + 1 + 1 ≡ (j + 1) * 2 = omega arith in
+      subst (Begun l'' l numbers o at) next
+      (subst (λ (m : ℕ). HoldsFrom l'' l at m (flat_map f (take (j * 2 + 1 + 1) numbers))) many (subst (HoldsFrom l'' l at (j * 2 * 8 + 16)) whole (from_then h (omega arith) s)))
+
+  -- the numbers from i on, behind the first i
+  pub rest_put : {l'' l' l : List ℕ} {k : ℕ} (i : ℕ) (rest : List ℕ) → i ≤ length numbers → rest ≡ take (length numbers - k) (drop k numbers) → k ≡ i → Begun l' l numbers o at i → at + length numbers * 8 ≤ length l
+      → HoldsFrom l'' l' (at + i * 8) (length rest * 8) (flat_map (bytes_by o 8) rest) → HoldsFrom l'' l at (length numbers * 8) (flat_map (bytes_by o 8) numbers)
+  rest_put {l''} {l'} {l} {k} i rest b e q h room s =
+      let f = bytes_by o 8 in
+      let place : rest ≡ drop i numbers = e ∙ ap (λ m. take (length numbers - m) (drop m numbers)) q ∙ take_all (length numbers - i) (drop i numbers) (omega (arith, length-drop i numbers)) in
+      let many : i * 8 + length rest * 8 ≡ length numbers * 8 = omega (arith, ap length place, length-drop i numbers) in
+      let whole : flat_map f (take i numbers) ++ flat_map f rest ≡ flat_map f numbers =
+      sym (flat_append f (take i numbers) rest) ∙ ap (λ t. flat_map f (take i numbers ++ t)) place ∙ ap (flat_map f) (take-append-drop i numbers) in
+      subst (λ (m : ℕ). HoldsFrom l'' l at m (flat_map f numbers)) many (subst (HoldsFrom l'' l at (i * 8 + length rest * 8)) whole (from_then h (omega arith) s))
 
 -- ---- a record as its parts
 

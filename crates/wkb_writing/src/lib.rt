@@ -49,8 +49,8 @@ fn put<const N: usize>(run: &mut [u8], at: usize, bytes: [u8; N])
     run[at..at + N].copy_from_slice(&bytes);
 }
 
-// The bytes of all numbers from `at` on.
-fn put_numbers(run: &mut [u8], at: usize, order: Order, numbers: &[u64])
+// The bytes of all numbers from `at` on, one number after another.
+fn put_each(run: &mut [u8], at: usize, order: Order, numbers: &[u64])
     requires { at + length numbers.now * 8 ≤ length run.old }
     ensures { HoldsFrom run.new run.old at (length numbers.now * 8)
         (flat_map (bytes_by (byte_of order) 8) numbers.now) }
@@ -60,8 +60,26 @@ fn put_numbers(run: &mut [u8], at: usize, order: Order, numbers: &[u64])
     }
 }
 
-// One record from `at` on. Returns where it ends.
-fn put_record(
+// The bytes of all numbers from `at` on, two numbers a turn: both are read before the first is written, so that they can be moved at once.
+fn put_numbers(run: &mut [u8], at: usize, order: Order, numbers: &[u64])
+    requires { at + length numbers.now * 8 ≤ length run.old }
+    ensures { HoldsFrom run.new run.old at (length numbers.now * 8)
+        (flat_map (bytes_by (byte_of order) 8) numbers.now) }
+{
+    let pairs = numbers.len() / 2;
+    for j in 0..pairs {
+        put_each(
+            run,
+            at + j * 2 * EIGHT,
+            order,
+            &[numbers[j * 2], numbers[j * 2 + 1]],
+        );
+    }
+    put_each(run, at + pairs * 2 * EIGHT, order, &numbers[pairs * 2..]);
+}
+
+// One record from `at` on, by its order. Returns where it ends.
+fn put_ordered(
     run: &mut [u8],
     at: usize,
     order: Order,
@@ -77,6 +95,24 @@ fn put_record(
     put(run, at + 5, four_of(order, count));
     put_numbers(run, at + HEADER, order, numbers);
     at + (HEADER + numbers.len() * EIGHT)
+}
+
+// One record from `at` on. Returns where it ends. The orders are told apart here, once a record, and not at each of its numbers.
+fn put_record(
+    run: &mut [u8],
+    at: usize,
+    order: Order,
+    wkb_type: u32,
+    count: u32,
+    numbers: &[u64],
+) -> usize
+    requires { at + (9 + length numbers.now * 8) ≤ length run.old }
+    ensures { RecordPut run.new run.old at result (record_by (byte_of order) wkb_type count numbers.now) }
+{
+    match order {
+        Order::Big => put_ordered(run, at, Order::Big, wkb_type, count, numbers),
+        Order::Little => put_ordered(run, at, Order::Little, wkb_type, count, numbers),
+    }
 }
 
 // Whether one of the first k records is no chain.

@@ -40,10 +40,10 @@ below : (k : ℕ) → k ≤ 18446744073709551615 → 18446744073709551615 - k + 
 below k h = omega arith
 
 pub overflow_sub-result : goal.overflow_sub-result
-overflow_sub-result c = omega (arith, above c.in-Err.refusal, c.from.ensures)
+overflow_sub-result c = omega (arith, above c.in-Err.refusal, c.refusal_number.ensures)
 
 pub overflow_add-result : goal.overflow_add-result
-overflow_add-result c = omega (arith, above c.in-Err.refusal, c.from.ensures)
+overflow_add-result c = omega (arith, above c.in-Err.refusal, c.refusal_number.ensures)
 
 pub returns-in-Ok : goal.returns-in-Ok
 unfolding number_of
@@ -51,4 +51,4 @@ returns-in-Ok c = sym (ap (λ a. number_of (answered a)) c.in-Ok.is)
 
 pub returns-in-Err : goal.returns-in-Err
 unfolding number_of
-returns-in-Err c = below c.from.result (omega (arith, above c.in-Err.refusal, c.from.ensures)) ∙ ap (λ (k : ℕ). 2 ^ 64 - k) c.from.ensures ∙ sym (ap (λ a. number_of (answered a)) c.in-Err.is)
+returns-in-Err c = below c.refusal_number.result (omega (arith, above c.in-Err.refusal, c.refusal_number.ensures)) ∙ ap (λ (k : ℕ). 2 ^ 64 - k) c.refusal_number.ensures ∙ sym (ap (λ a. number_of (answered a)) c.in-Err.is)

@@ -53,4 +53,4 @@ reason-told-requires c = asks (called (goal.at.reason-told-requires c).After-pai
 
 pub returns : goal.returns
 returns c =
-    answered_by (called (goal.at.returns c).After-pairs) (ap answered c.in_ok-n.was) c.reason-told.result c.from.result c.reason-told.ensures c.from.ensures
+    answered_by (called (goal.at.returns c).After-pairs) (ap answered c.in_ok-n.was) c.reason-told.result c.number.result c.reason-told.ensures c.number.ensures

@@ -1,9 +1,10 @@
+-- Each refusal has the number that the book gives it.
 use Rattle.std.proofs.Common.{◌≡◌, refl, ◌+◌}
 use denote.Enum.Declared.{tag_of}
 use Rattle.rules.specs.contracts.Refusal.{the_type}
 use Rattle.rules.specs.declared.Refusal.{Refusal}
 use Rattle.rules.specs.declared.Refusal.TheVariants.{TooMany, TablesDiffer, MarkAboveOne, CountsDoNotAddUp, TooManyCoordinates, BadLimit, RoomTooShort, PieceTooOften, NotFinite, NoSuchChain, BadByteOrder, BadType, BadLength, RecordRoomTooShort, NoPlace, UnknownOrder, BadOrigin, BadWindow, BadPieces, DistrictOverLines, DistrictOverCoordinates, BadOffset, BadRecord, NotAcceptable, MixedTypes, NoTwoEnds}
-use Rattle.rules.proofs.U64FromRefusal.from.Goals as goal
+use Rattle.door.proofs.refusal_number.Goals as goal
 use Rattle.rules.specs.Answers.{refusal_number}
 
 told : (r : Refusal) → tag_of the_type r + 1 ≡ refusal_number r

@@ -9,7 +9,7 @@ use Rattle.rules.specs.Wkb.{bytes_by}
 use Rattle.wkb_records.specs.Orders.{byte_of}
 use Rattle.wkb_records.proofs.Bytes.{tag_is}
 use Rattle.wkb_writing.proofs.Laws.{record_put, put_whole}
-use Rattle.wkb_writing.proofs.put_record.Goals as goal
+use Rattle.wkb_writing.proofs.put_ordered.Goals as goal
 
 pub returns : goal.returns
 returns c =

@@ -2,7 +2,7 @@
 use borrow.Author.Rules.{rules}
 use mathlib.Core.Path.{sym, ap}
 use Rattle.rules.specs.Reasons.{reason_number}
-use Rattle.rules.proofs.U64FromReason.from.Goals as goal
+use Rattle.pair_why.proofs.number.Goals as goal
 
 pub returns-in-Selected : goal.returns-in-Selected
 unfolding reason_number
